@@ -1,0 +1,26 @@
+-- A field in which 2 is not 0: a commutative ring, inverses, and a test for 0.
+use mathlib.Core.Path.{_≡_, refl, sym, ap, ap₂, _∙_}
+use mathlib.Core.List.{List, [], _∷_}
+use Rattle.ring.specs.Ring.{CRing, mul-zer, zer-mul}
+use Rattle.ring.specs.Identity.{ring, ring-from, times, plus, quote}
+
+pub record Field (A : Type 0) : Type 0 where
+  pub scalars : CRing A
+  pub inv : A → A
+  pub inv-mul : (a : A) → (a ≡ scalars .zer → ⊥) → scalars .mul (inv a) a ≡ scalars .one
+  pub zero? : (a : A) → Dec (a ≡ scalars .zer)
+  pub one-not-zero : scalars .one ≡ scalars .zer → ⊥
+  pub two-not-zero : scalars .add (scalars .one) (scalars .one) ≡ scalars .zer → ⊥
+
+module _ {A : Type 0} (K : Field A) where
+  open CRing (K .scalars) using (add as _+_, mul as _*_, neg as -_, zer as 𝟘, one as 𝟙)
+
+  infixl 6 _+_
+  infixl 7 _*_
+  infix 8 -_
+  -- no divisors of 0
+  pub no-zero-divisor : (a b : A) → (b ≡ 𝟘 → ⊥) → a * b ≡ 𝟘 → a ≡ 𝟘
+  no-zero-divisor a b h e = ring-from (K .scalars) (a ∷ b ∷ K .inv b ∷ []) (plus (K .scalars) (times (K .scalars) (K .inv b) e) (times (K .scalars) (- a) (K .inv-mul b h))) (search quote depth 40 fits 9999) tt
+
+  pub some-mul : (a b : A) → (a ≡ 𝟘 → ⊥) → (b ≡ 𝟘 → ⊥) → a * b ≡ 𝟘 → ⊥
+  some-mul a b h k e = h (no-zero-divisor a b k e)

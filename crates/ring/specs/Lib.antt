@@ -1,0 +1,9 @@
+pub mod Degree
+pub mod Division
+pub mod Identity
+pub mod Order
+pub mod Residues
+pub mod Ring
+pub mod Series
+pub mod Solver
+pub mod Sums
