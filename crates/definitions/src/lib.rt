@@ -1,0 +1,1 @@
+// Document 01 as executable definitions: everything stands in specs/.
