@@ -1,3 +1,14 @@
 pub mod Field
 pub mod Polynomials
 pub mod Primes
+pub mod Words
+pub mod Ticket
+pub mod Walk
+pub mod Answers
+pub mod Units
+pub mod Listing
+pub mod Lookup
+pub mod Products
+pub mod Text
+pub mod Program
+pub mod Marked

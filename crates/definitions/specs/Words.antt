@@ -1,0 +1,42 @@
+-- Words of 32 bits, and tests on lists of numbers.
+use Prim.Native.Nat.{ℕ, _+_, _*_, _/_, _%_}
+use mathlib.Core.Bool.{Bool, true, false, _&&_, _||_}
+use mathlib.Core.List.{List, [], _∷_}
+use lib.Dec.{eqb, leb}
+
+-- 2^28, the number of values of a word
+abbrev pub values : ℕ
+values = 268435456
+
+-- "The top 4 bits of a word are its kind, the low 28 its value. All are unsigned."
+unfoldable pub kind : ℕ → ℕ
+kind w = w / values
+
+unfoldable pub value : ℕ → ℕ
+value w = w % values
+
+-- the word of kind k with the value v
+unfoldable pub word : ℕ → ℕ → ℕ
+word k v = k * values + v
+
+-- a number of two words, "high then low 28 bits"
+unfoldable pub high : ℕ → ℕ
+high x = x / values
+
+unfoldable pub low : ℕ → ℕ
+low x = x % values
+
+unfoldable pub joined : ℕ → ℕ → ℕ
+joined h l = h * values + l
+
+-- two lists are the same
+unfoldable pub same : List ℕ → List ℕ → Bool
+same [] [] = true
+same [] (y ∷ ys) = false
+same (x ∷ xs) [] = false
+same (x ∷ xs) (y ∷ ys) = elim (eqb x y) [ true ↦ same xs ys | false ↦ false ]
+
+-- some number of the list is at least q
+unfoldable pub someFrom : ℕ → List ℕ → Bool
+someFrom q [] = false
+someFrom q (x ∷ xs) = elim (leb q x) [ true ↦ true | false ↦ someFrom q xs ]
