@@ -1,3 +1,4 @@
+pub mod Associate
 pub mod Coprime
 pub mod Divides
 pub mod Division
