@@ -1,8 +1,11 @@
 pub mod Associate
+pub mod Binomial
 pub mod Coprime
+pub mod Derivative
 pub mod Divides
 pub mod Division
 pub mod Field
 pub mod Gcd
+pub mod Multiple
 pub mod Polynomial
 pub mod Root

@@ -1,0 +1,47 @@
+-- Multiples of 1 and powers in a commutative ring. The laws go by induction on the number.
+use Prim.Native.Nat.{ℕ, zero, suc, _+_ as _+ₙ_, _*_ as _*ₙ_, _≤_, _<_}
+use native.Mathlib.Nat.{zero-add as zero-addₙ, suc-add as suc-addₙ, zero-mul as zero-mulₙ, suc-mul as suc-mulₙ}
+use native.Mathlib.Omega.{arith}
+use mathlib.Core.Path.{_≡_, refl, sym, ap, ap₂, _∙_}
+use mathlib.Core.List.{List, [], _∷_}
+use Rattle.ring.specs.Ring.{CRing, zer-add, one-mul, zer-mul}
+use Rattle.ring.specs.Identity.{ring, ring-from, times, plus, quote}
+
+module _ {A : Type 0} (R : CRing A) where
+  open CRing R using (add as _+_, mul as _*_, zer as 𝟘, one as 𝟙, mul-one)
+
+  infixl 6 _+_
+  infixl 7 _*_
+  -- 1 + .. + 1, n times
+  unfoldable pub natural : ℕ → A
+  natural zero = 𝟘
+  natural (suc n) = natural n + 𝟙
+
+  pub natural-add : (m n : ℕ) → natural (m +ₙ n) ≡ natural m + natural n
+  unfolding natural
+  natural-add zero n = ap natural (zero-addₙ n) ∙ sym (zer-add R (natural n))
+  natural-add (suc m) n = ap natural (suc-addₙ m n) ∙ ap (λ t. t + 𝟙) (natural-add m n) ∙ ring R (natural m ∷ natural n ∷ []) (search quote depth 40 fits 9999) tt
+
+  -- a multiple of a number that is 0 in the ring does not count
+  pub natural-drop : (p : ℕ) → natural p ≡ 𝟘 → (i r : ℕ) → natural (i *ₙ p +ₙ r) ≡ natural r
+  natural-drop p e zero r = ap (λ t. natural (t +ₙ r)) (zero-mulₙ p) ∙ ap natural (zero-addₙ r)
+  natural-drop p e (suc i) r = ap (λ t. natural (t +ₙ r)) (suc-mulₙ i p) ∙ natural-add (i *ₙ p +ₙ p) r ∙ ap (λ t. t + natural r) (natural-drop p e i p ∙ e) ∙ zer-add R (natural r)
+
+  unfoldable pub power : A → ℕ → A
+  power x zero = 𝟙
+  power x (suc n) = x * power x n
+
+  pub power-one : (n : ℕ) → power 𝟙 n ≡ 𝟙
+  unfolding power
+  power-one zero = refl
+  power-one (suc n) = one-mul R (power 𝟙 n) ∙ power-one n
+
+  pub power-zero : (n : ℕ) → 0 < n → power 𝟘 n ≡ 𝟘
+  unfolding power
+  power-zero zero h = absurd (omega arith)
+  power-zero (suc n) h = zer-mul R (power 𝟘 n)
+
+  pub power-mul : (x y : A) (n : ℕ) → power (x * y) n ≡ power x n * power y n
+  unfolding power
+  power-mul x y zero = sym (mul-one 𝟙)
+  power-mul x y (suc n) = ap (λ t. (x * y) * t) (power-mul x y n) ∙ ring R (x ∷ y ∷ power x n ∷ power y n ∷ []) (search quote depth 40 fits 9999) tt
