@@ -22,10 +22,13 @@ module _ {A : Type 0} (R : CRing A) where
   natural-add zero n = ap natural (zero-addₙ n) ∙ sym (zer-add R (natural n))
   natural-add (suc m) n = ap natural (suc-addₙ m n) ∙ ap (λ t. t + 𝟙) (natural-add m n) ∙ ring R (natural m ∷ natural n ∷ []) (search quote depth 40 fits 9999) tt
 
-  -- a multiple of a number that is 0 in the ring does not count
-  pub natural-drop : (p : ℕ) → natural p ≡ 𝟘 → (i r : ℕ) → natural (i *ₙ p +ₙ r) ≡ natural r
-  natural-drop p e zero r = ap (λ t. natural (t +ₙ r)) (zero-mulₙ p) ∙ ap natural (zero-addₙ r)
-  natural-drop p e (suc i) r = ap (λ t. natural (t +ₙ r)) (suc-mulₙ i p) ∙ natural-add (i *ₙ p +ₙ p) r ∙ ap (λ t. t + natural r) (natural-drop p e i p ∙ e) ∙ zer-add R (natural r)
+  -- where p x = 0, multiples of p do not count before x
+  pub natural-drop : (p : ℕ) (x : A) → natural p * x ≡ 𝟘 → (i r : ℕ) → natural (i *ₙ p +ₙ r) * x ≡ natural r * x
+  natural-drop p x e zero r = ap (λ t. natural (t +ₙ r) * x) (zero-mulₙ p) ∙ ap (λ t. natural t * x) (zero-addₙ r)
+  natural-drop p x e (suc i) r = ap (λ t. natural (t +ₙ r) * x) (suc-mulₙ i p) ∙ ap (λ t. t * x) (natural-add (i *ₙ p +ₙ p) r) ∙ step (natural-drop p x e i p)
+    where
+      step : natural (i *ₙ p +ₙ p) * x ≡ natural p * x → (natural (i *ₙ p +ₙ p) + natural r) * x ≡ natural r * x
+      step h = ring-from R (natural (i *ₙ p +ₙ p) ∷ natural p ∷ natural r ∷ x ∷ []) (plus R (times R 𝟙 h) (times R 𝟙 e)) (search quote depth 40 fits 9999) tt
 
   unfoldable pub power : A → ℕ → A
   power x zero = 𝟙

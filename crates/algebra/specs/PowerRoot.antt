@@ -98,7 +98,7 @@ module _ {A : Type 0} (K : Field A) (P : Perfect K) where
     at : (i r : ℕ) → r < p → G (i *ₙ p +ₙ r) ≡ con (F K) (G (i *ₙ p)) r
     unfolding con
     at i zero h = ap G (add-zeroₙ (i *ₙ p))
-    at i (suc r) h = char-F .cancels (suc r) (omega arith) h (G (i *ₙ p +ₙ suc r)) (ap (λ t. F K .mul t (G (i *ₙ p +ₙ suc r))) (sym (natural-drop (F K) p (P .char-zero) i (suc r))) ∙ derivative-none (F K) G flat (i *ₙ p +ₙ suc r))
+    at i (suc r) h = char-F .cancels (suc r) (omega arith) h (G (i *ₙ p +ₙ suc r)) (sym (natural-drop (F K) p (G (i *ₙ p +ₙ suc r)) (ap (λ t. F K .mul t (G (i *ₙ p +ₙ suc r))) (P .char-zero) ∙ zer-mul (F K) (G (i *ₙ p +ₙ suc r))) i (suc r)) ∙ derivative-none (F K) G flat (i *ₙ p +ₙ suc r))
 
     abbrev roots : Px K
     roots = λ i. P .root (G (i *ₙ p))
