@@ -2,9 +2,9 @@
 -- A sum of a^j b^(n - j) over j is the coefficient at n of a product of two series, so no sum is defined here.
 use Prim.Native.Nat.{ℕ, zero, suc, _≤_, _<_}
 use native.Mathlib.Omega.{arith}
-use mathlib.Core.Path.{_≡_, refl, sym, ap, ap₂, _∙_, fun-ext}
-use mathlib.Core.List.{List, [], _∷_}
-use Rattle.ring.specs.Ring.{CRing, zer-add, one-mul, mul-zer, zer-mul}
+use mathlib.Core.Path.{_≡_, refl, ap, ap₂, _∙_, fun-ext}
+use mathlib.Core.List.{[], _∷_}
+use Rattle.ring.specs.Ring.{CRing}
 use Rattle.ring.specs.Identity.{ring, ring-from, times, plus, quote}
 use Rattle.ring.specs.Series.{S, addS, conv, tail, conv-r, conv-addˡ, conv-scaleˡ, conv-comm}
 use Rattle.algebra.specs.Multiple.{natural, power}

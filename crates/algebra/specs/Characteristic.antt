@@ -2,8 +2,8 @@
 -- `Perfect`: a field of characteristic p with p-th roots, which only the test for square factors needs.
 use Prim.Native.Nat.{ℕ, zero, suc, _≤_, _<_}
 use native.Mathlib.Omega.{arith}
-use mathlib.Core.Path.{_≡_, refl, sym, ap, ap₂, _∙_, fun-ext}
-use Rattle.ring.specs.Ring.{CRing, zer-add}
+use mathlib.Core.Path.{_≡_, refl, sym, ap, _∙_, fun-ext}
+use Rattle.ring.specs.Ring.{CRing}
 use Rattle.ring.specs.Series.{S, Series, addS, conv, zerS, con, conv-con}
 use Rattle.algebra.specs.Field.{Field, no-zero-divisor}
 use Rattle.algebra.specs.Multiple.{natural, power}

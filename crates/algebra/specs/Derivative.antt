@@ -1,10 +1,10 @@
 -- The derivative of a series, coefficient by coefficient. The product rule rests on the operator f ↦ x f′, which multiplies the coefficient at i by i.
-use Prim.Native.Nat.{ℕ, zero, suc, _≤_, _<_, suc-le-suc}
-use mathlib.Core.Path.{_≡_, refl, sym, ap, ap₂, _∙_, fun-ext}
-use mathlib.Core.List.{List, [], _∷_}
-use Rattle.ring.specs.Ring.{CRing, zer-add, mul-zer, zer-mul}
+use Prim.Native.Nat.{ℕ, zero, suc, suc-le-suc}
+use mathlib.Core.Path.{_≡_, refl, ap, ap₂, _∙_, fun-ext}
+use mathlib.Core.List.{[], _∷_}
+use Rattle.ring.specs.Ring.{CRing, mul-zer, zer-mul}
 use Rattle.ring.specs.Identity.{ring, ring-from, times, plus, quote}
-use Rattle.ring.specs.Series.{S, Series, addS, conv, zerS, con, tail, conv-r, conv-addˡ}
+use Rattle.ring.specs.Series.{S, addS, conv, zerS, con, tail, conv-r, conv-addˡ}
 use Rattle.ring.specs.Degree.{Below}
 use Rattle.algebra.specs.Multiple.{natural}
 

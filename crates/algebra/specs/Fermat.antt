@@ -3,7 +3,6 @@ use Prim.Native.Nat.{ℕ, zero, suc, _%_, _<_}
 use native.Mathlib.Nat.{mod-self, mod-eq-of-lt, mod-add-mod, add-mod-mod}
 use native.Mathlib.Numerals.{add-one}
 use mathlib.Core.Path.{_≡_, refl, sym, ap, _∙_, subst}
-use Rattle.ring.specs.Ring.{CRing}
 use Rattle.ring.specs.Residues.{Fq, FqRing, to, addF, val-path}
 use Rattle.algebra.specs.Field.{Field}
 use Rattle.algebra.specs.Multiple.{natural, power}

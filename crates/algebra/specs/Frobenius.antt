@@ -1,11 +1,11 @@
 -- In characteristic p the p-th power is additive (F1): by the absorption law p divides the middle coefficients of the binomial theorem.
 -- Hence Fermat's theorem, the p-th power of a multiple of 1 is itself.
-use Prim.Native.Nat.{ℕ, zero, suc, _≤_, _<_}
+use Prim.Native.Nat.{ℕ, zero, suc, _<_}
 use native.Mathlib.Omega.{arith}
-use mathlib.Core.Path.{_≡_, refl, sym, ap, ap₂, _∙_}
-use mathlib.Core.List.{List, [], _∷_}
-use Rattle.ring.specs.Ring.{CRing, zer-add, one-mul, mul-zer, zer-mul}
-use Rattle.ring.specs.Identity.{ring, ring-from, times, plus, quote}
+use mathlib.Core.Path.{_≡_, refl, ap, ap₂, _∙_}
+use mathlib.Core.List.{[], _∷_}
+use Rattle.ring.specs.Ring.{CRing, zer-mul}
+use Rattle.ring.specs.Identity.{ring, quote}
 use Rattle.ring.specs.Series.{S, conv, tail}
 use Rattle.algebra.specs.Multiple.{natural, power, power-one, power-zero}
 use Rattle.algebra.specs.Binomial.{choose, choose-self, choose-absorb, terms, powers, binomial}

@@ -14,3 +14,4 @@ pub mod Polynomial
 pub mod PowerRoot
 pub mod Prime
 pub mod Root
+pub mod Squarefree

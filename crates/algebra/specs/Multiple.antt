@@ -1,14 +1,14 @@
 -- Multiples of 1 and powers in a commutative ring. The laws go by induction on the number.
-use Prim.Native.Nat.{ℕ, zero, suc, _+_ as _+ₙ_, _*_ as _*ₙ_, _≤_, _<_}
+use Prim.Native.Nat.{ℕ, zero, suc, _+_ as _+ₙ_, _*_ as _*ₙ_, _<_}
 use native.Mathlib.Nat.{zero-add as zero-addₙ, suc-add as suc-addₙ, zero-mul as zero-mulₙ, suc-mul as suc-mulₙ}
 use native.Mathlib.Omega.{arith}
-use mathlib.Core.Path.{_≡_, refl, sym, ap, ap₂, _∙_}
-use mathlib.Core.List.{List, [], _∷_}
+use mathlib.Core.Path.{_≡_, refl, sym, ap, _∙_}
+use mathlib.Core.List.{[], _∷_}
 use Rattle.ring.specs.Ring.{CRing, zer-add, one-mul, zer-mul}
 use Rattle.ring.specs.Identity.{ring, ring-from, times, plus, quote}
 
 module _ {A : Type 0} (R : CRing A) where
-  open CRing R using (add as _+_, mul as _*_, zer as 𝟘, one as 𝟙, mul-one)
+  open CRing R using (add as _+_, mul as _*_, zer as 𝟘, one as 𝟙)
 
   infixl 6 _+_
   infixl 7 _*_
@@ -43,8 +43,3 @@ module _ {A : Type 0} (R : CRing A) where
   unfolding power
   power-zero zero h = absurd (omega arith)
   power-zero (suc n) h = zer-mul R (power 𝟘 n)
-
-  pub power-mul : (x y : A) (n : ℕ) → power (x * y) n ≡ power x n * power y n
-  unfolding power
-  power-mul x y zero = sym (mul-one 𝟙)
-  power-mul x y (suc n) = ap (λ t. (x * y) * t) (power-mul x y n) ∙ ring R (x ∷ y ∷ power x n ∷ power y n ∷ []) (search quote depth 40 fits 9999) tt

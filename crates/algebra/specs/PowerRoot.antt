@@ -1,40 +1,31 @@
 -- F2: over a perfect field of characteristic p a polynomial whose derivative is 0 is the p-th power of a polynomial.
 -- The coefficients of f^p are known one by one: the p-th power of that of f at i stands at i p, and the others are 0.
-use Prim.Native.Nat.{ℕ, zero, suc, _+_ as _+ₙ_, _*_ as _*ₙ_, _/_, _%_, _≤_, _<_}
+use Prim.Native.Nat.{ℕ, zero, suc, _+_ as _+ₙ_, _*_ as _*ₙ_, _/_, _%_, _<_}
 use native.Mathlib.Nat.{suc-mul, zero-mul, zero-add as zero-addₙ, add-zero as add-zeroₙ, mod-lt, div-add-mod', mul-lt-mul-of-pos-right}
 use native.Mathlib.Omega.{arith}
 use mathlib.Core.Path.{_≡_, refl, sym, ap, ap₂, _∙_, fun-ext, subst}
-use Rattle.ring.specs.Ring.{CRing, zer-add, mul-zer, zer-mul}
-use Rattle.ring.specs.Series.{S, Series, addS, conv, zerS, con, tail, conv-con}
-use Rattle.ring.specs.Division.{up, shift, shift-at, up-conv, shift-conv}
+use Rattle.ring.specs.Ring.{CRing, zer-add, zer-mul}
+use Rattle.ring.specs.Series.{S, Series, addS, conv, zerS, con, tail}
+use Rattle.ring.specs.Division.{up, shift, shift-at, up-conv, shift-conv, below-con}
 use Rattle.algebra.specs.Field.{Field, no-zero-divisor}
-use Rattle.algebra.specs.Polynomial.{F, Px, _≺_, Deg}
-use Rattle.algebra.specs.Multiple.{natural, natural-drop, power, power-zero}
+use Rattle.algebra.specs.Polynomial.{F, Px, _≺_, Deg, con-mul}
+use Rattle.algebra.specs.Multiple.{natural-drop, power, power-zero}
 use Rattle.algebra.specs.Derivative.{derivative, derivative-none}
 use Rattle.algebra.specs.Characteristic.{Characteristic, Perfect, perfect-characteristic, series-characteristic}
 use Rattle.algebra.specs.Frobenius.{frobenius}
 
 -- ---- powers of the two parts of f = f 0 + x (tail f)
-module _ {A : Type 0} (R : CRing A) where
+module _ {A : Type 0} (K : Field A) where
+  abbrev R : CRing A
+  R = K .scalars
+
   abbrev pow : S R → ℕ → S R
   pow = power (Series R)
-
-  con-past : (c : A) (i : ℕ) → 0 < i → con R c i ≡ R .zer
-  unfolding con
-  con-past c zero h = absurd (omega arith)
-  con-past c (suc i) h = refl
-
-  con-mul : (c d : A) → conv R (con R c) (con R d) ≡ con R (R .mul c d)
-  con-mul c d = fun-ext (λ i. conv-con R c (con R d) i ∙ at i)
-    where
-      at : (i : ℕ) → R .mul c (con R d i) ≡ con R (R .mul c d) i
-      at zero = unfold con in refl
-      at (suc i) = unfold con in mul-zer R c
 
   power-con : (c : A) (n : ℕ) → pow (con R c) n ≡ con R (power R c n)
   unfolding power
   power-con c zero = refl
-  power-con c (suc n) = ap (conv R (con R c)) (power-con c n) ∙ con-mul c (power R c n)
+  power-con c (suc n) = ap (conv R (con R c)) (power-con c n) ∙ con-mul K c (power R c n)
 
   power-up : (f : S R) (n : ℕ) → pow (up R f) n ≡ shift R n (pow f n)
   unfolding power shift
@@ -65,11 +56,12 @@ module _ {A : Type 0} (R : CRing A) where
       where
         start : 0 *ₙ p +ₙ r ≡ r
         start = ap (λ t. t +ₙ r) (zero-mul p) ∙ zero-addₙ r
-    power-at f (suc i) r h = ap (pow f p) next ∙ ap (λ (u : S R). u (p +ₙ (i *ₙ p +ₙ r))) (power-parts f) ∙ ap₂ (R .add) (con-past (power R (f 0) p) (p +ₙ (i *ₙ p +ₙ r)) (omega (arith, c .positive))) (shift-at R p (pow (tail R f) p) (i *ₙ p +ₙ r) ∙ power-at (tail R f) i r h) ∙ zer-add R (con R (power R (f (suc i)) p) r)
+    power-at f (suc i) r h = ap (pow f p) next ∙ ap (λ (u : S R). u (p +ₙ (i *ₙ p +ₙ r))) (power-parts f) ∙ ap₂ (R .add) (below-con R (power R (f 0) p) (p +ₙ (i *ₙ p +ₙ r)) (omega (arith, c .positive))) (shift-at R p (pow (tail R f) p) (i *ₙ p +ₙ r) ∙ power-at (tail R f) i r h) ∙ zer-add R (con R (power R (f (suc i)) p) r)
       where
         next : suc i *ₙ p +ₙ r ≡ p +ₙ (i *ₙ p +ₙ r)
         next = omega (arith, suc-mul i p)
 
+-- ---- the p-th root
 module _ {A : Type 0} (K : Field A) (P : Perfect K) where
   abbrev p : ℕ
   p = P .char
@@ -93,12 +85,12 @@ module _ {A : Type 0} (K : Field A) (P : Perfect K) where
     pub degree : n ≡ size *ₙ P .char
     pub is : G ≡ power (Series (F K)) base (P .char)
 
-  module _ (G : Px K) (flat : derivative (F K) G ≡ zerS (F K)) where
+  module _ (G : Px K) (no-derivative : derivative (F K) G ≡ zerS (F K)) where
     -- only the exponents that p divides have a coefficient
-    at : (i r : ℕ) → r < p → G (i *ₙ p +ₙ r) ≡ con (F K) (G (i *ₙ p)) r
+    coefficient : (i r : ℕ) → r < p → G (i *ₙ p +ₙ r) ≡ con (F K) (G (i *ₙ p)) r
     unfolding con
-    at i zero h = ap G (add-zeroₙ (i *ₙ p))
-    at i (suc r) h = char-F .cancels (suc r) (omega arith) h (G (i *ₙ p +ₙ suc r)) (sym (natural-drop (F K) p (G (i *ₙ p +ₙ suc r)) (ap (λ t. F K .mul t (G (i *ₙ p +ₙ suc r))) (P .char-zero) ∙ zer-mul (F K) (G (i *ₙ p +ₙ suc r))) i (suc r)) ∙ derivative-none (F K) G flat (i *ₙ p +ₙ suc r))
+    coefficient i zero h = ap G (add-zeroₙ (i *ₙ p))
+    coefficient i (suc r) h = char-F .cancels (suc r) (omega arith) h (G (i *ₙ p +ₙ suc r)) (sym (natural-drop (F K) p (G (i *ₙ p +ₙ suc r)) (ap (λ t. F K .mul t (G (i *ₙ p +ₙ suc r))) (P .char-zero) ∙ zer-mul (F K) (G (i *ₙ p +ₙ suc r))) i (suc r)) ∙ derivative-none (F K) G no-derivative (i *ₙ p +ₙ suc r))
 
     abbrev roots : Px K
     roots = λ i. P .root (G (i *ₙ p))
@@ -107,9 +99,9 @@ module _ {A : Type 0} (K : Field A) (P : Perfect K) where
     roots-power = fun-ext (λ k. subst (λ j. G j ≡ power (Series (F K)) roots p j) (div-add-mod' k p) (same (k / p) (k % p) (mod-lt k (char-F .positive))))
       where
         same : (i r : ℕ) → r < p → G (i *ₙ p +ₙ r) ≡ power (Series (F K)) roots p (i *ₙ p +ₙ r)
-        same i r h = at i r h ∙ ap (λ c. con (F K) c r) (sym (P .root-power (G (i *ₙ p)))) ∙ sym (power-at (F K) p char-F roots i r h)
+        same i r h = coefficient i r h ∙ ap (λ c. con (F K) c r) (sym (P .root-power (G (i *ₙ p)))) ∙ sym (power-at K p char-F roots i r h)
 
-    -- F2
+    -- F2: G is the p-th power of a polynomial, and its degree is p times that one's
     pub power-root : (n : ℕ) → Deg K G n → PowerRoot G n
     power-root n d = go (n % p) refl
       where
@@ -123,7 +115,7 @@ module _ {A : Type 0} (K : Field A) (P : Perfect K) where
         small = mod-lt n (char-F .positive)
 
         go : (r : ℕ) → n % p ≡ r → PowerRoot G n
-        go (suc r) e = absurd (d .top (ap G (sym split) ∙ at m (n % p) small ∙ con-past (F K) (G (m *ₙ p)) (n % p) (omega arith)))
+        go (suc r) e = absurd (d .top (ap G (sym split) ∙ coefficient m (n % p) small ∙ below-con (F K) (G (m *ₙ p)) (n % p) (omega arith)))
         go zero e = record { base = roots; size = m; deg = record { low = low; top = top }; degree = is; is = roots-power }
           where
             is : n ≡ m *ₙ p
