@@ -18,9 +18,20 @@ module _ {A : Type 0} (K : Field A) where
   infixl 6 _+_
   infixl 7 _*_
   infix 8 -_
-  -- no divisors of 0
+  -- there are no divisors of 0
   pub no-zero-divisor : (a b : A) → (b ≡ 𝟘 → ⊥) → a * b ≡ 𝟘 → a ≡ 𝟘
   no-zero-divisor a b h e = ring-from (K .scalars) (a ∷ b ∷ K .inv b ∷ []) (plus (K .scalars) (times (K .scalars) (K .inv b) e) (times (K .scalars) (- a) (K .inv-mul b h))) (search quote depth 40 fits 9999) tt
 
   pub some-mul : (a b : A) → (a ≡ 𝟘 → ⊥) → (b ≡ 𝟘 → ⊥) → a * b ≡ 𝟘 → ⊥
   some-mul a b h k e = h (no-zero-divisor a b k e)
+
+  pub some-inv : (a : A) → (a ≡ 𝟘 → ⊥) → K .inv a ≡ 𝟘 → ⊥
+  some-inv a h e = K .one-not-zero (sym (K .inv-mul a h) ∙ ap (λ b. b * a) e ∙ zer-mul (K .scalars) a)
+
+  -- half of a
+  unfoldable pub half : A → A
+  half a = K .inv (𝟙 + 𝟙) * a
+
+  pub half-twice : (a : A) → half a + half a ≡ a
+  unfolding half
+  half-twice a = ring-from (K .scalars) (a ∷ K .inv (𝟙 + 𝟙) ∷ []) (times (K .scalars) a (K .inv-mul (𝟙 + 𝟙) (K .two-not-zero))) (search quote depth 40 fits 9999) tt

@@ -1,3 +1,17 @@
+pub mod Associate
+pub mod Binomial
+pub mod Characteristic
+pub mod Coprime
+pub mod Derivative
+pub mod Divides
+pub mod Division
+pub mod Fermat
 pub mod Field
+pub mod Frobenius
+pub mod Gcd
+pub mod Multiple
 pub mod Polynomial
+pub mod PowerRoot
+pub mod Prime
 pub mod Root
+pub mod Squarefree

@@ -1,4 +1,5 @@
--- Polynomials over a field, as series that are 0 from some place on. `f ≺ n`: of degree under n.
+-- Polynomials over a field, as series that are 0 from some place on: `f ≺ n`, of degree under n; `Deg f n`, of degree n; `Monic f n`, with 1 for its leading coefficient.
+-- Sums, products, dominance (Z2 to Z4) and the bound of a quotient (Z5), which rests on leading coefficients having inverses.
 use Prim.Native.Nat.{ℕ, zero, suc, _+_ as _+ₙ_, _-_ as _-ₙ_, _≤_, _<_, zero-le, suc-le-suc}
 use native.Mathlib.Nat.{eq-or-lt-of-le}
 use native.Mathlib.Omega.{arith}
@@ -7,9 +8,10 @@ use mathlib.Core.Logic.{_⊎_, inl, inr, ⊎-elim}
 use mathlib.Core.List.{List, [], _∷_}
 use Rattle.ring.specs.Ring.{CRing, zer-add, mul-zer, zer-mul, neg-zer, eq-of-sub}
 use Rattle.ring.specs.Identity.{ring, ring-from, times, plus, quote}
-use Rattle.ring.specs.Series.{S, Series, addS, conv, negS, zerS, con}
+use Rattle.ring.specs.Series.{S, Series, addS, conv, negS, zerS, con, conv-con}
 use Rattle.ring.specs.Order.{le-or-lt}
-use Rattle.ring.specs.Degree.{Below, below-conv, lead-conv}
+use Rattle.ring.specs.Degree.{Below, below-add, below-conv, lead-conv}
+use Rattle.ring.specs.Division.{below-con}
 use Rattle.algebra.specs.Field.{Field, no-zero-divisor, some-mul}
 
 module _ {A : Type 0} (K : Field A) where
@@ -36,6 +38,10 @@ module _ {A : Type 0} (K : Field A) where
     pub low : f ≺ suc n
     pub top : f n ≡ F .zer → ⊥
 
+  pub record Monic (f : Px) (n : ℕ) : Type 0 where
+    pub low : f ≺ suc n
+    pub top : f n ≡ F .one
+
   -- ---- Z2
   pub low-up : (f : Px) {m n : ℕ} → m ≤ n → f ≺ m → f ≺ n
   low-up f h l i p = l i (omega arith)
@@ -45,8 +51,7 @@ module _ {A : Type 0} (K : Field A) where
   low-zero n i p = refl
 
   pub low-add : (f g : Px) (n : ℕ) → f ≺ n → g ≺ n → f + g ≺ n
-  unfolding addS
-  low-add f g n h k i p = ap₂ (F .add) (h i p) (k i p) ∙ F .add-zer (F .zer)
+  low-add = below-add F
 
   pub low-neg : (f : Px) (n : ℕ) → f ≺ n → - f ≺ n
   unfolding negS
@@ -57,6 +62,13 @@ module _ {A : Type 0} (K : Field A) where
 
   pub low-mul : (f g : Px) (m n : ℕ) → f ≺ m → g ≺ suc n → f * g ≺ m +ₙ n
   low-mul f g m n h k i p = below-conv F m (suc n) f g h k i (omega arith)
+
+  -- the same with no successor: weaker, and enough where only some bound is wanted
+  pub low-product : (f g : Px) (m n : ℕ) → f ≺ m → g ≺ n → f * g ≺ m +ₙ n
+  low-product f g m n h k = low-mul f g m n h (low-up g (omega arith) k)
+
+  pub low-scale : (c : A) (f : Px) (n : ℕ) → f ≺ n → con F c * f ≺ n
+  low-scale c f n h i p = conv-con F c f i ∙ ap (F .mul c) (h i p) ∙ mul-zer F c
 
   pub low-none : (f : Px) → f ≺ 0 → f ≡ 𝟘
   unfolding zerS
@@ -69,11 +81,9 @@ module _ {A : Type 0} (K : Field A) where
   deg-path n e = subst (λ h. Deg h n) e
 
   pub one-low : 𝟙 ≺ 1
-  unfolding con
-  one-low zero p = absurd (omega arith)
-  one-low (suc i) p = refl
+  one-low = below-con F (F .one)
 
-  -- one place low-down, where the coefficient is 0
+  -- one place lower, where the coefficient is 0
   pub low-down : (f : Px) (n : ℕ) → f ≺ suc n → f n ≡ F .zer → f ≺ n
   low-down f n h e i p = ⊎-elim (λ (w : n ≡ i). ap f (sym w) ∙ e) (λ (w : n < i). h i w) (eq-or-lt-of-le p)
 
@@ -81,6 +91,15 @@ module _ {A : Type 0} (K : Field A) where
   pub degree : (n : ℕ) (f : Px) → f ≺ n → (f ≡ 𝟘) ⊎ ((m : ℕ) × (m < n) × Deg f m)
   degree zero f h = inl (low-none f h)
   degree (suc n) f h = elim (K .zero? (f n)) [ yes e ↦ ⊎-elim (λ z. inl z) (λ r. inr (r .0, omega arith, r .2)) (degree n f (low-down f n h e)) | no e ↦ inr (n, omega arith, record { low = h; top = e }) ]
+
+  -- whether two polynomials are equal
+  pub equal? : (n : ℕ) (f g : Px) → f ≺ n → g ≺ n → Dec (f ≡ g)
+  unfolding addS negS
+  equal? n f g h k = ⊎-elim (λ z. yes (eq-of-sub (Series F) f g z)) (λ r. no (λ e. r .2 .top (ap (λ (u : Px). (u - g) (r .0)) e ∙ F .add-neg (g (r .0))))) (degree n (f - g) (low-sub f g n h k))
+
+  pub deg-not-zero : {f : Px} {n : ℕ} → Deg f n → f ≡ 𝟘 → ⊥
+  unfolding zerS
+  deg-not-zero {n = n} t e = t .top (ap (λ (u : Px). u n) e)
 
   -- ---- Z3
   pub deg-mul : (f g : Px) (m n : ℕ) → Deg f m → Deg g n → Deg (f * g) (m +ₙ n)
@@ -121,12 +140,82 @@ module _ {A : Type 0} (K : Field A) where
   pub deg-below : (f : Px) (m n : ℕ) → Deg f m → f ≺ n → m < n
   deg-below f m n t b = ⊎-elim (λ h. absurd (t .top (b m h))) (λ h. h) (le-or-lt n m)
 
-  -- ---- Z6, the uniqueness of quotient and remainder
-  pub division-unique : (m : ℕ) (a a′ r r′ h : Px) (d : ℕ) → Deg h d → a ≺ m → a′ ≺ m → r ≺ d → r′ ≺ d → a * h + r ≡ a′ * h + r′ → (a ≡ a′) × (r ≡ r′)
-  division-unique m a a′ r r′ h d t ha ha′ hr hr′ e = (same, ring-from (Series F) (a ∷ a′ ∷ r ∷ r′ ∷ h ∷ []) (plus (Series F) (times (Series F) 𝟙 e) (times (Series F) (- h) same)) (search quote depth 40 fits 9999) tt)
-    where
-      gap : (a - a′) * h ≡ r′ - r
-      gap = ring-from (Series F) (a ∷ a′ ∷ r ∷ r′ ∷ h ∷ []) (times (Series F) 𝟙 e) (search quote depth 40 fits 9999) tt
+  pub deg-unique : {f : Px} {m n : ℕ} → Deg f m → Deg f n → m ≡ n
+  deg-unique {f} {m} {n} t u = omega (arith, deg-below f m (suc n) t (u .low), deg-below f n (suc m) u (t .low))
 
-      same : a ≡ a′
-      same = eq-of-sub (Series F) a a′ (low-none (a - a′) (low-quotient m (a - a′) h 0 d t (low-sub a a′ m ha ha′) (low-path (0 +ₙ d) (sym gap) (low-up (r′ - r) (omega arith) (low-sub r′ r d hr′ hr)))))
+  -- the degree of a factor, from that of the product
+  pub deg-factor : (k : ℕ) (f g : Px) (m d : ℕ) → f ≺ k → Deg g d → Deg (f * g) m → (d ≤ m) × Deg f (m -ₙ d)
+  deg-factor k f g m d b t u = ⊎-elim none some (degree k f b)
+    where
+      none : f ≡ 𝟘 → (d ≤ m) × Deg f (m -ₙ d)
+      none z = absurd (deg-not-zero u (ring-from (Series F) (f ∷ g ∷ []) (times (Series F) g z) (search quote depth 40 fits 9999) tt))
+
+      some : (j : ℕ) × (j < k) × Deg f j → (d ≤ m) × Deg f (m -ₙ d)
+      some r = (omega (arith, e), subst (λ i. Deg f i) (omega (arith, e)) (r .2))
+        where
+          e : r .0 +ₙ d ≡ m
+          e = deg-unique (deg-mul f g (r .0) d (r .2) t) u
+
+  -- ---- constants
+  pub deg-con : (c : A) → (c ≡ F .zer → ⊥) → Deg (con F c) 0
+  unfolding con
+  deg-con c h = record { low = below-con F c; top = h }
+
+  pub con-mul : (a b : A) → con F a * con F b ≡ con F (F .mul a b)
+  unfolding con
+  con-mul a b = fun-ext (λ n. conv-con F a (con F b) n ∙ at n)
+    where
+      at : (n : ℕ) → F .mul a (con F b n) ≡ con F (F .mul a b) n
+      at zero = refl
+      at (suc n) = mul-zer F a
+
+  pub con-inv : (c : A) → (c ≡ F .zer → ⊥) → con F (K .inv c) * con F c ≡ 𝟙
+  con-inv c h = con-mul (K .inv c) c ∙ ap (con F) (K .inv-mul c h)
+
+  -- of degree 0: its first coefficient, and no other
+  pub low-one : (f : Px) → f ≺ 1 → f ≡ con F (f 0)
+  unfolding con
+  low-one f h = fun-ext at
+    where
+      at : (n : ℕ) → f n ≡ con F (f 0) n
+      at zero = refl
+      at (suc n) = h (suc n) (omega arith)
+
+  pub deg-scale : (c : A) (f : Px) (n : ℕ) → (c ≡ F .zer → ⊥) → Deg f n → Deg (con F c * f) n
+  deg-scale c f n h t = subst (λ i. Deg (con F c * f) i) (omega arith) (deg-mul (con F c) f 0 n (deg-con c h) t)
+
+  -- ---- monic polynomials
+  pub monic-deg : {f : Px} {n : ℕ} → Monic f n → Deg f n
+  monic-deg m = record { low = m .low; top = λ e. K .one-not-zero (sym (m .top) ∙ e) }
+
+  pub monic-path : {f g : Px} (n : ℕ) → f ≡ g → Monic f n → Monic g n
+  monic-path n e = subst (λ h. Monic h n) e
+
+  pub monic-one : Monic 𝟙 0
+  unfolding con
+  monic-one = record { low = one-low; top = refl }
+
+  pub monic-mul : (f g : Px) (m n : ℕ) → Monic f m → Monic g n → Monic (f * g) (m +ₙ n)
+  monic-mul f g m n h k = record {
+    low = low-up (f * g) (omega arith) (low-mul f g (suc m) n (h .low) (k .low));
+    top = lead-conv F m n f g (h .low) (k .low) ∙ ap₂ (F .mul) (h .top) (k .top) ∙ F .mul-one (F .one);
+  }
+
+  pub monic-dominant : (f h : Px) (n : ℕ) → Monic f n → h ≺ n → Monic (f + h) n
+  unfolding addS
+  monic-dominant f h n m b = record {
+    low = low-add f h (suc n) (m .low) (low-up h (omega arith) b);
+    top = ap₂ (F .add) (m .top) (b n (omega arith)) ∙ F .add-zer (F .one);
+  }
+
+  -- two leading terms that cancel
+  pub monic-sub : (f g : Px) (n : ℕ) → Monic f n → Monic g n → f - g ≺ n
+  unfolding addS negS
+  monic-sub f g n h k = low-down (f - g) n (low-sub f g (suc n) (h .low) (k .low)) (ap₂ (λ a b. F .add a (F .neg b)) (h .top) (k .top) ∙ F .add-neg (F .one))
+
+  -- divided by its leading coefficient
+  pub monic-of : (f : Px) (n : ℕ) → Deg f n → Monic (con F (K .inv (f n)) * f) n
+  monic-of f n t = record {
+    low = low-scale (K .inv (f n)) f (suc n) (t .low);
+    top = conv-con F (K .inv (f n)) f n ∙ K .inv-mul (f n) (t .top);
+  }

@@ -1,14 +1,16 @@
--- One more coefficient of the root of D (A1 of the blueprint), and that it is one (A2).
-use Prim.Native.Nat.{ℕ, zero, suc, _+_ as _+ₙ_, _-_ as _-ₙ_, _≤_, _<_, zero-le, suc-le-suc}
+-- The root d of D: for D monic of degree 2n, the monic d of degree n with D - d² under degree n. It exists (A1) and is one (A2).
+-- Each coefficient of d, from the top down, is half of what is left of D at its place.
+use Prim.Native.Nat.{ℕ, zero, suc, _+_ as _+ₙ_, _≤_, _<_}
 use native.Mathlib.Omega.{arith}
 use mathlib.Core.Path.{_≡_, refl, sym, ap, ap₂, _∙_, subst}
 use mathlib.Core.List.{List, [], _∷_}
 use Rattle.ring.specs.Ring.{CRing, eq-of-sub}
 use Rattle.ring.specs.Identity.{ring, ring-from, times, plus, quote}
-use Rattle.ring.specs.Series.{S, Series, addS, conv, negS, zerS, con}
+use Rattle.ring.specs.Series.{Series, addS, negS}
 use Rattle.ring.specs.Degree.{lead-conv}
-use Rattle.algebra.specs.Field.{Field, no-zero-divisor}
-use Rattle.algebra.specs.Polynomial.{F, Px, _≺_, Deg, low-up, low-add, low-neg, low-sub, low-mul, low-none, low-path, low-down, low-quotient}
+use Rattle.ring.specs.Division.{mon, below-mon, lead-mon}
+use Rattle.algebra.specs.Field.{Field, half, half-twice}
+use Rattle.algebra.specs.Polynomial.{F, Px, _≺_ as Low, Deg, Monic, low-up, low-add, low-sub, low-mul, low-none, low-path, low-down, low-quotient, monic-mul, monic-sub, monic-dominant}
 
 module _ {A : Type 0} (K : Field A) where
   open CRing (Series (F K)) using (add as _+_, mul as _*_, neg as -_, zer as 𝟘, one as 𝟙)
@@ -16,14 +18,15 @@ module _ {A : Type 0} (K : Field A) where
   infixl 6 _+_ _-_
   infixl 7 _*_
   infix 8 -_
+  infix 4 _≺_
   abbrev R[x] : CRing (Px K)
   R[x] = Series (F K)
 
   abbrev _-_ : Px K → Px K → Px K
   a - b = a + (- b)
 
-  abbrev below : Px K → ℕ → Type 0
-  below = _≺_ K
+  abbrev _≺_ : Px K → ℕ → Type 0
+  _≺_ = Low K
 
   at-add : (f g : Px K) (i : ℕ) → (f + g) i ≡ F K .add (f i) (g i)
   unfolding addS
@@ -33,20 +36,21 @@ module _ {A : Type 0} (K : Field A) where
   unfolding addS negS
   at-sub f g i = refl
 
-  pub root-step : (D d h : Px K) (e n : ℕ) → below d (suc n) → d n ≡ F K .one → below h (suc e) → e < n
-      → F K .add (h e) (h e) ≡ (D - d * d) (e +ₙ n) → below (D - d * d) (suc (e +ₙ n)) → below (D - (d + h) * (d + h)) (e +ₙ n)
+  -- ---- one more coefficient: h has degree at most e, and twice its coefficient there is what is left of D
+  pub root-step : (D d h : Px K) (e n : ℕ) → d ≺ suc n → d n ≡ F K .one → h ≺ suc e → e < n
+      → F K .add (h e) (h e) ≡ (D - d * d) (e +ₙ n) → D - d * d ≺ suc (e +ₙ n) → D - (d + h) * (d + h) ≺ e +ₙ n
   root-step D d h e n hd one hh less twice low = low-down K (D - (d + h) * (d + h)) (e +ₙ n) (low-path K (suc (e +ₙ n)) (sym is) all) zero-top
     where
       is : D - (d + h) * (d + h) ≡ (D - d * d) - (h * d + h * d) - h * h
       is = ring R[x] (D ∷ d ∷ h ∷ []) (search quote depth 40 fits 9999) tt
 
-      hd-low : below (h * d) (suc (e +ₙ n))
+      hd-low : h * d ≺ suc (e +ₙ n)
       hd-low = low-up K (h * d) (omega arith) (low-mul K h d (suc e) n hh hd)
 
-      hh-low : below (h * h) (e +ₙ n)
+      hh-low : h * h ≺ e +ₙ n
       hh-low = low-up K (h * h) (omega arith) (low-mul K h h (suc e) e hh hh)
 
-      all : below ((D - d * d) - (h * d + h * d) - h * h) (suc (e +ₙ n))
+      all : (D - d * d) - (h * d + h * d) - h * h ≺ suc (e +ₙ n)
       all = low-sub K _ (h * h) _ (low-sub K (D - d * d) (h * d + h * d) _ low (low-add K (h * d) (h * d) _ hd-low hd-low)) (low-up K (h * h) (omega arith) hh-low)
 
       at-hd : (h * d) (e +ₙ n) ≡ h e
@@ -58,13 +62,44 @@ module _ {A : Type 0} (K : Field A) where
           spread : ((D - d * d) - (h * d + h * d) - h * h) (e +ₙ n) ≡ F K .zer
           spread = at-sub ((D - d * d) - (h * d + h * d)) (h * h) (e +ₙ n) ∙ ap₂ (λ x y. F K .add x (F K .neg y)) (at-sub (D - d * d) (h * d + h * d) (e +ₙ n) ∙ ap₂ (λ x y. F K .add x (F K .neg y)) (sym twice) (at-add (h * d) (h * d) (e +ₙ n) ∙ ap₂ (F K .add) at-hd at-hd)) (hh-low (e +ₙ n) (omega arith)) ∙ ring (F K) (h e ∷ []) (search quote depth 40 fits 9999) tt
 
-  -- A2
-  pub root-one : (two : F K .add (F K .one) (F K .one) ≡ F K .zer → ⊥) (D d d′ : Px K) (n : ℕ) → below d (suc n) → below d′ (suc n) → d n ≡ F K .one → d′ n ≡ F K .one
-      → below (D - d * d) n → below (D - d′ * d′) n → d ≡ d′
-  root-one two D d d′ n hd hd′ l l′ low low′ = eq-of-sub R[x] d d′ (low-none K (d - d′) (low-quotient K (suc n) (d - d′) (d + d′) 0 n sum-deg (low-sub K d d′ (suc n) hd hd′) (low-path K (0 +ₙ n) gap (low-up K _ (omega arith) (low-sub K (D - d′ * d′) (D - d * d) n low′ low)))))
+  pub record IsRoot (D d : Px K) (n : ℕ) : Type 0 where
+    pub monic : Monic K d n
+    pub low : D - d * d ≺ n
+
+  -- ---- existence (A1)
+  module _ (D : Px K) (n : ℕ) where
+    -- the coefficients of d above e are found
+    root-from : (e : ℕ) (d : Px K) → e ≤ n → Monic K d n → D - d * d ≺ e +ₙ n → (d : Px K) × IsRoot D d n
+    root-from zero d le m b = (d, record { monic = m; low = low-up K (D - d * d) (omega arith) b })
+    root-from (suc e) d le m b = root-from e (d + h) (omega arith) (monic-dominant K d h n m (low-up K h le h-low)) (root-step D d h e n (m .low) (m .top) h-low le twice (low-up K (D - d * d) (omega arith) b))
+      where
+        c : A
+        c = (D - d * d) (e +ₙ n)
+
+        h : Px K
+        h = mon (F K) (half K c) e
+
+        h-low : h ≺ suc e
+        h-low = below-mon (F K) (half K c) e
+
+        twice : F K .add (h e) (h e) ≡ c
+        twice = ap₂ (F K .add) (lead-mon (F K) (half K c) e) (lead-mon (F K) (half K c) e) ∙ half-twice K c
+
+    pub root-exists : Monic K D (n +ₙ n) → (d : Px K) × IsRoot D d n
+    root-exists m = root-from n x^n (omega arith) first (monic-sub K D (x^n * x^n) (n +ₙ n) m (monic-mul K x^n x^n n n first first))
+      where
+        x^n : Px K
+        x^n = mon (F K) (F K .one) n
+
+        first : Monic K x^n n
+        first = record { low = below-mon (F K) (F K .one) n; top = lead-mon (F K) (F K .one) n }
+
+  -- ---- uniqueness (A2)
+  pub root-unique : {D d d′ : Px K} {n : ℕ} → IsRoot D d n → IsRoot D d′ n → d ≡ d′
+  root-unique {D} {d} {d′} {n} r r′ = eq-of-sub R[x] d d′ (low-none K (d - d′) (low-quotient K (suc n) (d - d′) (d + d′) 0 n sum-deg (low-sub K d d′ (suc n) (r .monic .low) (r′ .monic .low)) (low-path K (0 +ₙ n) gap (low-up K _ (omega arith) (low-sub K (D - d′ * d′) (D - d * d) n (r′ .low) (r .low))))))
     where
       gap : (D - d′ * d′) - (D - d * d) ≡ (d - d′) * (d + d′)
       gap = ring R[x] (D ∷ d ∷ d′ ∷ []) (search quote depth 40 fits 9999) tt
 
       sum-deg : Deg K (d + d′) n
-      sum-deg = record { low = low-add K d d′ (suc n) hd hd′; top = λ e. two (ap₂ (F K .add) (sym l) (sym l′) ∙ sym (at-add d d′ n) ∙ e) }
+      sum-deg = record { low = low-add K d d′ (suc n) (r .monic .low) (r′ .monic .low); top = λ e. K .two-not-zero (ap₂ (F K .add) (sym (r .monic .top)) (sym (r′ .monic .top)) ∙ sym (at-add d d′ n) ∙ e) }
