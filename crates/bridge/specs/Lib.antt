@@ -1,0 +1,4 @@
+pub mod Model
+pub mod Trim
+pub mod Arithmetic
+pub mod Division
