@@ -2,3 +2,5 @@ pub mod Model
 pub mod Trim
 pub mod Arithmetic
 pub mod Division
+pub mod Prime
+pub mod Residues
