@@ -1,0 +1,6 @@
+pub mod Model
+pub mod Trim
+pub mod Arithmetic
+pub mod Division
+pub mod Prime
+pub mod Residues
