@@ -11,7 +11,6 @@ use Rattle.ring.specs.Identity.{ring, ring-from, times, plus, quote}
 use Rattle.ring.specs.Order.{le-or-lt}
 use Rattle.ring.specs.Series.{S, Series, addS, conv, negS, zerS, con}
 use Rattle.ring.specs.Degree.{Below}
-use Rattle.ring.specs.Division.{no-quo}
 use Rattle.definitions.specs.Field.{Ops}
 use Rattle.definitions.specs.Polynomials.{Split, at, trim, sub, scale, put, divide, lead, quo, rem}
 use Rattle.bridge.specs.Model.{Model, Inverts, Oks, series, series-nil, zer-by-mul}

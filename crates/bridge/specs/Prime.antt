@@ -8,12 +8,8 @@ use mathlib.Core.Bool.{Bool, true, false, _&&_}
 use lib.Dec.{ltb, eqb}
 use borrow.Author.Tests.{ltb-true, ltb-false, eqb-true, eqb-false, lt-ltb}
 use Rattle.ring.specs.Order.{le-or-lt}
+pub use Rattle.algebra.specs.Prime.{Prime}
 use Rattle.definitions.specs.Primes.{noDivisor, oddPrime}
-
--- no number from 2 up to q − 1 divides q
-pub record Prime (q : ℕ) : Type 0 where
-  pub two : 2 ≤ q
-  pub none : (d : ℕ) → 2 ≤ d → d < q → q % d ≡ 0 → ⊥
 
 -- what a field is asked for
 pub record OddPrime (q : ℕ) : Type 0 where
