@@ -1,17 +1,17 @@
 -- Greatest common divisors of polynomials over a field. `IsGcd A B G`: G divides A and B, is a combination of them (Bezout), and is 0 or monic.
 -- It exists for all A and B, the zero polynomial among them, by Euclid's recursion: the bound of the second polynomial falls. It is one, and every common divisor divides it.
-use Prim.Native.Nat.{ℕ, zero, suc, _+_ as _+ₙ_, _≤_, _<_}
+use Prim.Native.Nat.{ℕ, zero, suc, _+_ as _+ₙ_, _<_}
 use native.Mathlib.Omega.{arith}
-use mathlib.Core.Path.{_≡_, refl, sym, ap, _∙_, subst}
+use mathlib.Core.Path.{_≡_, refl, sym, _∙_, subst}
 use mathlib.Core.Logic.{_⊎_, inl, inr, ⊎-elim}
-use mathlib.Core.List.{List, [], _∷_}
+use mathlib.Core.List.{[], _∷_}
 use Rattle.ring.specs.Ring.{CRing}
 use Rattle.ring.specs.Identity.{ring, ring-from, times, plus, quote}
 use Rattle.ring.specs.Series.{Series, con}
-use Rattle.ring.specs.Division.{Quotient, below-con}
+use Rattle.ring.specs.Division.{below-con}
 use Rattle.algebra.specs.Field.{Field}
-use Rattle.algebra.specs.Polynomial.{F, Px, _≺_ as Low, Deg, Monic, low-up, low-add, low-sub, low-product, low-zero, low-none, low-path, one-low, degree, con-inv, monic-of}
-use Rattle.algebra.specs.Divides.{Divides, divides-refl, divides-zero, zero-divides, divides-path, divides-add, divides-mulˡ, divides-monic}
+use Rattle.algebra.specs.Polynomial.{F, Px, _≺_ as Low, Deg, Monic, low-up, low-sub, low-product, low-zero, low-none, low-path, degree, con-inv, monic-of}
+use Rattle.algebra.specs.Divides.{Divides, divides-zero, zero-divides, divides-path, divides-add, divides-mulˡ, divides-monic}
 use Rattle.algebra.specs.Division.{Division, division}
 
 module _ {A : Type 0} (K : Field A) where

@@ -1,16 +1,15 @@
 -- How large the multipliers u and v of Bezout's equation g = u a + v b are (G3), as Euclid's recursion finds them: deg u ≤ deg b - deg g and deg v ≤ max (deg a) (deg b) - deg g.
 -- The step takes (u, v) of b and the remainder to (v, u - q v), and the quotient q makes up for the fall of the degree.
-use Prim.Native.Nat.{ℕ, zero, suc, max, _+_ as _+ₙ_, _-_ as _-ₙ_, _≤_, _<_, zero-le}
+use Prim.Native.Nat.{ℕ, suc, max, _-_ as _-ₙ_, _≤_, _<_, zero-le}
 use native.Mathlib.Omega.{arith}
-use mathlib.Core.Path.{_≡_, refl, sym, ap, _∙_, subst}
+use mathlib.Core.Path.{_≡_, refl, sym, subst}
 use mathlib.Core.Logic.{_⊎_, inl, inr, ⊎-elim}
-use mathlib.Core.List.{List, [], _∷_}
 use Rattle.ring.specs.Ring.{CRing}
 use Rattle.ring.specs.Series.{Series, con}
-use Rattle.ring.specs.Division.{Quotient, below-con}
+use Rattle.ring.specs.Division.{below-con}
 use Rattle.algebra.specs.Field.{Field}
 use Rattle.algebra.specs.Polynomial.{F, Px, _≺_ as Low, Deg, low-up, low-sub, low-mul, low-zero, degree, deg-not-zero, deg-unique}
-use Rattle.algebra.specs.Divides.{Divides, divides-le}
+use Rattle.algebra.specs.Divides.{divides-le}
 use Rattle.algebra.specs.Division.{Division, quotient-low}
 use Rattle.algebra.specs.Gcd.{IsGcd, euclid, gcd-base-zero, gcd-base, gcd-step}
 

@@ -1,7 +1,7 @@
 -- The identities of the continued fraction of √D and of products of ideals, over any commutative ring, each found by the solver.
--- A step: D = P² + Q C, P′ = a Q - P, Q′ = C + a (P - P′), P + d = a Q + r, D = d² + e. R1 to R16 are their numbers in the list of identities.
+-- A step: D = P² + Q C, P′ = a Q - P, Q′ = C + a (P - P′), P + d = a Q + r, D = d² + e. They are numbered R1 to R16.
 use mathlib.Core.Path.{_≡_}
-use mathlib.Core.List.{List, [], _∷_}
+use mathlib.Core.List.{[], _∷_}
 use Rattle.ring.specs.Ring.{CRing}
 use Rattle.ring.specs.Identity.{ring, ring-from, times, plus, quote}
 

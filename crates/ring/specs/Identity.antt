@@ -12,9 +12,9 @@
 -- Refusals. At `tt`: the identity is false, or a multiplier has the wrong sign. "no proof of Sides": an atom is missing from the list, or a side stands as a λ.
 -- "stopped .. lemmas deep": a larger depth. "broke off": past ten million steps; state an identity in between, or quote by hand with `solve` of Solver.
 -- Eight atoms at degree 5 take about half a second; Identities, with up to fourteen atoms, takes two seconds. The carrier must be the parameter of CRing.
-use Prim.Native.Nat.{ℕ, zero, suc}
+use Prim.Native.Nat.{ℕ, suc}
 use mathlib.Core.Path.{_≡_, refl, sym, ap, ap₂, _∙_}
-use mathlib.Core.List.{List, [], _∷_}
+use mathlib.Core.List.{List, _∷_}
 use lib.Dec.{T}
 use Rattle.ring.specs.Ring.{CRing, mul-zer, eq-of-sub}
 use Rattle.ring.specs.Solver.{Ex, var, con, _⊞_, _⊟_, _⊠_, ⊝_, norm, isZero, ⟦_⟧, nth, solve}
