@@ -1,2 +1,4 @@
 pub mod Root
 pub mod Step
+pub mod Walk
+pub mod Convergents
