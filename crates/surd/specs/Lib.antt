@@ -5,3 +5,4 @@ pub mod Convergents
 pub mod Big
 pub mod Distance
 pub mod Descent
+pub mod Units
