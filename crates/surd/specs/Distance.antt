@@ -7,12 +7,12 @@ use mathlib.Core.Logic.{⊎-elim}
 use mathlib.Core.List.{List, [], _∷_}
 use Rattle.ring.specs.Ring.{CRing, one-mul}
 use Rattle.ring.specs.Identity.{ring, ring-from, times, plus, quote}
-use Rattle.ring.specs.Series.{Series, addS, con}
+use Rattle.ring.specs.Series.{Series, addS}
 use Rattle.ring.specs.Order.{le-or-lt}
 use Rattle.ring.specs.Degree.{lead-conv}
 use Rattle.algebra.specs.Field.{Field}
-use Rattle.algebra.specs.Polynomial.{F, Px, _≺_ as Low, Deg, low-up, low-zero, low-add, low-mul, low-path, deg-path, deg-mul, deg-dominant, one-low}
-use Rattle.surd.specs.Root.{Root, d-deg}
+use Rattle.algebra.specs.Polynomial.{F, Px, _≺_ as Low, Deg, low-up, low-zero, low-add, low-mul, low-path, deg-path, deg-mul, deg-dominant, monic-deg, monic-one, one-low}
+use Rattle.surd.specs.Root.{Root}
 use Rattle.surd.specs.Walk.{Walk, κ-first, a-first, a-deg}
 use Rattle.surd.specs.Big.{Big, big-deg}
 use Rattle.surd.specs.Convergents as convergents
@@ -35,10 +35,6 @@ module _ {A : Type 0} (K : Field A) where
 
   abbrev _≺_ : P[x] → ℕ → Type 0
   _≺_ = Low K
-
-  pub one-deg : Deg K 𝟙 0
-  unfolding con
-  one-deg = record { low = one-low K; top = K .one-not-zero }
 
   module _ {g : ℕ} {D : P[x]} {o : Root K g D} (w : Walk K o) where
     open Walk w using (a, κ, reduced)
@@ -89,7 +85,7 @@ module _ {A : Type 0} (K : Field A) where
 
     growth : (i : ℕ) → Growth i
     growth zero = record {
-      s-deg = deg-path K 0 s2 one-deg;
+      s-deg = deg-path K 0 s2 (monic-deg K (monic-one K));
       near = low-path K 0 n2 (low-zero K 0);
       s-prior = low-zero K 0;
       near-prior = low-path K 1 p1 (one-low K);
@@ -115,7 +111,7 @@ module _ {A : Type 0} (K : Field A) where
     convergent-big i = record { height = height i; y-deg = s-deg i; near = convergent-near i }
 
     pub p-deg : (i : ℕ) → Deg K (p (suc i)) (distance i)
-    p-deg zero = one-deg
+    p-deg zero = monic-deg K (monic-one K)
     p-deg (suc i) = subst (Deg K (p (suc (suc i)))) (sym (distance-height i)) (big-deg K o (p (suc (suc i))) (s (suc (suc i))) (convergent-big i))
 
     -- p and s have the same leading coefficient
@@ -124,7 +120,7 @@ module _ {A : Type 0} (K : Field A) where
     p-top i =
         ap (p (suc (suc i))) (distance-height i)
         ∙ ap (λ (f : P[x]). f (suc g +ₙ height i)) led
-        ∙ ap₂ (F K .add) (lead-conv (F K) (suc g) (height i) (o .d) (s (suc (suc i))) (o .d-low) (s-deg i .low) ∙ ap (λ c. F K .mul c (s (suc (suc i)) (height i))) (o .d-top) ∙ one-mul (F K) (s (suc (suc i)) (height i))) (convergent-near i (suc g +ₙ height i) (omega arith))
+        ∙ ap₂ (F K .add) (lead-conv (F K) (suc g) (height i) (o .d) (s (suc (suc i))) (o .monic .low) (s-deg i .low) ∙ ap (λ c. F K .mul c (s (suc (suc i)) (height i))) (o .monic .top) ∙ one-mul (F K) (s (suc (suc i)) (height i))) (convergent-near i (suc g +ₙ height i) (omega arith))
         ∙ F K .add-zer (s (suc (suc i)) (height i))
       where
         led : p (suc (suc i)) ≡ o .d * s (suc (suc i)) + (p (suc (suc i)) - o .d * s (suc (suc i)))

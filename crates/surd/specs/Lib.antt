@@ -6,3 +6,4 @@ pub mod Big
 pub mod Distance
 pub mod Descent
 pub mod Units
+pub mod LeastDegree

@@ -1,13 +1,14 @@
 -- The root d of D and what is left: D = d² + e with d monic of degree g + 1 and e of degree at most g.
 use Prim.Native.Nat.{ℕ, zero, suc, _+_ as _+ₙ_}
 use native.Mathlib.Omega.{arith}
-use mathlib.Core.Path.{_≡_, refl, sym, ap, _∙_, subst}
+use mathlib.Core.Path.{_≡_, refl, sym, _∙_}
 use mathlib.Core.List.{List, [], _∷_}
 use Rattle.ring.specs.Ring.{CRing}
 use Rattle.ring.specs.Identity.{ring, quote}
 use Rattle.ring.specs.Series.{Series, addS}
 use Rattle.algebra.specs.Field.{Field, no-zero-divisor}
-use Rattle.algebra.specs.Polynomial.{F, Px, _≺_ as Low, Deg, low-up, low-add, low-path, deg-mul}
+use Rattle.algebra.specs.Polynomial.{F, Px, _≺_ as Low, Deg, Monic, low-up, low-add, low-path, deg-mul, monic-deg}
+use Rattle.algebra.specs.Root.{IsRoot}
 
 module _ {A : Type 0} (K : Field A) where
   open CRing (Series (F K)) using (add as _+_, mul as _*_, neg as -_, zer as 𝟘, one as 𝟙)
@@ -26,9 +27,15 @@ module _ {A : Type 0} (K : Field A) where
     pub d : P[x]
     pub e : P[x]
     pub is : D ≡ d * d + e
-    pub d-low : d ≺ suc (suc g)
-    pub d-top : d (suc g) ≡ F K .one
+    pub monic : Monic K d (suc g)
     pub e-low : e ≺ suc g
+
+  pub rest-is : (D d : P[x]) → D ≡ d * d + (D + (- (d * d)))
+  rest-is D d = ring (Series (F K)) (D ∷ d ∷ []) (search quote depth 40 fits 9999) tt
+
+  -- with e the rest D - d²
+  abbrev pub root-of : {g : ℕ} {D d : P[x]} → IsRoot K D d (suc g) → Root g D
+  root-of {g} {D} {d} h = record { d = d; e = D + (- (d * d)); is = rest-is D d; monic = h .monic; e-low = h .low }
 
   -- 2 f has the degree of f
   pub deg-twice : (f : P[x]) (n : ℕ) → Deg K f n → Deg K (f + f) n
@@ -44,7 +51,7 @@ module _ {A : Type 0} (K : Field A) where
 
   module _ {g : ℕ} {D : P[x]} (o : Root g D) where
     pub d-deg : Deg K (o .d) (suc g)
-    d-deg = record { low = o .d-low; top = λ h. K .one-not-zero (sym (o .d-top) ∙ h) }
+    d-deg = monic-deg K (o .monic)
 
     -- D has the degree 2 g + 2
     pub D-low : D ≺ suc (suc g +ₙ suc g)

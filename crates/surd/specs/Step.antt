@@ -10,6 +10,7 @@ use Rattle.ring.specs.Identity.{ring, ring-from, times, plus, quote}
 use Rattle.ring.specs.Series.{Series}
 use Rattle.algebra.specs.Field.{Field}
 use Rattle.algebra.specs.Polynomial.{F, Px, _≺_ as Low, Deg, low-up, low-zero, low-add, low-neg, low-sub, low-mul, low-path, degree, deg-mul, deg-dominant, deg-below}
+use Rattle.algebra.specs.Division.{Division}
 use Rattle.surd.specs.Root.{Root, No-square, deg-twice, d-deg}
 
 module _ {A : Type 0} (K : Field A) where
@@ -40,14 +41,14 @@ module _ {A : Type 0} (K : Field A) where
     pub C-low : C ≺ size
     pub P-low : P ≺ size
 
-  -- f = a h + r, where h has the degree n
-  pub record Divided (f h : P[x]) (n : ℕ) (a r : P[x]) : Type 0 where
-    pub is : f ≡ a * h + r
-    pub r-low : r ≺ n
-    pub size : ℕ
-    pub a-low : a ≺ size
+  module _ {g : ℕ} {D : P[x]} (o : Root K g D) {Q C P : P[x]} (s : State D Q C P) {n : ℕ} (q : Division K (P + o .d) Q n (s .κ)) where
+    -- a and r are the quotient and the remainder of P + d by Q
+    abbrev a : P[x]
+    a = q .quo
 
-  module _ {g : ℕ} {D : P[x]} (o : Root K g D) {Q C P a r : P[x]} (s : State D Q C P) (q : Divided (P + o .d) Q (s .κ) a r) where
+    abbrev r : P[x]
+    r = q .rem
+
     abbrev pub next-P : P[x]
     next-P = a * Q - P
 
@@ -64,26 +65,26 @@ module _ {A : Type 0} (K : Field A) where
     pub product : next-Q * Q ≡ r * (o .d + o .d - r) + o .e
     product = ring-from R[x] (next-Q ∷ Q ∷ next-P ∷ r ∷ o .d ∷ o .e ∷ D ∷ []) (plus R[x] (times R[x] (- 𝟙) exact) (plus R[x] (times R[x] 𝟙 (o .is)) (times R[x] (- (next-P + o .d - r)) next-P-is))) (search quote depth 40 fits 9999) tt
 
-    pub next-P-low : next-P ≺ q .size +ₙ s .κ +ₙ s .size
-    next-P-low = low-sub K (a * Q) P _ (low-up K (a * Q) (omega arith) (low-mul K a Q (q .size) (s .κ) (q .a-low) (s .deg .low))) (low-up K P (omega arith) (s .P-low))
+    pub next-P-low : next-P ≺ n +ₙ s .κ +ₙ s .size
+    next-P-low = low-sub K (a * Q) P _ (low-up K (a * Q) (omega arith) (low-mul K a Q (n) (s .κ) (q .quo-low) (s .deg .low))) (low-up K P (omega arith) (s .P-low))
 
     -- Q′ = 0 would make D a square
     pub next : No-square K D → State D next-Q Q next-P
-    next no-square = go (degree K (n +ₙ q .size +ₙ n) next-Q Q-low)
+    next no-square = go (degree K (k +ₙ n +ₙ k) next-Q Q-low)
       where
-        n : ℕ
-        n = q .size +ₙ s .κ +ₙ s .size
+        k : ℕ
+        k = n +ₙ s .κ +ₙ s .size
 
-        Q-low : next-Q ≺ n +ₙ q .size +ₙ n
-        Q-low = low-add K C (a * (P - next-P)) _ (low-up K C (omega arith) (s .C-low)) (low-up K (a * (P - next-P)) (omega arith) (low-mul K a (P - next-P) (q .size) n (q .a-low) (low-sub K P next-P (suc n) (low-up K P (omega arith) (s .P-low)) (low-up K next-P (omega arith) next-P-low))))
+        Q-low : next-Q ≺ k +ₙ n +ₙ k
+        Q-low = low-add K C (a * (P - next-P)) _ (low-up K C (omega arith) (s .C-low)) (low-up K (a * (P - next-P)) (omega arith) (low-mul K a (P - next-P) n k (q .quo-low) (low-sub K P next-P (suc k) (low-up K P (omega arith) (s .P-low)) (low-up K next-P (omega arith) next-P-low))))
 
-        go : (next-Q ≡ 𝟘) ⊎ ((m : ℕ) × (m < n +ₙ q .size +ₙ n) × Deg K next-Q m) → State D next-Q Q next-P
-        go (inl z) = absurd (no-square next-P n next-P-low (exact ∙ ring-from R[x] (next-P ∷ next-Q ∷ Q ∷ []) (times R[x] Q z) (search quote depth 40 fits 9999) tt))
-        go (inr t) = record { κ = t .0; deg = t .2; norm = exact; size = n +ₙ suc (s .κ); C-low = low-up K Q (omega arith) (s .deg .low); P-low = low-up K next-P (omega arith) next-P-low }
+        go : (next-Q ≡ 𝟘) ⊎ ((m : ℕ) × (m < k +ₙ n +ₙ k) × Deg K next-Q m) → State D next-Q Q next-P
+        go (inl z) = absurd (no-square next-P k next-P-low (exact ∙ ring-from R[x] (next-P ∷ next-Q ∷ Q ∷ []) (times R[x] Q z) (search quote depth 40 fits 9999) tt))
+        go (inr t) = record { κ = t .0; deg = t .2; norm = exact; size = k +ₙ suc (s .κ); C-low = low-up K Q (omega arith) (s .deg .low); P-low = low-up K next-P (omega arith) next-P-low }
 
     -- the degree of Q′ where that of Q is at most g
     pub reduced : s .κ ≤ g → (κ : ℕ) → Deg K next-Q κ → (κ ≤ g) × (next-P - o .d ≺ κ)
-    reduced small κ t = go (degree K (s .κ) r (q .r-low))
+    reduced small κ t = go (degree K (s .κ) r (q .rem-low))
       where
         minus : - r ≡ next-P - o .d
         minus = ring-from R[x] (next-P ∷ r ∷ o .d ∷ []) (times R[x] (- 𝟙) next-P-is) (search quote depth 40 fits 9999) tt
@@ -105,7 +106,7 @@ module _ {A : Type 0} (K : Field A) where
         go (inr v) = (omega (arith, le, ge, v .1), low-path K κ minus (low-up K (- r) (omega (arith, le, ge, v .1)) (low-neg K r (suc (v .0)) (v .2 .low))))
           where
             two-d : Deg K (o .d + o .d - r) (suc g)
-            two-d = deg-dominant K (o .d + o .d) (- r) (suc g) (deg-twice K (o .d) (suc g) (d-deg K o)) (low-neg K r (suc g) (low-up K r (omega arith) (q .r-low)))
+            two-d = deg-dominant K (o .d + o .d) (- r) (suc g) (deg-twice K (o .d) (suc g) (d-deg K o)) (low-neg K r (suc g) (low-up K r (omega arith) (q .rem-low)))
 
             right : Deg K (r * (o .d + o .d - r) + o .e) (v .0 +ₙ suc g)
             right = deg-dominant K (r * (o .d + o .d - r)) (o .e) (v .0 +ₙ suc g) (deg-mul K r (o .d + o .d - r) (v .0) (suc g) (v .2) two-d) (low-up K (o .e) (omega arith) (o .e-low))

@@ -2,14 +2,14 @@
 -- Carried by the descent: λ² Q is the norm, which has degree 0.
 use Prim.Native.Nat.{ℕ, zero, suc, _+_ as _+ₙ_, _≤_, _<_}
 use native.Mathlib.Omega.{arith}
-use mathlib.Core.Path.{_≡_, refl, sym, ap, _∙_, fun-ext, subst}
+use mathlib.Core.Path.{_≡_, refl, sym, ap, _∙_, subst}
 use mathlib.Core.Logic.{_⊎_, inl, inr, ⊎-elim}
 use mathlib.Core.List.{List, [], _∷_}
 use Rattle.ring.specs.Ring.{CRing}
 use Rattle.ring.specs.Identity.{ring, ring-from, times, quote}
 use Rattle.ring.specs.Series.{Series, con}
 use Rattle.algebra.specs.Field.{Field}
-use Rattle.algebra.specs.Polynomial.{F, Px, _≺_ as Low, Deg, low-up, low-zero, low-path, deg-path, degree, deg-mul, deg-below}
+use Rattle.algebra.specs.Polynomial.{F, Px, _≺_ as Low, Deg, low-up, low-one, low-path, deg-path, degree, deg-not-zero, deg-mul, deg-below, deg-con, deg-scale}
 use Rattle.surd.specs.Root.{Root}
 use Rattle.surd.specs.Walk.{Walk}
 use Rattle.surd.specs.Convergents.{sign, sign-deg, norm-convergent}
@@ -40,25 +40,6 @@ module _ {A : Type 0} (K : Field A) where
   abbrev pub constant : A → P[x]
   constant c = con (F K) c
 
-  pub constant-deg : (c : A) → (c ≡ F K .zer → ⊥) → Deg K (constant c) 0
-  unfolding con
-  constant-deg c h = record { low = low; top = h }
-    where
-      low : constant c ≺ 1
-      low zero q = absurd (omega arith)
-      low (suc i) q = refl
-
-  pub constant-of : (f : P[x]) → f ≺ 1 → f ≡ constant (f 0)
-  unfolding con
-  constant-of f h = fun-ext at
-    where
-      at : (i : ℕ) → f i ≡ constant (f 0) i
-      at zero = refl
-      at (suc i) = h (suc i) (omega arith)
-
-  pub deg-not-zero : (f : P[x]) (n : ℕ) → Deg K f n → f ≡ 𝟘 → ⊥
-  deg-not-zero f n t z = let h : n < 0 = deg-below K f n 0 t (low-path K 0 (sym z) (low-zero K 0)) in omega arith
-
   pub record Solution (D X Y : P[x]) : Type 0 where
     pub size : ℕ
     pub X-low : X ≺ size
@@ -84,10 +65,10 @@ module _ {A : Type 0} (K : Field A) where
       size = suc (distance K w (suc i) +ₙ height K w i);
       X-low = low-up K (p (suc (suc i))) (omega arith) (p-deg K w (suc i) .low);
       Y-low = low-up K (s (suc (suc i))) (omega arith) (s-deg K w i .low);
-      Y-not-zero = deg-not-zero (s (suc (suc i))) (height K w i) (s-deg K w i);
+      Y-not-zero = deg-not-zero K (s-deg K w i);
       c = (sign K (suc i) * Q (suc i)) 0;
       c-not-zero = norm-deg .top;
-      norm = norm-convergent K w (suc i) ∙ constant-of (sign K (suc i) * Q (suc i)) (norm-deg .low);
+      norm = norm-convergent K w (suc i) ∙ low-one K (sign K (suc i) * Q (suc i)) (norm-deg .low);
     }
       where
         norm-deg : Deg K (sign K (suc i) * Q (suc i)) 0
@@ -107,10 +88,7 @@ module _ {A : Type 0} (K : Field A) where
       pub scaled : Scaled m X Y
 
     pub scaled-deg : (m : ℕ) {X Y : P[x]} → Scaled m X Y → Deg K X (distance K w m)
-    scaled-deg m h = deg-path K _ (sym (h .X-is)) (subst (Deg K (constant (h .by) * p (suc m))) same (deg-mul K (constant (h .by)) (p (suc m)) 0 (distance K w m) (constant-deg (h .by) (h .by-not-zero)) (p-deg K w m)))
-      where
-        same : 0 +ₙ distance K w m ≡ distance K w m
-        same = omega arith
+    scaled-deg m h = deg-path K _ (sym (h .X-is)) (deg-scale K (h .by) (p (suc m)) (distance K w m) (h .by-not-zero) (p-deg K w m))
 
     of-multiple : (X Y Z : P[x]) → Deg K (X * X - D * (Y * Y)) 0 → (h : Multiple K w X Y) → ((b : P[x]) → Y ≡ b → (Z ≡ b) ⊎ (Z ≡ - b)) → Unit X Z
     of-multiple X Y Z t h back = record {
@@ -133,14 +111,14 @@ module _ {A : Type 0} (K : Field A) where
         by-deg = subst (Deg K (h .by)) (let e : h .size ≡ 0 = omega (arith, sum) in e) (h .by-deg)
 
         by-is : h .by ≡ constant (h .by 0)
-        by-is = constant-of (h .by) (by-deg .low)
+        by-is = low-one K (h .by) (by-deg .low)
 
     -- ---- every solution is one of these
     pub units : {X Y : P[x]} → Solution D X Y → Unit X Y
     units {X} {Y} u = go (degree K (u .size) Y (u .Y-low))
       where
         norm-deg : Deg K (X * X - D * (Y * Y)) 0
-        norm-deg = deg-path K 0 (sym (u .norm)) (constant-deg (u .c) (u .c-not-zero))
+        norm-deg = deg-path K 0 (sym (u .norm)) (deg-con K (u .c) (u .c-not-zero))
 
         same : X * X - D * (Y * Y) ≡ X * X - D * ((- Y) * (- Y))
         same = ring R[x] (X ∷ Y ∷ D ∷ []) (search quote depth 40 fits 9999) tt

@@ -2,15 +2,14 @@
 -- the cheap recurrence, and the degrees of P i and a i.
 use Prim.Native.Nat.{ℕ, zero, suc, _+_ as _+ₙ_, _-_ as _-ₙ_, _≤_, _<_}
 use native.Mathlib.Omega.{arith}
-use mathlib.Core.Path.{_≡_, refl, sym, ap, ap₂, _∙_, subst}
-use mathlib.Core.Logic.{_⊎_, inl, inr}
+use mathlib.Core.Path.{_≡_, refl, sym, ap, ap₂, _∙_}
 use mathlib.Core.List.{List, [], _∷_}
 use Rattle.ring.specs.Ring.{CRing}
 use Rattle.ring.specs.Identity.{ring, ring-from, times, plus, quote}
 use Rattle.ring.specs.Series.{Series, addS}
 use Rattle.ring.specs.Degree.{lead-conv}
 use Rattle.algebra.specs.Field.{Field}
-use Rattle.algebra.specs.Polynomial.{F, Px, _≺_ as Low, Deg, low-up, low-zero, low-add, low-neg, low-sub, low-none, low-path, deg-path, degree, deg-mul, deg-dominant, deg-below, one-low}
+use Rattle.algebra.specs.Polynomial.{F, Px, _≺_ as Low, Deg, Monic, low-up, low-neg, low-none, low-path, deg-path, deg-dominant, deg-below, deg-factor, monic-dominant, monic-path, one-low}
 use Rattle.surd.specs.Root.{Root, deg-twice, d-deg}
 
 module _ {A : Type 0} (K : Field A) where
@@ -97,17 +96,10 @@ module _ {A : Type 0} (K : Field A) where
         same : - r i ≡ P (suc i) - o .d
         same = ring-from R[x] (P (suc i) ∷ o .d ∷ r i ∷ []) (times R[x] (- 𝟙) (P-rem i)) (search quote depth 40 fits 9999) tt
 
-    pub P-low : (i : ℕ) → P (suc i) ≺ suc (suc g)
-    P-low i = low-path K _ same (low-add K (o .d) (P (suc i) - o .d) _ (o .d-low) (low-up K _ (omega (arith, reduced i)) (near-prior i)))
+    pub P-monic : (i : ℕ) → Monic K (P (suc i)) (suc g)
+    P-monic i = monic-path K (suc g) same (monic-dominant K (o .d) (P (suc i) - o .d) (suc g) (o .monic) (low-up K _ (omega (arith, reduced i)) (near-prior i)))
       where
         same : o .d + (P (suc i) - o .d) ≡ P (suc i)
-        same = ring R[x] (P (suc i) ∷ o .d ∷ []) (search quote depth 40 fits 9999) tt
-
-    pub P-top : (i : ℕ) → P (suc i) (suc g) ≡ F K .one
-    unfolding addS
-    P-top i = ap (λ (f : P[x]). f (suc g)) same ∙ ap (F K .add (o .d (suc g))) (near-prior i (suc g) (omega (arith, reduced i))) ∙ F K .add-zer (o .d (suc g)) ∙ o .d-top
-      where
-        same : P (suc i) ≡ o .d + (P (suc i) - o .d)
         same = ring R[x] (P (suc i) ∷ o .d ∷ []) (search quote depth 40 fits 9999) tt
 
     -- ---- a i Q i has the degree g + 1
@@ -128,26 +120,7 @@ module _ {A : Type 0} (K : Field A) where
         same = ring-from R[x] (P i ∷ o .d ∷ r i ∷ a i ∷ Q i ∷ []) (times R[x] 𝟙 (divide i)) (search quote depth 40 fits 9999) tt
 
     pub a-deg : (i : ℕ) → Deg K (a i) (suc g -ₙ κ i)
-    a-deg i = go (degree K (size i) (a i) (a-low i))
-      where
-        none : a i ≡ 𝟘 → 𝟘 ≡ a i * Q i
-        none z = ring-from R[x] (a i ∷ Q i ∷ []) (times R[x] (- Q i) z) (search quote depth 40 fits 9999) tt
-
-        go : (a i ≡ 𝟘) ⊎ ((k : ℕ) × (k < size i) × Deg K (a i) k) → Deg K (a i) (suc g -ₙ κ i)
-        go (inl z) = absurd (let h : suc g < 0 = deg-below K (a i * Q i) (suc g) 0 (aQ-deg i) (low-path K 0 (none z) (low-zero K 0)) in omega arith)
-        go (inr t) = subst (λ (k : ℕ). Deg K (a i) k) same (t .2)
-          where
-            both : Deg K (a i * Q i) (t .0 +ₙ κ i)
-            both = deg-mul K (a i) (Q i) (t .0) (κ i) (t .2) (Q-deg i)
-
-            le : suc g < suc (t .0 +ₙ κ i)
-            le = deg-below K (a i * Q i) (suc g) (suc (t .0 +ₙ κ i)) (aQ-deg i) (both .low)
-
-            ge : t .0 +ₙ κ i < suc (suc g)
-            ge = deg-below K (a i * Q i) (t .0 +ₙ κ i) (suc (suc g)) both (aQ-deg i .low)
-
-            same : t .0 ≡ suc g -ₙ κ i
-            same = omega (arith, le, ge)
+    a-deg i = deg-factor K (size i) (a i) (Q i) (suc g) (κ i) (a-low i) (Q-deg i) (aQ-deg i) .1
 
     -- the leading coefficients of a i and Q i multiply to 2, past the first
     pub a-top : (i : ℕ) → F K .mul (a (suc i) (suc g -ₙ κ (suc i))) (Q (suc i) (κ (suc i))) ≡ F K .add (F K .one) (F K .one)
@@ -156,7 +129,7 @@ module _ {A : Type 0} (K : Field A) where
         sym (lead-conv (F K) (suc g -ₙ κ (suc i)) (κ (suc i)) (a (suc i)) (Q (suc i)) (a-deg (suc i) .low) (Q-deg (suc i) .low))
         ∙ ap (a (suc i) * Q (suc i)) at
         ∙ ap (λ (f : P[x]). f (suc g)) (sym (P-sum (suc i)))
-        ∙ ap₂ (F K .add) (P-top i) (P-top (suc i))
+        ∙ ap₂ (F K .add) (P-monic i .top) (P-monic (suc i) .top)
       where
         at : (suc g -ₙ κ (suc i)) +ₙ κ (suc i) ≡ suc g
         at = omega (arith, reduced (suc i))
