@@ -7,3 +7,4 @@ pub mod Distance
 pub mod Descent
 pub mod Units
 pub mod LeastDegree
+pub mod WalkOf
