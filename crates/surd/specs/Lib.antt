@@ -8,3 +8,4 @@ pub mod Descent
 pub mod Units
 pub mod LeastDegree
 pub mod WalkOf
+pub mod Ideal
