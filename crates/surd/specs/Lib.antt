@@ -9,3 +9,5 @@ pub mod Units
 pub mod LeastDegree
 pub mod WalkOf
 pub mod Ideal
+pub mod Same
+pub mod Reflect
