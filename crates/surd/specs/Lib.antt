@@ -11,3 +11,4 @@ pub mod WalkOf
 pub mod Ideal
 pub mod Same
 pub mod Reflect
+pub mod Generators
