@@ -12,3 +12,4 @@ pub mod Ideal
 pub mod Same
 pub mod Reflect
 pub mod Generators
+pub mod Classification
