@@ -4,3 +4,5 @@ pub mod Arithmetic
 pub mod Division
 pub mod Prime
 pub mod Residues
+pub mod Stages
+pub mod Quotient
