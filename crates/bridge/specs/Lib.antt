@@ -6,3 +6,6 @@ pub mod Prime
 pub mod Residues
 pub mod Stages
 pub mod Quotient
+pub mod Lengths
+pub mod Monic
+pub mod Gcd
