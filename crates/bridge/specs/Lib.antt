@@ -9,3 +9,5 @@ pub mod Quotient
 pub mod Lengths
 pub mod Monic
 pub mod Gcd
+pub mod Bezout
+pub mod Product
