@@ -36,6 +36,12 @@ module _ {A : Type 0} (o : Ops A) where
   trim [] = []
   trim (a ∷ l) = cons a (trim l)
 
+  -- the first k coefficients, zeros above the degree
+  unfoldable pub pad : ℕ → List A → List A
+  pad zero l = []
+  pad (suc k) [] = o .zer ∷ pad k []
+  pad (suc k) (a ∷ l) = a ∷ pad k l
+
   -- degree and 1; "The zero polynomial has a degree below every number": its size is 0
   unfoldable pub size : List A → ℕ
   size p = length (trim p)
