@@ -37,3 +37,16 @@ pub fn mul(f: Field, a: u32, b: u32) -> u32
 {
     a * b % f.q
 }
+
+// The inverse of a, and 0 for 0: 1/a is −(q div a) times 1/(q mod a).
+pub fn inverse(f: Field, a: u32) -> u32
+    requires { ⌜ (f .q < 4096) × (a < f .q) ⌝ }
+    ensures { λ r. ⌜ r ≡ modulo (f .q) .inv a ⌝ }
+{
+    let q = f.q;
+    if a <= 1 {
+        a
+    } else {
+        (q - q / a) * inverse(f, q % a) % q
+    }
+}
