@@ -6,6 +6,7 @@ pub mod Big
 pub mod Distance
 pub mod Descent
 pub mod Units
+pub mod QuasiPeriod
 pub mod LeastDegree
 pub mod WalkOf
 pub mod Ideal
