@@ -1,8 +1,8 @@
 -- The convergents p, s of the continued fraction, their norms and linear identities. One induction gives all norms: the form
 -- N i (u, v) = Q i u² - 2 P i u v - Q (i - 1) v² is the norm of u p + v s, up to a sign.
 use Prim.Native.Nat.{ℕ, zero, suc}
-use mathlib.Core.Path.{_≡_, refl, sym, ap, ap₂, _∙_}
-use mathlib.Core.List.{List, [], _∷_}
+use mathlib.Core.Path.{_≡_, ap, ap₂, _∙_}
+use mathlib.Core.List.{[], _∷_}
 use Rattle.ring.specs.Ring.{CRing}
 use Rattle.ring.specs.Identity.{ring, ring-from, times, plus, quote}
 use Rattle.ring.specs.Identities.{form, norm-turn as turn}
@@ -10,7 +10,7 @@ use Rattle.ring.specs.Series.{Series}
 use Rattle.algebra.specs.Field.{Field}
 use Rattle.algebra.specs.Polynomial.{F, Px, _≺_ as Low, Deg, low-neg, low-path, deg-path, deg-neg}
 use Rattle.surd.specs.Root.{Root}
-use Rattle.surd.specs.Walk.{Walk, prior, norm}
+use Rattle.surd.specs.Walk.{Walk, prior}
 
 module _ {A : Type 0} (K : Field A) where
   open CRing (Series (F K)) using (add as _+_, mul as _*_, neg as -_, zer as 𝟘, one as 𝟙)

@@ -1,10 +1,10 @@
 -- The descent: a pair whose norm has degree at most g is a polynomial multiple of a convergent, up to the sign of its second part.
 -- Carried by division of the pair through the convergents, each remainder of smaller degree than the last.
-use Prim.Native.Nat.{ℕ, zero, suc, max, _+_ as _+ₙ_, _-_ as _-ₙ_, _≤_, _<_}
+use Prim.Native.Nat.{ℕ, zero, suc, max, _+_ as _+ₙ_, _-_ as _-ₙ_, _<_}
 use native.Mathlib.Omega.{arith}
-use mathlib.Core.Path.{_≡_, refl, sym, ap, ap₂, _∙_}
+use mathlib.Core.Path.{_≡_, sym, ap₂, _∙_}
 use mathlib.Core.Logic.{_⊎_, inl, inr, ⊎-elim}
-use mathlib.Core.List.{List, [], _∷_}
+use mathlib.Core.List.{[], _∷_}
 use Rattle.ring.specs.Ring.{CRing}
 use Rattle.ring.specs.Identity.{ring, ring-from, times, plus, quote}
 use Rattle.ring.specs.Identities.{norm-factors, descent-left, descent-right}

@@ -6,8 +6,8 @@
 -- Convergents stand two places up: p (m + 1) has the index m - 1, and distance m is its degree.
 use Prim.Native.Nat.{ℕ, zero, suc, _+_ as _+ₙ_, _≤_, _<_}
 use native.Mathlib.Omega.{arith}
-use mathlib.Core.Path.{_≡_, refl, sym, ap, _∙_, subst}
-use mathlib.Core.Logic.{_⊎_, inl, inr, ⊎-elim}
+use mathlib.Core.Path.{_≡_, sym, subst}
+use mathlib.Core.Logic.{_⊎_, ⊎-elim}
 use Rattle.ring.specs.Ring.{CRing}
 use Rattle.ring.specs.Series.{Series, con}
 use Rattle.ring.specs.Order.{le-or-lt}

@@ -1,6 +1,6 @@
 -- The quasi-period m: the first index from 1 on at which Q is constant. The regulator is the distance of m, the degree of the convergent p of
 -- index m - 1; its bounds come from the distance formula, since 1 ≤ deg Q ≤ g between.
-use Prim.Native.Nat.{ℕ, zero, suc, _+_ as _+ₙ_, _-_ as _-ₙ_, _*_ as _*ₙ_, _≤_, _<_}
+use Prim.Native.Nat.{ℕ, zero, suc, _+_ as _+ₙ_, _*_ as _*ₙ_, _≤_, _<_}
 use native.Mathlib.Nat.{suc-mul}
 use native.Mathlib.Omega.{arith}
 use mathlib.Core.Path.{_≡_, ap}

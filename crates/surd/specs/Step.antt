@@ -1,12 +1,12 @@
 -- One step from a state (Q, P): it is exact, it never reaches Q = 0, and it keeps Q reduced (of degree at most g). Carried by one identity,
 -- Q′ Q = r (2 d - r) + e, in which the degrees are compared.
-use Prim.Native.Nat.{ℕ, zero, suc, _+_ as _+ₙ_, _≤_, _<_}
+use Prim.Native.Nat.{ℕ, suc, _+_ as _+ₙ_, _≤_, _<_}
 use native.Mathlib.Omega.{arith}
 use mathlib.Core.Path.{_≡_, refl, sym, ap, _∙_}
 use mathlib.Core.Logic.{_⊎_, inl, inr}
-use mathlib.Core.List.{List, [], _∷_}
+use mathlib.Core.List.{[], _∷_}
 use Rattle.ring.specs.Ring.{CRing}
-use Rattle.ring.specs.Identity.{ring, ring-from, times, plus, quote}
+use Rattle.ring.specs.Identity.{ring-from, times, plus, quote}
 use Rattle.ring.specs.Identities.{step-exact, step-product}
 use Rattle.ring.specs.Series.{Series}
 use Rattle.algebra.specs.Field.{Field}

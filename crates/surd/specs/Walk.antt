@@ -2,8 +2,8 @@
 -- the cheap recurrence, and the degrees of P i and a i.
 use Prim.Native.Nat.{ℕ, zero, suc, _+_ as _+ₙ_, _-_ as _-ₙ_, _≤_, _<_}
 use native.Mathlib.Omega.{arith}
-use mathlib.Core.Path.{_≡_, refl, sym, ap, ap₂, _∙_}
-use mathlib.Core.List.{List, [], _∷_}
+use mathlib.Core.Path.{_≡_, sym, ap, ap₂, _∙_}
+use mathlib.Core.List.{[], _∷_}
 use Rattle.ring.specs.Ring.{CRing}
 use Rattle.ring.specs.Identity.{ring, ring-from, times, plus, quote}
 use Rattle.ring.specs.Series.{Series, addS}
