@@ -15,3 +15,5 @@ pub mod Derivative
 pub mod Degree
 pub mod Euclid
 pub mod Root
+pub mod Coefficients
+pub mod BezoutLength
