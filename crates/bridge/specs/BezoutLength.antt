@@ -1,14 +1,14 @@
 -- How long the factors of `bezout` are: u is shorter than b, and v is shorter than a or constant. By induction along the remainders, which fall.
 use Prim.Native.Nat.{ℕ, zero, suc, _-_ as _-ₙ_, _≤_, _<_, zero-le}
 use native.Mathlib.Omega.{arith}
-use mathlib.Core.Path.{_≡_, refl, sym, ap, _∙_, subst}
-use mathlib.Core.Logic.{_⊎_, ⊎-elim}
+use mathlib.Core.Path.{_≡_, refl, sym, ap, subst}
+use mathlib.Core.Logic.{⊎-elim}
 use mathlib.Core.List.{List, [], _∷_}
 use lib.ListN.{length}
 use Rattle.ring.specs.Ring.{CRing}
 use Rattle.ring.specs.Order.{le-or-lt}
 use Rattle.definitions.specs.Field.{Ops}
-use Rattle.definitions.specs.Polynomials.{Bezout, trim, sub, mul, lead, quo, rem, bezout}
+use Rattle.definitions.specs.Polynomials.{Bezout, trim, mul, lead, quo, rem, bezout}
 use Rattle.bridge.specs.Model.{Model, Inverts}
 use Rattle.bridge.specs.Trim.{trim-nil, length-trim}
 use Rattle.bridge.specs.Lengths.{length-sub, length-mul, length-mul-none}

@@ -7,7 +7,6 @@ use Rattle.ring.specs.Ring.{CRing}
 use Rattle.ring.specs.Series.{S, tail}
 use Rattle.ring.specs.Degree.{Below}
 use Rattle.definitions.specs.Field.{Ops}
-use Rattle.definitions.specs.Polynomials.{at}
 use Rattle.bridge.specs.Model.{Model, Oks, series}
 
 -- each element b of the ring is that of the coefficient `back b`

@@ -1,24 +1,23 @@
 -- The degree of a list is that of its polynomial: over a field, the size is one more than the degree and the leading coefficient is not 0.
 use Prim.Native.Nat.{ℕ, zero, suc, _+_ as _+ₙ_, _-_ as _-ₙ_, _≤_, _<_}
 use native.Mathlib.Omega.{arith}
-use mathlib.Core.Path.{_≡_, refl, sym, ap, ap₂, _∙_, subst}
+use mathlib.Core.Path.{_≡_, refl, sym, ap, _∙_}
 use mathlib.Core.Logic.{_⊎_, inl, inr, ⊎-elim}
-use mathlib.Core.List.{List, [], _∷_}
+use mathlib.Core.List.{List, []}
 use lib.ListN.{length}
-use Rattle.ring.specs.Ring.{CRing}
 use Rattle.ring.specs.Order.{le-or-lt}
-use Rattle.ring.specs.Series.{S, zerS, conv}
+use Rattle.ring.specs.Series.{zerS}
 use Rattle.algebra.specs.Field.{Field}
-use Rattle.algebra.specs.Polynomial.{F, Px, Deg, Monic, deg-below, deg-mul, deg-not-zero, deg-path, deg-scale, monic-deg}
+use Rattle.algebra.specs.Polynomial.{F, Px, Deg, Monic, deg-below, deg-mul, deg-path, deg-scale, monic-deg}
 use Rattle.definitions.specs.Field.{Ops}
-use Rattle.definitions.specs.Polynomials.{at, trim, size, deg, lead, scale, mul}
+use Rattle.definitions.specs.Polynomials.{at, trim, size, deg, scale, mul}
 use Rattle.bridge.specs.Model.{Model, series, series-nil}
-use Rattle.bridge.specs.Trim.{Trim, trim-nil, trim-none, below-size, size-le, series-trim, lead-some, lead-is}
+use Rattle.bridge.specs.Trim.{trim-nil, trim-none, below-size, size-le, series-trim, lead-some, lead-is}
 use Rattle.bridge.specs.Arithmetic.{series-mul, series-scale, trim-mul, trim-scale}
 use Rattle.bridge.specs.Lengths.{length-scale}
 
 module _ {A B : Type 0} {o : Ops A} (K : Field B) (M : Model o (K .scalars)) where
-  open Model M using (φ, φ-zer)
+  open Model M using (φ)
 
   pub deg-is : (l : List A) → deg o l ≡ length (trim o l) -ₙ 1
   unfolding deg size

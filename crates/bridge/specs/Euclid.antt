@@ -1,21 +1,20 @@
 -- Division and greatest common divisor of lists are the field's: the definitions take the steps of Euclid's recursion, so that Bezout's identity and divisibility carry over.
 use Prim.Native.Nat.{ℕ, zero, suc, _+_ as _+ₙ_, _-_ as _-ₙ_, _≤_, _<_}
 use native.Mathlib.Omega.{arith}
-use mathlib.Core.Path.{_≡_, refl, sym, ap, ap₂, _∙_, subst}
-use mathlib.Core.Logic.{_⊎_, inl, inr, ⊎-elim}
+use mathlib.Core.Path.{_≡_, sym, ap, _∙_, subst}
+use mathlib.Core.Logic.{⊎-elim}
 use mathlib.Core.List.{List, [], _∷_}
 use lib.ListN.{length}
-use Rattle.ring.specs.Ring.{CRing}
 use Rattle.ring.specs.Identity.{ring, ring-from, times, plus, quote}
 use Rattle.ring.specs.Order.{le-or-lt}
-use Rattle.ring.specs.Series.{S, Series, addS, conv, zerS, con}
+use Rattle.ring.specs.Series.{Series, addS, conv, zerS, con}
 use Rattle.algebra.specs.Field.{Field}
-use Rattle.algebra.specs.Polynomial.{F, Px, Deg}
+use Rattle.algebra.specs.Polynomial.{F, Px}
 use Rattle.algebra.specs.Divides.{Divides}
 use Rattle.algebra.specs.Division.{Division, quotient-deg}
 use Rattle.algebra.specs.Gcd.{IsGcd, gcd-base-zero, gcd-base, gcd-step, gcd-unique}
 use Rattle.definitions.specs.Field.{Ops}
-use Rattle.definitions.specs.Polynomials.{at, trim, lead, quo, rem, monic, gcd, bezout}
+use Rattle.definitions.specs.Polynomials.{trim, lead, quo, rem, monic, gcd}
 use Rattle.bridge.specs.Model.{Model, Inverts, series, series-nil}
 use Rattle.bridge.specs.Trim.{below-length, trim-nil, lead-is, lead-some}
 use Rattle.bridge.specs.Division.{series-quo-rem, rem-below, rem-less, rem-by-zero, trim-rem, trim-quo}

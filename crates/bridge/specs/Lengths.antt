@@ -1,11 +1,11 @@
 -- How long the results are: a bound on the degree gives a bound on the length, as no result has a zero at its end.
-use Prim.Native.Nat.{ℕ, zero, suc, _+_ as _+ₙ_, _≤_, _<_}
+use Prim.Native.Nat.{ℕ, zero, suc, _+_ as _+ₙ_, _≤_}
 use native.Mathlib.Omega.{arith}
-use mathlib.Core.Path.{_≡_, refl, sym, ap, ap₂, _∙_, subst}
-use mathlib.Core.List.{List, [], _∷_}
+use mathlib.Core.Path.{_≡_, sym, ap, _∙_, subst}
+use mathlib.Core.List.{List}
 use lib.ListN.{length}
 use Rattle.ring.specs.Ring.{CRing, mul-zer, neg-zer}
-use Rattle.ring.specs.Series.{S, addS, negS, conv}
+use Rattle.ring.specs.Series.{S, negS}
 use Rattle.ring.specs.Degree.{Below, below-add, below-conv, conv-none}
 use Rattle.definitions.specs.Field.{Ops}
 use Rattle.definitions.specs.Polynomials.{at, trim, add, sub, scale, mul}

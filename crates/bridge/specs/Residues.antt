@@ -3,7 +3,7 @@ use Prim.Native.Nat.{ℕ, zero, suc, _+_, _*_, _-_, _/_, _%_, _≤_, _<_}
 use native.Mathlib.Nat.{mod-lt, mod-eq-of-lt, mod-mod, mod-add-mod, add-mod-mod, mul-add-mod-self-left, div-add-mod, mul-assoc, mul-comm, mul-add, add-mod-right, mul-le-mul-right, lt-trans, eq-zero-or-pos}
 use native.Mathlib.Decide.{ℕ-discrete}
 use native.Mathlib.Omega.{arith}
-use mathlib.Core.Path.{_≡_, refl, sym, ap, ap₂, _∙_, subst}
+use mathlib.Core.Path.{_≡_, refl, sym, ap, _∙_, subst}
 use mathlib.Core.Logic.{_⊎_, inl, inr}
 use mathlib.Core.Bool.{Bool, true, false}
 use lib.Dec.{leb, eqb}
@@ -11,7 +11,7 @@ use borrow.Author.Tests.{leb-true, leb-false, eqb-true, eqb-false}
 use Rattle.ring.specs.Order.{le-or-lt}
 use Rattle.ring.specs.Residues.{Fq, FqRing, val-path, to, addF, mulF, negF, mod-mul-mod, mul-mod-mod}
 use Rattle.algebra.specs.Field.{Field}
-use Rattle.definitions.specs.Field.{Ops, modulo, inverseIn, inverse}
+use Rattle.definitions.specs.Field.{modulo, inverseIn, inverse}
 use Rattle.bridge.specs.Model.{Model, Inverts}
 use Rattle.bridge.specs.Coefficients.{Onto}
 use Rattle.bridge.specs.Prime.{Prime}
