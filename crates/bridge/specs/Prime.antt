@@ -1,6 +1,6 @@
 -- `oddPrime q` is true exactly for the odd primes below 4,096: of two factors of q one has a square of at most q, so that a number with no divisor up to 63 is prime.
 use Prim.Native.Nat.{ℕ, zero, suc, _+_, _*_, _/_, _%_, _≤_, _<_}
-use native.Mathlib.Nat.{mod-lt, div-add-mod, mul-mod-right, mul-le-mul, mul-le-mul-left, mul-le-mul-right, mul-lt-mul-of-pos-right, eq-or-lt-of-le, mul-comm, mod-eq-of-lt, mod-zero}
+use native.Mathlib.Nat.{mod-lt, div-add-mod, mul-mod-right, mul-le-mul, mul-le-mul-left, mul-le-mul-right, eq-or-lt-of-le, mul-comm, mod-eq-of-lt, mod-zero}
 use native.Mathlib.Omega.{arith}
 use mathlib.Core.Path.{_≡_, refl, sym, ap, _∙_, subst}
 use mathlib.Core.Logic.{_⊎_, inl, inr, ⊎-elim}
@@ -16,9 +16,6 @@ pub record OddPrime (q : ℕ) : Type 0 where
   pub prime : Prime q
   pub odd : q % 2 ≡ 1
   pub small : q < 4096
-
-pub prime-pos : (q : ℕ) → Prime q → 0 < q
-prime-pos q p = let h = p .two in omega arith
 
 -- ---- a prime has no divisor but 1 and itself
 pub prime-divisor : (q : ℕ) → Prime q → (d : ℕ) → q % d ≡ 0 → (d ≡ 1) ⊎ (d ≡ q)

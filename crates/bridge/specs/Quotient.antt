@@ -1,26 +1,26 @@
 -- Quotient and remainder of lists are the only ones: so they depend on the polynomials alone, whatever zeros stand at the end. Their lengths.
-use Prim.Native.Nat.{ℕ, zero, suc, _+_ as _+ₙ_, _-_ as _-ₙ_, _≤_, _<_}
+use Prim.Native.Nat.{ℕ, zero, _+_ as _+ₙ_, _-_ as _-ₙ_, _≤_, _<_}
 use native.Mathlib.Omega.{arith}
 use mathlib.Core.Path.{_≡_, refl, sym, ap, ap₂, _∙_, fun-ext, subst}
-use mathlib.Core.Logic.{_⊎_, inl, inr, ⊎-elim}
+use mathlib.Core.Logic.{⊎-elim}
 use mathlib.Core.List.{List, [], _∷_}
 use lib.ListN.{length, drop}
 use lib.Seq.{getD-drop}
-use Rattle.ring.specs.Ring.{CRing, mul-zer, neg-zer, eq-of-sub}
+use Rattle.ring.specs.Ring.{CRing, neg-zer, eq-of-sub}
 use Rattle.ring.specs.Identity.{ring, ring-from, times, plus, quote}
 use Rattle.ring.specs.Order.{le-or-lt}
 use Rattle.ring.specs.Series.{S, Series, addS, conv, negS, zerS, con}
 use Rattle.ring.specs.Degree.{Below, below-add}
 use Rattle.ring.specs.Division.{no-quo}
 use Rattle.definitions.specs.Field.{Ops}
-use Rattle.definitions.specs.Polynomials.{Split, at, trim, put, divide, lead, quo, rem}
-use Rattle.bridge.specs.Model.{Model, Inverts, Oks, series, series-nil}
-use Rattle.bridge.specs.Trim.{Trim, trim-idem, trim-none, trim-nil, below-length, below-size, length-le, size-series, size-is, series-trim, series-ext, lead-some, lead-none, lead-is, lead-trim}
+use Rattle.definitions.specs.Polynomials.{at, trim, divide, lead, quo, rem}
+use Rattle.bridge.specs.Model.{Model, Inverts, series}
+use Rattle.bridge.specs.Trim.{trim-idem, trim-none, trim-nil, below-length, below-size, length-le, size-series, series-trim, series-ext, lead-some, lead-none, lead-is, lead-trim}
 use Rattle.bridge.specs.Division.{trim-rem, trim-quo, oks-rem, oks-quo, series-quo-rem, rem-by-zero, rem-below, rem-less}
 use Rattle.bridge.specs.Stages.{quo-drop, divide-low-quo, divide-low-rem, divide-none-quo}
 
 module _ {A B : Type 0} {o : Ops A} {R : CRing B} (M : Model o R) where
-  open Model M using (φ, φ-zer, φ-mul, Ok, inj, ok-zer)
+  open Model M using (φ)
 
   zero-at : (i : ℕ) → zerS R i ≡ R .zer
   unfolding zerS
