@@ -1,0 +1,3 @@
+pub mod Surd
+pub mod Fraction
+pub mod Walk
