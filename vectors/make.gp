@@ -287,7 +287,7 @@ combine(w, a, y, b, z) =
 fields = [[3, 2, 1], [3, 4, 4], [5, 4, 2], [7, 4, 2], [101, 4, 1], [3, 6, 4], [5, 6, 2], [31, 6, 1], [3, 8, 4], [7, 8, 2], [101, 8, 1], [4093, 8, 1], [5, 10, 1], [13, 12, 1], [1009, 16, 1], [3, 18, 1], [4091, 20, 1], [3, 32, 1], [4093, 64, 1]];
 
 \\ A distance: mostly small, 0 or the largest allowed now and then.
-away() = if (random(8) == 0, 2^40 - random(2), random(200) * (random(5) > 0));
+away() = if (random(8) == 0, 2^40 - random(2), if (random(5) < 3, random(200)));
 
 products() =
 {
