@@ -18,8 +18,9 @@ use Rattle.definitions.specs.Walk.{pBefore, sBefore, degreeBefore}
 use Rattle.definitions.specs.Walk as lists
 use Rattle.bridge.specs.Model.{Model, Oks, series, series-nil}
 use Rattle.bridge.specs.Trim.{Trim, size-is}
+use Rattle.bridge.specs.Degree.{deg-size}
 use Rattle.bridge.specs.Arithmetic.{oks-nil, oks-add, trim-add, series-add, series-mul}
-use Rattle.laws.specs.Surd.{Surd, deg-size, deg-length, series-one, trim-one, oks-one}
+use Rattle.laws.specs.Surd.{Surd, deg-length, series-one, trim-one, oks-one}
 use Rattle.laws.specs.Fraction.{fraction, Q-some}
 
 module _ {A B : Type 0} {o : Ops A} {K : Field B} {M : Model o (F K)} {g : ℕ} {D d : List A} (h : Surd K M g D d) where
@@ -108,7 +109,7 @@ module _ {A B : Type 0} {o : Ops A} {K : Field B} {M : Model o (F K)} {g : ℕ} 
   -- ---- degrees
   pub degree-distance : (i : ℕ) → degreeBefore o D d i ≡ distance K (fraction h) i
   unfolding degreeBefore deg
-  degree-distance i = let e = deg-size K M (p i) _ (deg-path K _ (sym (p-series i)) (p-deg K (fraction h) i)) in let k = size-is M (p i) in omega arith
+  degree-distance i = let e = deg-size K M (p i) (deg-path K _ (sym (p-series i)) (p-deg K (fraction h) i)) in let k = size-is M (p i) in omega arith
 
   pub p-length : (i : ℕ) → length (p i) ≡ suc (degreeBefore o D d i)
   p-length i = deg-length K M (p i) _ (p-trim i) (deg-path K _ (sym (p-series i)) (p-deg K (fraction h) i)) ∙ ap suc (sym (degree-distance i))

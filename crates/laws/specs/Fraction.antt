@@ -14,10 +14,11 @@ use Rattle.surd.specs.WalkOf.{Computed, walk-of}
 use Rattle.definitions.specs.Field.{Ops}
 use Rattle.definitions.specs.Polynomials.{add, mul, rem}
 use Rattle.definitions.specs.Walk as lists
-use Rattle.laws.specs.Surd.{Surd, deg-size, deg-length, series-one, Q-zero, P-zero, a-is, P-suc, Q-suc, Q-trim}
+use Rattle.laws.specs.Surd.{Surd, deg-length, series-one, Q-zero, P-zero, a-is, P-suc, Q-suc, Q-trim}
 use Rattle.laws.specs.Surd as surd
 use Rattle.bridge.specs.Model.{Model, series, series-nil}
 use Rattle.bridge.specs.Trim.{below-length}
+use Rattle.bridge.specs.Degree.{deg-size}
 use Rattle.bridge.specs.Arithmetic.{series-add, series-sub, series-mul}
 use Rattle.bridge.specs.Division.{series-quo-rem, rem-below}
 
@@ -69,7 +70,7 @@ module _ {A B : Type 0} {o : Ops A} {K : Field B} {M : Model o (F K)} {g : ℕ} 
   P-step i = ap (series M) (P-suc s i) ∙ series-sub M (mul o (a i) (Q i)) (P i) ∙ ap (λ (f : Px K). f - series M (P i)) (series-mul M (a i) (Q i))
 
   pub rem-low : (f h : List A) (n : ℕ) → Deg K (series M h) n → Low K (series M (rem o f h)) n
-  rem-low f h n u i k = let e = deg-size K M h n u in rem-below M (s .inverts) f h (omega arith) i (omega arith)
+  rem-low f h n u i k = let e = deg-size K M h u in rem-below M (s .inverts) f h (omega arith) i (omega arith)
 
   abbrev computed : Computed K root
   computed = record {

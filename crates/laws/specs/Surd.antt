@@ -1,12 +1,9 @@
 -- √D of lists: d is the root of D, and D is not a square. The degree of a list's polynomial by its length, the list of 1, and the definitions of the walk as they are read.
-use Prim.Native.Nat.{ℕ, zero, suc, _≤_}
-use native.Mathlib.Omega.{arith}
+use Prim.Native.Nat.{ℕ, zero, suc}
 use mathlib.Core.Path.{_≡_, refl, sym, ap, _∙_, fun-ext, subst}
 use mathlib.Core.Bool.{Bool, true, false}
-use mathlib.Core.Logic.{⊎-elim}
 use mathlib.Core.List.{List, [], _∷_}
 use lib.ListN.{length}
-use Rattle.ring.specs.Order.{le-or-lt}
 use Rattle.ring.specs.Series.{con}
 use Rattle.algebra.specs.Field.{Field}
 use Rattle.algebra.specs.Polynomial.{F, Deg}
@@ -17,19 +14,14 @@ use Rattle.definitions.specs.Polynomials.{keep, trim, add, sub, mul, quo, rem}
 use Rattle.definitions.specs.Walk.{partial, nextP, next, steps, walk}
 use Rattle.definitions.specs.Walk as lists
 use Rattle.bridge.specs.Model.{Model, Inverts, Oks, series}
-use Rattle.bridge.specs.Trim.{Trim, below-size, size-le}
+use Rattle.bridge.specs.Trim.{Trim}
+use Rattle.bridge.specs.Degree.{deg-size}
 use Rattle.bridge.specs.Arithmetic.{oks-nil, oks-sub, trim-sub}
 use Rattle.bridge.specs.Division.{oks-quo, oks-rem, trim-quo, trim-rem}
 
--- the degree of a list's polynomial, by its length without zeros at the end
 module _ {A B : Type 0} {o : Ops A} (K : Field B) (M : Model o (F K)) where
-  pub deg-size : (l : List A) (n : ℕ) → Deg K (series M l) n → length (trim o l) ≡ suc n
-  deg-size l n t =
-      let h : length (trim o l) ≤ suc n = size-le M l (suc n) (t .low) in
-      ⊎-elim (λ k. absurd (t .top (below-size M l n k))) (λ k. omega arith) (le-or-lt (length (trim o l)) n)
-
   pub deg-length : (l : List A) (n : ℕ) → Trim M l → Deg K (series M l) n → length l ≡ suc n
-  deg-length l n e t = ap length (sym e) ∙ deg-size l n t
+  deg-length l n e t = ap length (sym e) ∙ deg-size K M l t
 
   pub series-one : series M (o .one ∷ []) ≡ con (F K) (F K .one)
   unfolding con
