@@ -3,3 +3,6 @@ pub mod Pad
 pub mod Held
 pub mod Places
 pub mod Linear
+pub mod Row
+pub mod Dots
+pub mod Divided
