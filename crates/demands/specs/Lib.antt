@@ -1,0 +1,3 @@
+pub mod Sentences
+pub mod Tests
+pub mod Readings
