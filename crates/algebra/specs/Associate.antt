@@ -1,15 +1,15 @@
 -- Associates: polynomials that differ by a constant factor other than 0, f = c g. They have the same degree, the same multiples and the same divisors.
-use Prim.Native.Nat.{ℕ, zero, suc, _+_ as _+ₙ_, _-_ as _-ₙ_, _≤_, _<_}
+use Prim.Native.Nat.{ℕ, _-_ as _-ₙ_}
 use native.Mathlib.Omega.{arith}
 use mathlib.Core.Path.{_≡_, refl, sym, ap, _∙_, subst}
-use mathlib.Core.List.{List, [], _∷_}
-use Rattle.ring.specs.Ring.{CRing, eq-of-sub, zer-mul, mul-zer}
+use mathlib.Core.List.{[], _∷_}
+use Rattle.ring.specs.Ring.{CRing, eq-of-sub}
 use Rattle.ring.specs.Identity.{ring, ring-from, times, plus, quote}
 use Rattle.ring.specs.Series.{Series, con}
 use Rattle.ring.specs.Division.{below-con}
 use Rattle.algebra.specs.Field.{Field, some-mul, some-inv}
-use Rattle.algebra.specs.Polynomial.{F, Px, _≺_ as Low, Deg, Monic, low-up, low-sub, low-scale, low-one, cancel, deg-path, deg-scale, deg-unique, con-mul, con-inv, monic-of, monic-deg}
-use Rattle.algebra.specs.Divides.{Divides, divides-refl, divides-trans, divides-le, divides-by-deg, divides-monic}
+use Rattle.algebra.specs.Polynomial.{F, Px, _≺_ as Low, Deg, Monic, low-sub, low-scale, low-one, cancel, deg-path, deg-scale, con-mul, con-inv}
+use Rattle.algebra.specs.Divides.{Divides, divides-trans, divides-le, divides-by-deg, divides-monic}
 
 module _ {A : Type 0} (K : Field A) where
   open CRing (Series (F K)) using (add as _+_, mul as _*_, neg as -_, zer as 𝟘, one as 𝟙)

@@ -1,12 +1,12 @@
 -- Coprime polynomials over a field: u a + v b = 1. What divides a product and is coprime to a factor divides the other (G5); squares of coprime polynomials are coprime (G6).
 -- Each is the equation u a + v b = 1 multiplied by what is to be divided.
-use Prim.Native.Nat.{ℕ, zero, suc, _+_ as _+ₙ_, _≤_, _<_}
+use Prim.Native.Nat.{ℕ, _+_ as _+ₙ_}
 use native.Mathlib.Omega.{arith}
-use mathlib.Core.Path.{_≡_, refl, sym, ap, _∙_, subst}
-use mathlib.Core.Logic.{_⊎_, inl, inr, ⊎-elim}
-use mathlib.Core.List.{List, [], _∷_}
+use mathlib.Core.Path.{_≡_, sym, _∙_}
+use mathlib.Core.Logic.{inr}
+use mathlib.Core.List.{[], _∷_}
 use Rattle.ring.specs.Ring.{CRing, eq-of-sub}
-use Rattle.ring.specs.Identity.{ring, ring-from, times, plus, quote}
+use Rattle.ring.specs.Identity.{ring-from, times, plus, quote}
 use Rattle.ring.specs.Series.{Series}
 use Rattle.algebra.specs.Field.{Field}
 use Rattle.algebra.specs.Polynomial.{F, Px, _≺_ as Low, Deg, low-up, low-add, low-sub, low-product, one-low, cancel, monic-one}

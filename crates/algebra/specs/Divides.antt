@@ -1,16 +1,15 @@
 -- Divisibility of polynomials over a field. `Divides f g`: f times a polynomial is g. Sums and multiples; degrees of divisors (Z9); a multiple below its divisor's degree is 0 (Z7).
 -- Everything on degrees comes from the degree of a product.
-use Prim.Native.Nat.{ℕ, zero, suc, _+_ as _+ₙ_, _-_ as _-ₙ_, _≤_, _<_}
+use Prim.Native.Nat.{ℕ, _+_ as _+ₙ_, _-_ as _-ₙ_, _≤_, _<_}
 use native.Mathlib.Omega.{arith}
-use mathlib.Core.Path.{_≡_, refl, sym, ap, ap₂, _∙_, subst}
-use mathlib.Core.Logic.{_⊎_, inl, inr, ⊎-elim}
-use mathlib.Core.List.{List, [], _∷_}
+use mathlib.Core.Path.{_≡_, refl, sym, _∙_, subst}
+use mathlib.Core.Logic.{⊎-elim}
+use mathlib.Core.List.{[], _∷_}
 use Rattle.ring.specs.Ring.{CRing, eq-of-sub}
 use Rattle.ring.specs.Identity.{ring, ring-from, times, plus, quote}
 use Rattle.ring.specs.Series.{Series}
-use Rattle.ring.specs.Degree.{lead-conv}
 use Rattle.algebra.specs.Field.{Field}
-use Rattle.algebra.specs.Polynomial.{F, Px, _≺_ as Low, Deg, Monic, low-up, low-add, low-neg, low-sub, low-product, low-zero, low-none, low-path, low-quotient, one-low, degree, deg-mul, deg-factor, deg-path, deg-not-zero, monic-deg, monic-sub}
+use Rattle.algebra.specs.Polynomial.{F, Px, _≺_ as Low, Deg, Monic, low-up, low-add, low-neg, low-sub, low-product, low-zero, low-none, low-path, low-quotient, one-low, degree, deg-factor, deg-path, deg-not-zero, monic-deg, monic-sub}
 
 module _ {A : Type 0} (K : Field A) where
   open CRing (Series (F K)) using (add as _+_, mul as _*_, neg as -_, zer as 𝟘, one as 𝟙)

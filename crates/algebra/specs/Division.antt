@@ -1,16 +1,16 @@
 -- Division with remainder over a field (Z6, Z8): f = q g + r with r under the degree of g. It exists, it is one, and its remainder only depends on f modulo g.
 -- Existence is division by a unit leading coefficient; uniqueness is the bound of a quotient.
-use Prim.Native.Nat.{ℕ, zero, suc, _+_ as _+ₙ_, _-_ as _-ₙ_, _≤_, _<_}
+use Prim.Native.Nat.{ℕ, _+_ as _+ₙ_, _-_ as _-ₙ_, _≤_}
 use native.Mathlib.Omega.{arith}
-use mathlib.Core.Path.{_≡_, refl, sym, ap, ap₂, _∙_, subst}
-use mathlib.Core.List.{List, [], _∷_}
+use mathlib.Core.Path.{_≡_, sym, ap, _∙_}
+use mathlib.Core.List.{[], _∷_}
 use Rattle.ring.specs.Ring.{CRing, neg-zer, eq-of-sub}
 use Rattle.ring.specs.Identity.{ring, ring-from, times, plus, quote}
 use Rattle.ring.specs.Series.{Series, addS, negS, con}
 use Rattle.ring.specs.Degree.{lead-conv}
 use Rattle.ring.specs.Division.{Quotient, divide}
 use Rattle.algebra.specs.Field.{Field}
-use Rattle.algebra.specs.Polynomial.{F, Px, _≺_ as Low, Deg, low-up, low-add, low-neg, low-sub, low-zero, low-scale, cancel, deg-dominant, deg-factor, deg-path, con-inv}
+use Rattle.algebra.specs.Polynomial.{F, Px, _≺_ as Low, Deg, equal?, low-up, low-add, low-neg, low-sub, low-zero, low-scale, low-path, low-quotient, cancel, deg-dominant, deg-factor, deg-path, con-inv}
 use Rattle.algebra.specs.Divides.{Divides, divides-zero, divides-sub, divides-multiple, divides-path, rigid}
 
 module _ {A : Type 0} (K : Field A) where
@@ -36,6 +36,9 @@ module _ {A : Type 0} (K : Field A) where
   pub division : (n : ℕ) (f g : Px K) (d : ℕ) → f ≺ n → Deg K g d → Division f g n d
   division n f g d h t = divide (F K) n f g d (K .inv (g d)) (K .inv-mul (g d) (t .top)) (t .low) (low-up K f (omega arith) h)
 
+  pub divides-of-remainder : {f g : Px K} {n d : ℕ} (a : Division f g n d) → a .rem ≡ 𝟘 → Divides K g f
+  divides-of-remainder {f} {g} {n} a e = record { by = a .quo; size = n; low = a .quo-low; is = ring-from R[x] (f ∷ g ∷ a .quo ∷ a .rem ∷ []) (plus R[x] (times R[x] 𝟙 (a .is)) (times R[x] 𝟙 e)) (search quote depth 40 fits 9999) tt }
+
   module _ {g : Px K} {d : ℕ} (t : Deg K g d) where
     -- the remainder depends on f modulo g only
     pub remainder-congruent : {f f′ : Px K} {n n′ : ℕ} → Divides K g (f - f′) → (a : Division f g n d) (b : Division f′ g n′ d) → a .rem ≡ b .rem
@@ -60,6 +63,29 @@ module _ {A : Type 0} (K : Field A) where
       where
         none : Division f g 0 d
         none = record { quo = 𝟘; rem = f; is = ring R[x] (f ∷ g ∷ []) (search quote depth 40 fits 9999) tt; quo-low = low-zero K 0; rem-low = h }
+
+    -- ---- exact division
+    pub remainder-zero : {f : Px K} {n : ℕ} → Divides K g f → (a : Division f g n d) → a .rem ≡ 𝟘
+    remainder-zero {f} c a = remainder-congruent (divides-path K same c) a none
+      where
+        same : f ≡ f - 𝟘
+        same = ring R[x] (f ∷ []) (search quote depth 40 fits 9999) tt
+
+        none : Division 𝟘 g 0 d
+        none = record { quo = 𝟘; rem = 𝟘; is = ring R[x] (g ∷ []) (search quote depth 40 fits 9999) tt; quo-low = low-zero K 0; rem-low = low-zero K d }
+
+    pub divides? : {f : Px K} (n : ℕ) → f ≺ n → Dec (Divides K g f)
+    divides? {f} n h = elim (equal? K d (s .rem) 𝟘 (s .rem-low) (low-zero K d)) [ yes e ↦ yes (divides-of-remainder s e) | no e ↦ no (λ c. e (remainder-zero c s)) ]
+      where
+        s : Division f g n d
+        s = division n f g d h t
+
+    -- the quotient's bound
+    pub quotient-low : {f : Px K} {k : ℕ} (n : ℕ) → f ≺ n → (a : Division f g k d) → a .quo ≺ n -ₙ d
+    quotient-low {f} {k} n h a = low-quotient K k (a .quo) g (n -ₙ d) d t (a .quo-low) (low-path K ((n -ₙ d) +ₙ d) is (low-sub K f (a .rem) _ (low-up K f (omega arith) h) (low-up K (a .rem) (omega arith) (a .rem-low))))
+      where
+        is : f - a .rem ≡ a .quo * g
+        is = ring-from R[x] (f ∷ a .quo ∷ a .rem ∷ g ∷ []) (times R[x] 𝟙 (a .is)) (search quote depth 40 fits 9999) tt
 
     -- ---- the quotient's degree and leading coefficient
     module _ {f : Px K} {m n : ℕ} (u : Deg K f m) (le : d ≤ m) (a : Division f g n d) where

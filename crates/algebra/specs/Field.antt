@@ -1,8 +1,8 @@
 -- A field in which 2 is not 0: a commutative ring, inverses, and a test for 0.
-use mathlib.Core.Path.{_≡_, refl, sym, ap, ap₂, _∙_}
-use mathlib.Core.List.{List, [], _∷_}
-use Rattle.ring.specs.Ring.{CRing, mul-zer, zer-mul}
-use Rattle.ring.specs.Identity.{ring, ring-from, times, plus, quote}
+use mathlib.Core.Path.{_≡_, sym, ap, _∙_}
+use mathlib.Core.List.{[], _∷_}
+use Rattle.ring.specs.Ring.{CRing, zer-mul}
+use Rattle.ring.specs.Identity.{ring-from, times, plus, quote}
 
 pub record Field (A : Type 0) : Type 0 where
   pub scalars : CRing A

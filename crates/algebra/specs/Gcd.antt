@@ -1,17 +1,17 @@
 -- Greatest common divisors of polynomials over a field. `IsGcd A B G`: G divides A and B, is a combination of them (Bezout), and is 0 or monic.
 -- It exists for all A and B, the zero polynomial among them, by Euclid's recursion: the bound of the second polynomial falls. It is one, and every common divisor divides it.
-use Prim.Native.Nat.{ℕ, zero, suc, _+_ as _+ₙ_, _≤_, _<_}
+use Prim.Native.Nat.{ℕ, zero, suc, _+_ as _+ₙ_, _<_}
 use native.Mathlib.Omega.{arith}
-use mathlib.Core.Path.{_≡_, refl, sym, ap, _∙_, subst}
+use mathlib.Core.Path.{_≡_, refl, sym, _∙_, subst}
 use mathlib.Core.Logic.{_⊎_, inl, inr, ⊎-elim}
-use mathlib.Core.List.{List, [], _∷_}
+use mathlib.Core.List.{[], _∷_}
 use Rattle.ring.specs.Ring.{CRing}
 use Rattle.ring.specs.Identity.{ring, ring-from, times, plus, quote}
 use Rattle.ring.specs.Series.{Series, con}
-use Rattle.ring.specs.Division.{Quotient, below-con}
+use Rattle.ring.specs.Division.{below-con}
 use Rattle.algebra.specs.Field.{Field}
-use Rattle.algebra.specs.Polynomial.{F, Px, _≺_ as Low, Deg, Monic, low-up, low-add, low-sub, low-product, low-zero, low-none, low-path, one-low, degree, con-inv, monic-of}
-use Rattle.algebra.specs.Divides.{Divides, divides-refl, divides-zero, zero-divides, divides-path, divides-add, divides-mulˡ, divides-monic}
+use Rattle.algebra.specs.Polynomial.{F, Px, _≺_ as Low, Deg, Monic, low-up, low-sub, low-product, low-zero, low-none, low-path, degree, con-inv, monic-of}
+use Rattle.algebra.specs.Divides.{Divides, divides-zero, zero-divides, divides-path, divides-add, divides-mulˡ, divides-monic}
 use Rattle.algebra.specs.Division.{Division, division}
 
 module _ {A : Type 0} (K : Field A) where
@@ -56,7 +56,7 @@ module _ {A : Type 0} (K : Field A) where
     form = inl refl;
   }
 
-  pub gcd-base : (a : Px K) (n : ℕ) → Deg K a n → IsGcd a 𝟘 (con (F K) (K .inv (a n)) * a)
+  unfoldable pub gcd-base : (a : Px K) (n : ℕ) → Deg K a n → IsGcd a 𝟘 (con (F K) (K .inv (a n)) * a)
   gcd-base a n t = record {
     left = record {
       by = con (F K) (a n);
@@ -75,7 +75,7 @@ module _ {A : Type 0} (K : Field A) where
   }
 
   -- the gcd of b and the remainder of a by b is that of a and b
-  pub gcd-step : {b r g : Px K} (a q : Px K) (k : ℕ) → q ≺ k → a ≡ q * b + r → IsGcd b r g → IsGcd a b g
+  unfoldable pub gcd-step : {b r g : Px K} (a q : Px K) (k : ℕ) → q ≺ k → a ≡ q * b + r → IsGcd b r g → IsGcd a b g
   gcd-step {b} {r} {g} a q k h e i = record {
     left = divides-path K (sym e) (divides-add K (divides-mulˡ K q k h (i .left)) (i .right));
     right = i .left;
@@ -89,8 +89,26 @@ module _ {A : Type 0} (K : Field A) where
   }
 
   -- ---- existence
-  gcd-with-zero : (m : ℕ) (a b : Px K) → a ≺ m → b ≡ 𝟘 → (g : Px K) × IsGcd a b g
-  gcd-with-zero m a b h e = subst (λ c. (g : Px K) × IsGcd a c g) (sym e) (⊎-elim none some (degree K m a h))
+  -- Euclid's recursion: what holds of every (a, 0), and of (a, b) where it holds of b and the remainder of a by b, holds of every pair
+  pub euclid : (P : Px K → Px K → Type 0)
+      → ((a : Px K) (m : ℕ) → a ≺ m → P a 𝟘)
+      → ((a b : Px K) (m d : ℕ) → a ≺ m → Deg K b d → (s : Division K a b m d) → P b (s .rem) → P a b)
+      → (a b : Px K) (m n : ℕ) → a ≺ m → b ≺ n → P a b
+  euclid P base step a b m zero ha hb = subst (P a) (sym (low-none K b hb)) (base a m ha)
+  euclid P base step a b m (suc n) ha hb = call (λ r h. euclid P base step b r (suc n) n hb h)
+    where
+      -- one call of the recursion, where the calls on remainders are given
+      call : ((r : Px K) → r ≺ n → P b r) → P a b
+      call rest = ⊎-elim (λ z. subst (P a) (sym z) (base a m ha)) some (degree K (suc n) b hb)
+        where
+          some : (d : ℕ) × (d < suc n) × Deg K b d → P a b
+          some t = step a b m (t .0) ha (t .2) s (rest (s .rem) (low-up K (s .rem) (omega (arith, t .1)) (s .rem-low)))
+            where
+              s : Division K a b m (t .0)
+              s = division K m a b (t .0) ha (t .2)
+
+  gcd-with-zero : (a : Px K) (m : ℕ) → a ≺ m → (g : Px K) × IsGcd a 𝟘 g
+  gcd-with-zero a m h = ⊎-elim none some (degree K m a h)
     where
       none : a ≡ 𝟘 → (g : Px K) × IsGcd a 𝟘 g
       none z = (𝟘, subst (λ c. IsGcd c 𝟘 𝟘) (sym z) gcd-base-zero)
@@ -98,25 +116,8 @@ module _ {A : Type 0} (K : Field A) where
       some : (k : ℕ) × (k < m) × Deg K a k → (g : Px K) × IsGcd a 𝟘 g
       some r = (con (F K) (K .inv (a (r .0))) * a, gcd-base a (r .0) (r .2))
 
-  -- one call of the recursion, where the calls on remainders are given
-  gcd-call : (n m : ℕ) (a b : Px K) → a ≺ m → b ≺ suc n → ((r : Px K) → r ≺ n → (g : Px K) × IsGcd b r g) → (g : Px K) × IsGcd a b g
-  gcd-call n m a b ha hb rest = ⊎-elim (gcd-with-zero m a b ha) some (degree K (suc n) b hb)
-    where
-      some : (k : ℕ) × (k < suc n) × Deg K b k → (g : Px K) × IsGcd a b g
-      some t = (next .0, gcd-step a (s .quo) m (s .quo-low) (s .is) (next .1))
-        where
-          s : Division K a b m (t .0)
-          s = division K m a b (t .0) ha (t .2)
-
-          le : t .0 ≤ n
-          le = omega (arith, t .1)
-
-          next : (g : Px K) × IsGcd b (s .rem) g
-          next = rest (s .rem) (low-up K (s .rem) le (s .rem-low))
-
   pub gcd-exists : (a b : Px K) (m n : ℕ) → a ≺ m → b ≺ n → (g : Px K) × IsGcd a b g
-  gcd-exists a b m zero ha hb = gcd-with-zero m a b ha (low-none K b hb)
-  gcd-exists a b m (suc n) ha hb = gcd-call n m a b ha hb (λ r h. gcd-exists b r (suc n) n hb h)
+  gcd-exists = euclid (λ a b. (g : Px K) × IsGcd a b g) gcd-with-zero (λ a b m d h t s r. (r .0, gcd-step a (s .quo) m (s .quo-low) (s .is) (r .1)))
 
   -- ---- what a gcd is
   pub gcd-swap : {a b g : Px K} → IsGcd a b g → IsGcd b a g

@@ -9,6 +9,7 @@ pub mod Fermat
 pub mod Field
 pub mod Frobenius
 pub mod Gcd
+pub mod GcdSize
 pub mod Multiple
 pub mod Polynomial
 pub mod PowerRoot

@@ -1,14 +1,14 @@
 -- Polynomials over a field, as series that are 0 from some place on: `f ≺ n`, of degree under n; `Deg f n`, of degree n; `Monic f n`, with 1 for its leading coefficient.
 -- Sums, products, dominance (Z2 to Z4) and the bound of a quotient (Z5), which rests on leading coefficients having inverses.
-use Prim.Native.Nat.{ℕ, zero, suc, _+_ as _+ₙ_, _-_ as _-ₙ_, _≤_, _<_, zero-le, suc-le-suc}
+use Prim.Native.Nat.{ℕ, zero, suc, _+_ as _+ₙ_, _-_ as _-ₙ_, _≤_, _<_, zero-le}
 use native.Mathlib.Nat.{eq-or-lt-of-le}
 use native.Mathlib.Omega.{arith}
 use mathlib.Core.Path.{_≡_, refl, sym, ap, ap₂, _∙_, fun-ext, subst}
 use mathlib.Core.Logic.{_⊎_, inl, inr, ⊎-elim}
-use mathlib.Core.List.{List, [], _∷_}
-use Rattle.ring.specs.Ring.{CRing, zer-add, mul-zer, zer-mul, neg-zer, eq-of-sub}
-use Rattle.ring.specs.Identity.{ring, ring-from, times, plus, quote}
-use Rattle.ring.specs.Series.{S, Series, addS, conv, negS, zerS, con, conv-con}
+use mathlib.Core.List.{[], _∷_}
+use Rattle.ring.specs.Ring.{CRing, mul-zer, neg-zer, eq-of-sub}
+use Rattle.ring.specs.Identity.{ring-from, times, quote}
+use Rattle.ring.specs.Series.{S, Series, addS, negS, zerS, con, conv-con}
 use Rattle.ring.specs.Order.{le-or-lt}
 use Rattle.ring.specs.Degree.{Below, below-add, below-conv, lead-conv}
 use Rattle.ring.specs.Division.{below-con}
@@ -200,6 +200,15 @@ module _ {A : Type 0} (K : Field A) where
     low = low-up (f * g) (omega arith) (low-mul f g (suc m) n (h .low) (k .low));
     top = lead-conv F m n f g (h .low) (k .low) ∙ ap₂ (F .mul) (h .top) (k .top) ∙ F .mul-one (F .one);
   }
+
+  pub monic-factor : (k : ℕ) (f g : Px) (m d : ℕ) → f ≺ k → Monic g d → Monic (f * g) m → (d ≤ m) × Monic f (m -ₙ d)
+  monic-factor k f g m d b h e = (t .0, record { low = t .1 .low; top = sym (F .mul-one (f (m -ₙ d))) ∙ ap (F .mul (f (m -ₙ d))) (sym (h .top)) ∙ sym (lead-conv F (m -ₙ d) d f g (t .1 .low) (h .low)) ∙ ap (f * g) at ∙ e .top })
+    where
+      t : (d ≤ m) × Deg f (m -ₙ d)
+      t = deg-factor k f g m d b (monic-deg h) (monic-deg e)
+
+      at : (m -ₙ d) +ₙ d ≡ m
+      at = omega (arith, t .0)
 
   pub monic-dominant : (f h : Px) (n : ℕ) → Monic f n → h ≺ n → Monic (f + h) n
   unfolding addS

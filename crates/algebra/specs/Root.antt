@@ -2,10 +2,10 @@
 -- Each coefficient of d, from the top down, is half of what is left of D at its place.
 use Prim.Native.Nat.{ℕ, zero, suc, _+_ as _+ₙ_, _≤_, _<_}
 use native.Mathlib.Omega.{arith}
-use mathlib.Core.Path.{_≡_, refl, sym, ap, ap₂, _∙_, subst}
-use mathlib.Core.List.{List, [], _∷_}
+use mathlib.Core.Path.{_≡_, refl, sym, ap, ap₂, _∙_}
+use mathlib.Core.List.{[], _∷_}
 use Rattle.ring.specs.Ring.{CRing, eq-of-sub}
-use Rattle.ring.specs.Identity.{ring, ring-from, times, plus, quote}
+use Rattle.ring.specs.Identity.{ring, quote}
 use Rattle.ring.specs.Series.{Series, addS, negS}
 use Rattle.ring.specs.Degree.{lead-conv}
 use Rattle.ring.specs.Division.{mon, below-mon, lead-mon}

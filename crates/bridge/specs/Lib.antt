@@ -4,3 +4,10 @@ pub mod Arithmetic
 pub mod Division
 pub mod Prime
 pub mod Residues
+pub mod Stages
+pub mod Quotient
+pub mod Lengths
+pub mod Monic
+pub mod Gcd
+pub mod Bezout
+pub mod Product

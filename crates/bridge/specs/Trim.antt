@@ -98,6 +98,13 @@ module _ {A B : Type 0} {o : Ops A} {R : CRing B} (M : Model o R) where
   pub below-size : (l : List A) → Below R (series M l) (length (trim o l))
   below-size l i h = sym (trim-at l i) ∙ below-length (trim o l) i h
 
+  pub trim-nil : (l : List A) → length (trim o l) ≡ 0 → trim o l ≡ []
+  trim-nil l = go (trim o l)
+    where
+      go : (t : List A) → length t ≡ 0 → t ≡ []
+      go [] h = refl
+      go (a ∷ t) h = absurd (omega arith)
+
   pub trim-idem : (l : List A) → Trim (trim o l)
   unfolding trim
   trim-idem [] = refl

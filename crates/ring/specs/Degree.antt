@@ -1,10 +1,10 @@
--- Degrees of series: `Below f n` says that f is 0 from the exponent n on, so f is a polynomial of degree under n.
-use Prim.Native.Nat.{ℕ, zero, suc, _+_ as _+ₙ_, _≤_, _<_, zero-le, suc-le-suc}
+-- Degrees of series: `Below f n` says that f is 0 from the exponent n on, so f is a polynomial of degree under n. The bound and the leading coefficient of a product, by recursion on the first factor.
+use Prim.Native.Nat.{ℕ, zero, suc, _+_ as _+ₙ_, _≤_, zero-le, suc-le-suc}
 use native.Mathlib.Nat.{suc-add, zero-add}
 use native.Mathlib.Omega.{arith}
-use mathlib.Core.Path.{_≡_, refl, sym, ap, ap₂, _∙_, fun-ext}
-use Rattle.ring.specs.Ring.{CRing, zer-add, mul-zer, zer-mul}
-use Rattle.ring.specs.Series.{S, Series, addS, conv, negS, zerS, tail, conv-zeroˡ}
+use mathlib.Core.Path.{_≡_, refl, ap, ap₂, _∙_, fun-ext}
+use Rattle.ring.specs.Ring.{CRing, zer-add, mul-zer}
+use Rattle.ring.specs.Series.{S, addS, conv, zerS, tail, conv-zeroˡ}
 
 module _ {A : Type 0} (F : CRing A) where
   open CRing F using (add as _+_, mul as _*_, neg as -_, zer as 𝟘, one as 𝟙, add-zer)

@@ -1,14 +1,13 @@
 -- Monomials c x^k, and division with remainder by a polynomial whose leading coefficient has an inverse: the quotient's terms are found from the top down.
-use Prim.Native.Nat.{ℕ, zero, suc, _+_ as _+ₙ_, _-_ as _-ₙ_, _≤_, _<_, zero-le, suc-le-suc}
+use Prim.Native.Nat.{ℕ, zero, suc, _+_ as _+ₙ_, _-_ as _-ₙ_, _<_}
 use native.Mathlib.Nat.{zero-add as zero-addₙ, add-zero, suc-add as suc-addₙ, eq-or-lt-of-le}
-use native.Mathlib.Decide.{decLe}
 use native.Mathlib.Omega.{arith}
 use mathlib.Core.Path.{_≡_, refl, sym, ap, ap₂, _∙_, fun-ext}
-use mathlib.Core.Logic.{_⊎_, inl, inr, ⊎-elim}
-use mathlib.Core.List.{List, [], _∷_}
+use mathlib.Core.Logic.{⊎-elim}
+use mathlib.Core.List.{[], _∷_}
 use Rattle.ring.specs.Ring.{CRing, zer-add, mul-zer, zer-mul, neg-zer}
-use Rattle.ring.specs.Identity.{ring, ring-from, times, plus, quote}
-use Rattle.ring.specs.Series.{S, Series, addS, conv, negS, zerS, con, tail, conv-zeroˡ, conv-con}
+use Rattle.ring.specs.Identity.{ring, ring-from, times, quote}
+use Rattle.ring.specs.Series.{S, Series, addS, conv, negS, zerS, con, conv-con}
 use Rattle.ring.specs.Degree.{Below, below-add}
 
 module _ {A : Type 0} (F : CRing A) where

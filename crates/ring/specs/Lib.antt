@@ -1,5 +1,6 @@
 pub mod Degree
 pub mod Division
+pub mod Identities
 pub mod Identity
 pub mod Order
 pub mod Residues

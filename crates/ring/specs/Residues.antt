@@ -1,10 +1,9 @@
--- The integers mod q, over the native numbers: a number below q. A ring.
-use Prim.Native.Nat.{ℕ, zero, suc, _+_, _*_, _-_, _%_, _≤_, _<_}
-use native.Mathlib.Nat.{mod-lt, mod-eq-of-lt, mod-self, mod-mod, mod-add-mod, add-mod-mod, mul-add-mod-self-left, div-add-mod, add-assoc, add-comm, add-zero, mul-assoc, mul-comm, mul-one, mul-add, add-mul}
+-- The integers mod q as a ring: a number below q, with sums and products reduced. Each law is that of the numbers, with the inner `%` taken off.
+use Prim.Native.Nat.{ℕ, _+_, _*_, _-_, _%_, _/_, _<_}
+use native.Mathlib.Nat.{mod-lt, mod-eq-of-lt, mod-self, mod-add-mod, add-mod-mod, mul-add-mod-self-left, div-add-mod, add-assoc, add-comm, add-zero, mul-assoc, mul-comm, mul-one, mul-add, add-mul}
 use native.Mathlib.Bridge.{le-prop}
 use native.Mathlib.Omega.{arith}
-use Prim.Native.Nat.{_/_}
-use mathlib.Core.Path.{_≡_, refl, sym, ap, ap₂, _∙_}
+use mathlib.Core.Path.{_≡_, sym, ap, _∙_}
 use mathlib.Core.HLevel.{Σ-prop-path}
 use Rattle.ring.specs.Ring.{CRing}
 

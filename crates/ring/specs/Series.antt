@@ -1,10 +1,9 @@
--- Power series over a ring, as functions from exponents to coefficients; a polynomial is one that is 0 from some place on. A ring again.
-use Prim.Native.Nat.{ℕ, zero, suc, _+_ as _+ₙ_, _≤_, _<_, zero-le, suc-le-suc}
-use native.Mathlib.Omega.{arith}
+-- Power series over a ring, as functions from exponents to coefficients; a polynomial is one that is 0 from some place on. They are a ring again: the product recurses on its first factor.
+use Prim.Native.Nat.{ℕ, zero, suc}
 use mathlib.Core.Path.{_≡_, refl, sym, ap, ap₂, _∙_, fun-ext}
-use mathlib.Core.List.{List, [], _∷_}
-use Rattle.ring.specs.Ring.{CRing, zer-add, mul-zer, zer-mul}
-use Rattle.ring.specs.Identity.{ring, ring-from, times, plus, quote}
+use mathlib.Core.List.{[], _∷_}
+use Rattle.ring.specs.Ring.{CRing, zer-mul}
+use Rattle.ring.specs.Identity.{ring, quote}
 
 module _ {A : Type 0} (F : CRing A) where
   open CRing F using (add as _+_, mul as _*_, neg as -_, zer as 𝟘, one as 𝟙, add-assoc, add-comm, add-zer, add-neg, mul-one, mul-comm)

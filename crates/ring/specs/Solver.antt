@@ -6,7 +6,7 @@ use mathlib.Core.Path.{_≡_, refl, sym, ap, ap₂, _∙_, subst⁻¹}
 use mathlib.Core.List.{List, [], _∷_}
 use mathlib.Core.Bool.{Bool, true, false}
 use lib.Dec.{T, eqb, eqb→eq, isEq}
-use Rattle.ring.specs.Ring.{CRing, zer-add, one-mul, add-mul, add-left-comm, mul-left-comm, swap4, mswap4, mul-zer, zer-mul, neg-mul, mul-neg, neg-neg, neg-zer, neg-add, eq-of-sub}
+use Rattle.ring.specs.Ring.{CRing, zer-add, one-mul, add-mul, add-left-comm, swap4, mswap4, mul-zer, zer-mul, neg-mul, mul-neg, neg-neg, neg-zer, neg-add, eq-of-sub}
 
 -- ---- expressions
 infixl 6 _⊞_ _⊟_
@@ -238,6 +238,6 @@ module _ {A : Type 0} (R : CRing A) where
       go true e u k = ap₂ _+_ (ap (λ t. t * mono m ρ) (ap (λ t. nat t + (- nat n)) (eqb→eq p n (subst⁻¹ T e tt)) ∙ add-neg (nat n)) ∙ zer-mul R (mono m ρ)) (k u) ∙ add-zer 𝟘
       go false e u k = absurd u
 
-  -- ---- THE THEOREM: the two sides' difference has the normal form 0
+  -- ---- two sides whose difference has the normal form 0 are equal
   pub solve : (e₁ e₂ : Ex) (ρ : List A) → T (isZero (norm (e₁ ⊟ e₂))) → ⟦ e₁ ⟧ ρ ≡ ⟦ e₂ ⟧ ρ
   solve e₁ e₂ ρ h = eq-of-sub R (⟦ e₁ ⟧ ρ) (⟦ e₂ ⟧ ρ) (sym (norm-sound (e₁ ⊟ e₂) ρ) ∙ isZero-sound (norm (e₁ ⊟ e₂)) ρ h)

@@ -1,5 +1,5 @@
 -- The product of series as a sum over i ≤ n of f i g (n - i), and sums from either end: what a loop computes.
-use Prim.Native.Nat.{ℕ, zero, suc, _-_ as _-ₙ_, _≤_, _<_}
+use Prim.Native.Nat.{ℕ, zero, suc, _-_ as _-ₙ_}
 use native.Mathlib.Nat.{sub-zero, suc-sub-suc}
 use mathlib.Core.Path.{_≡_, refl, sym, ap, ap₂, _∙_, fun-ext}
 use Rattle.ring.specs.Ring.{CRing}

@@ -7,3 +7,9 @@ pub mod Distance
 pub mod Descent
 pub mod Units
 pub mod LeastDegree
+pub mod WalkOf
+pub mod Ideal
+pub mod Same
+pub mod Reflect
+pub mod Generators
+pub mod Classification

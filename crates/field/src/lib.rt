@@ -1,0 +1,52 @@
+// The field of q elements on coefficients below q, and which q are allowed.
+pub mod primes;
+
+ghost use mathlib.Core.Path.{_≡_};
+ghost use Prim.Native.Nat.{_<_};
+ghost use Rattle.definitions.specs.Field.{modulo};
+
+// The field of q elements, for q an odd prime below 4,096.
+pub struct Field {
+    pub q: u32,
+}
+
+pub fn add(f: Field, a: u32, b: u32) -> u32
+    requires { ⌜ (f .q < 4096) × (a < f .q) × (b < f .q) ⌝ }
+    ensures { λ r. ⌜ r ≡ modulo (f .q) .add a b ⌝ }
+{
+    (a + b) % f.q
+}
+
+pub fn sub(f: Field, a: u32, b: u32) -> u32
+    requires { ⌜ (f .q < 4096) × (a < f .q) × (b < f .q) ⌝ }
+    ensures { λ r. ⌜ r ≡ modulo (f .q) .sub a b ⌝ }
+{
+    (a + (f.q - b)) % f.q
+}
+
+pub fn neg(f: Field, a: u32) -> u32
+    requires { ⌜ (f .q < 4096) × (a < f .q) ⌝ }
+    ensures { λ r. ⌜ r ≡ modulo (f .q) .sub 0 a ⌝ }
+{
+    sub(f, 0, a)
+}
+
+pub fn mul(f: Field, a: u32, b: u32) -> u32
+    requires { ⌜ (f .q < 4096) × (a < f .q) × (b < f .q) ⌝ }
+    ensures { λ r. ⌜ r ≡ modulo (f .q) .mul a b ⌝ }
+{
+    a * b % f.q
+}
+
+// The inverse of a, and 0 for 0: 1/a is −(q div a) times 1/(q mod a).
+pub fn inverse(f: Field, a: u32) -> u32
+    requires { ⌜ (f .q < 4096) × (a < f .q) ⌝ }
+    ensures { λ r. ⌜ r ≡ modulo (f .q) .inv a ⌝ }
+{
+    let q = f.q;
+    if a <= 1 {
+        a
+    } else {
+        (q - q / a) * inverse(f, q % a) % q
+    }
+}

@@ -1,0 +1,1 @@
+// Sums, differences, multiples and the derivative.
