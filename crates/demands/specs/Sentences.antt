@@ -36,6 +36,13 @@ pub record AllowedPrime (q : ℕ) : Type 0 where
   pub more : 1 < q
   pub divisors : (d : ℕ) → q % d ≡ 0 → (d ≡ 1) ⊎ (d ≡ q)
 
+-- D = h²·e modulo q with h of degree 1 or more; h and e are lists of any length, of any numbers
+pub record SquareDivides (q : ℕ) (D : List ℕ) : Type 0 where
+  pub h : List ℕ
+  pub e : List ℕ
+  pub degree : 2 ≤ size (modulo q) h
+  pub product : trim (modulo q) D ≡ mul (modulo q) (mul (modulo q) h h) e
+
 module _ (w : List ℕ) where
   -- "1: fewer than 7 words, or word 0 isn't kind 1, or word 1 isn't kind 2"
   abbrev pub WrongHead : Type 0
@@ -65,13 +72,10 @@ module _ (w : List ℕ) where
   abbrev pub WrongLead : Type 0
   WrongLead = coefficient w (n w) ≢ 1
 
-  -- "7: the square of some polynomial of degree 1 or more divides D": D = h²·e modulo q, for lists h and e of any length of any numbers
-  pub record SquareDivides : Type 0 where
-    pub h : List ℕ
-    pub e : List ℕ
-    pub degree : 2 ≤ size (modulo (q w)) h
-    pub product : trim (modulo (q w)) (D w) ≡ mul (modulo (q w)) (mul (modulo (q w)) h h) e
+  -- "7: the square of some polynomial of degree 1 or more divides D"
+  abbrev pub SquareFactor : Type 0
+  SquareFactor = SquareDivides (q w) (D w)
 
 -- sentence k applies to the words
 unfoldable pub Applies : ℕ → List ℕ → Type 0
-Applies k w = getD (⊥ ∷ WrongHead w ∷ WrongPrime w ∷ WrongDegree w ∷ WrongLayout w ∷ WrongCoefficient w ∷ WrongLead w ∷ SquareDivides w ∷ []) k ⊥
+Applies k w = getD (⊥ ∷ WrongHead w ∷ WrongPrime w ∷ WrongDegree w ∷ WrongLayout w ∷ WrongCoefficient w ∷ WrongLead w ∷ SquareFactor w ∷ []) k ⊥

@@ -34,6 +34,11 @@ pub tests-not : {b : Bool} {P : Type 0} → Tests b P → Tests (not b) (¬ P)
 tests-not {b = true} t = (λ e. false-true e, λ h. absurd (h (t .0 refl)))
 tests-not {b = false} t = (λ e p. false-true (t .1 p), λ h. refl)
 
+-- what is tested and not false is true
+pub tests-stable : {b : Bool} {P : Type 0} → Tests b P → ¬ ¬ P → P
+tests-stable {b = true} t h = t .0 refl
+tests-stable {b = false} t h = absurd (h (λ p. false-true (t .1 p)))
+
 -- the second test may count on the first being false
 pub tests-or : {a b c : Bool} {P Q R : Type 0} → Tests a P → (¬ P → Tests b Q) → Tests c R → Tests (a || b || c) (P ⊎ Q ⊎ R)
 tests-or {a = true} s t u = (λ e. inl (s .0 refl), λ h. refl)
