@@ -1,6 +1,6 @@
 -- T1: the number that the definitions give to a ticket is that of the paper's first sentence that applies, and 0 where none does.
 -- Each test is true exactly where its sentence applies, given that no sentence before it does.
-use Prim.Native.Nat.{ℕ, suc, _+_, _≤_, _<_}
+use Prim.Native.Nat.{ℕ, _+_, _≤_, _<_}
 use native.Mathlib.Omega.{arith}
 use mathlib.Core.Path.{_≡_, refl, sym, _∙_, subst}
 use mathlib.Core.Logic.{_↔_, inl, ⊎-elim}
@@ -11,7 +11,7 @@ use Rattle.definitions.specs.Ticket.{ticketOf, testsOf, refusalOf, notSquarefre
 use Rattle.bridge.specs.Prime.{OddPrime, odd-prime-true, prime-odd-prime, odd-prime-more}
 use Rattle.bridge.specs.Residues.{pos}
 use Rattle.demands.specs.Sentences.{q, n, D, coefficient, Applies, SquareFactor}
-use Rattle.demands.specs.Tests.{Tests, tests-eq, tests-stable, NoneBelow, Numbered, Answers, first-of, answer-first, answer-none}
+use Rattle.demands.specs.Tests.{Tests, tests-eq, tests-stable, NoneBelow, Numbered, end, _then_, Answers, first-of, answer-first, answer-none}
 use Rattle.demands.specs.Readings.{prime-allowed, tests-head, tests-prime, tests-degree, tests-layout, tests-coefficient, tests-lead, coefficient-at, length-D}
 use Rattle.demands.specs.Squares.{tests-square}
 
@@ -49,39 +49,19 @@ module _ (w : List ℕ) where
 
   numbered : Numbered P 1 (testsOf (ticketOf w) w)
   unfolding testsOf ticketOf Applies
-  numbered = (
-    refl,
-    λ _. tests-head w,
-    (
-      refl,
-      λ _. tests-prime w,
-      (
-        refl,
-        λ _. tests-degree w,
-        (
-          refl,
-          λ _. tests-layout w,
-          (
-            refl,
-            λ none. tests-coefficient w (words 5 (omega arith) none),
-            (
-              refl,
-              λ _. tests-lead w,
-              (
-                refl,
-                λ none. tests-squarefree none,
-                tt,
-              ),
-            ),
-          ),
-        ),
-      ),
-    ),
-  )
+  numbered =
+      (λ _. tests-head w)
+      then (λ _. tests-prime w)
+      then (λ _. tests-degree w)
+      then (λ _. tests-layout w)
+      then (λ none. tests-coefficient w (words 5 (omega arith) none))
+      then (λ _. tests-lead w)
+      then tests-squarefree
+      then end
 
   answer : Answers P 8 (refusalOf w)
   unfolding refusalOf
-  answer = first-of P (testsOf (ticketOf w) w) 1 8 (unfold testsOf in refl) (omega arith) (λ j low high. absurd (omega arith)) numbered
+  answer = first-of P numbered 8 (unfold testsOf in refl) (omega arith) (λ j low high. absurd (omega arith))
 
 pub t1 : T1
 t1 w = record { refused = λ k low high. answer-first (P w) (answer w) k low (omega arith); accepted = (λ e j low high. answer-none (P w) (answer w) .0 e j low (omega arith), λ none. answer-none (P w) (answer w) .1 (λ j low high. none j low (omega arith))) }

@@ -4,15 +4,14 @@ use native.Mathlib.Nat.{mod-lt, eq-or-lt-of-le}
 use native.Mathlib.Decide.{ℕ-discrete}
 use native.Mathlib.Omega.{arith}
 use mathlib.Core.Path.{_≡_, refl, sym, ap, _∙_, subst}
-use mathlib.Core.Logic.{_↔_, _≢_, _⊎_, inl, inr, ⊎-elim, Iff·trans, Iff·not, Dec·not-not}
-use mathlib.Core.Bool.{true, not}
+use mathlib.Core.Logic.{_↔_, _≢_, _⊎_, inl, inr, ⊎-elim, Iff·trans, Dec·not-not}
+use mathlib.Core.Bool.{not}
 use mathlib.Core.List.{List, [], _∷_, _++_, map}
 use lib.ListN.{length, getD, take, drop, replicate, length-append, length-take, length-drop, length-map, length-replicate, getD-replicate, List·getD-append, List·getD-map}
 use lib.Seq.{getD-take, getD-drop, getD-append-add}
 use Rattle.ring.specs.Order.{le-or-lt}
 use lib.Dec.{eqb}
 use Rattle.definitions.specs.Words.{kind, value, same}
-use Rattle.definitions.specs.Primes.{oddPrime}
 use Rattle.definitions.specs.Ticket.{wrongHead, wrongPrime, wrongDegree, laterKinds, wrongLayout, wrongCoefficient, wrongLead}
 use Rattle.bridge.specs.Prime.{OddPrime, odd-prime-true, prime-odd-prime, prime-divisor, prime-of-divisors}
 use Rattle.demands.specs.Sentences.{kindAt, valueAt, q, n, coefficient, D, AllowedPrime, WrongHead, WrongPrime, WrongDegree, WrongKind, WrongLayout, WrongCoefficient, WrongLead}

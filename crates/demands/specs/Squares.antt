@@ -1,7 +1,7 @@
 -- Sentence 7 over the field of q elements: the square of a polynomial of degree 1 or more divides D exactly where the gcd of D and D′ is not constant (F3 of the algebra).
 -- Lists stand for polynomials, and every polynomial has its list of residues.
-use Prim.Native.Nat.{ℕ, zero, suc, _+_ as _+ₙ_, _-_ as _-ₙ_, _≤_, _<_, suc-le-suc, zero-le}
-use native.Mathlib.Nat.{le-of-suc-le-suc, mod-eq-of-lt}
+use Prim.Native.Nat.{ℕ, zero, suc, _-_ as _-ₙ_, _≤_, _<_, suc-le-suc, zero-le}
+use native.Mathlib.Nat.{mod-eq-of-lt}
 use native.Mathlib.Omega.{arith}
 use mathlib.Core.Path.{_≡_, refl, sym, ap, ap₂, _∙_, fun-ext, subst}
 use mathlib.Core.Logic.{_≢_, ⊎-elim, Iff·trans}
@@ -9,7 +9,7 @@ use mathlib.Core.List.{List, [], _∷_}
 use lib.ListN.{length, getD}
 use Rattle.ring.specs.Order.{le-or-lt}
 use Rattle.ring.specs.Residues.{Fq, FqRing, to, val-path}
-use Rattle.ring.specs.Series.{S, conv}
+use Rattle.ring.specs.Series.{conv}
 use Rattle.ring.specs.Degree.{Below}
 use Rattle.algebra.specs.Field.{Field}
 use Rattle.algebra.specs.Polynomial.{F, Px, Deg, deg-path, deg-not-zero, monic-deg}

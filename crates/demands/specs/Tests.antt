@@ -2,7 +2,7 @@
 use Prim.Native.Nat.{ℕ, zero, suc, _+_, _≤_, _<_}
 use native.Mathlib.Nat.{eq-or-lt-of-le}
 use native.Mathlib.Omega.{arith}
-use mathlib.Core.Path.{_≡_, refl, sym, _∙_, subst}
+use mathlib.Core.Path.{_≡_, refl, sym, subst}
 use mathlib.Core.Logic.{_↔_, _≢_, _⊎_, inl, inr, ⊎-elim}
 use mathlib.Core.Bool.{Bool, true, false, not, _||_}
 use mathlib.Core.List.{List, [], _∷_}
@@ -90,22 +90,23 @@ module _ (P : ℕ → Type 0) where
   none-more {k} none h j low high = ⊎-elim (λ (e : suc j ≡ suc k). λ p. h (subst P (omega arith) p)) (λ (l : suc j < suc k). none j low (omega arith)) (eq-or-lt-of-le high)
 
   -- the tests are numbered from k; each is that of its statement, where none before that holds
-  abbrev pub Numbered : ℕ → List (ℕ × Bool) → Type 0
-  Numbered k [] = Unit {0}
-  Numbered k (t ∷ l) = (t .0 ≡ k) × (NoneBelow k → Tests (t .1) (P k)) × Numbered (suc k) l
+  infixr 5 _then_
+  pub data Numbered : ℕ → List (ℕ × Bool) → Type 0 where
+    end : {k : ℕ} → Numbered k []
+    _then_ : {k : ℕ} {b : Bool} {l : List (ℕ × Bool)} → (NoneBelow k → Tests b (P k)) → Numbered (suc k) l → Numbered k ((k, b) ∷ l)
 
   -- r is the number of the first statement that holds, of those from 1 below k, or 0 where none does
   abbrev pub Answers : ℕ → ℕ → Type 0
   Answers k r = ((r ≡ 0) × NoneBelow k) ⊎ ((1 ≤ r) × (r < k) × First r)
 
-  pub first-of : (l : List (ℕ × Bool)) (k m : ℕ) → length l + k ≡ m → 1 ≤ k → NoneBelow k → Numbered k l → Answers m (firstOf l)
+  pub first-of : {l : List (ℕ × Bool)} {k : ℕ} → Numbered k l → (m : ℕ) → length l + k ≡ m → 1 ≤ k → NoneBelow k → Answers m (firstOf l)
   unfolding firstOf
-  first-of [] k m e low none s = inl (refl, subst NoneBelow (omega arith) none)
-  first-of (t ∷ l) k m e low none s = go (t .1) refl (first-of l (suc k) m (omega arith) (omega arith))
+  first-of end m e low none = inl (refl, subst NoneBelow (omega arith) none)
+  first-of (_then_ {k = k} {b = b} {l = l} t s) m e low none = go b (t none) (first-of s m (omega arith) (omega arith))
     where
-      go : (b : Bool) → t .1 ≡ b → (NoneBelow (suc k) → Numbered (suc k) l → Answers m (firstOf l)) → Answers m (elim b [ true ↦ t .0 | false ↦ firstOf l ])
-      go true h rest = inr (subst (λ r. (1 ≤ r) × (r < m) × First r) (sym (s .0)) (low, omega arith, (s .1 none .0 h, none)))
-      go false h rest = rest (none-more none (λ p. false-true (sym h ∙ s .1 none .1 p))) (s .2)
+      go : (b : Bool) → Tests b (P k) → (NoneBelow (suc k) → Answers m (firstOf l)) → Answers m (elim b [ true ↦ k | false ↦ firstOf l ])
+      go true u rest = inr (low, omega arith, (u .0 refl, none))
+      go false u rest = rest (none-more none (λ p. false-true (u .1 p)))
 
   first-unique : {j k : ℕ} → 1 ≤ j → 1 ≤ k → First j → First k → j ≡ k
   first-unique {j} {k} low low′ f g = ⊎-elim (λ h. ⊎-elim (λ e. sym e) (λ l. absurd (f .1 k low′ l (g .0))) (eq-or-lt-of-le h)) (λ l. absurd (g .1 j low l (f .0))) (le-or-lt k j)
