@@ -1,4 +1,5 @@
--- The sentences 1 to 7 by which a ticket is refused, as statements about any list of words: no test, and nothing computed.
+-- The sentences 1 to 7 by which a ticket is refused, as statements about any list of words, with no test in them. What the words say is read at their places;
+-- 7 speaks of polynomials as lists of coefficients and uses their size and product modulo q.
 use Prim.Native.Nat.{ℕ, _+_, _%_, _≤_, _<_}
 use mathlib.Core.Path.{_≡_}
 use mathlib.Core.Logic.{_≢_, _⊎_}

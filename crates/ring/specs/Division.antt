@@ -1,14 +1,14 @@
 -- Monomials c x^k, and division with remainder by a polynomial whose leading coefficient has an inverse: the quotient's terms are found from the top down.
-use Prim.Native.Nat.{ℕ, zero, suc, _+_ as _+ₙ_, _-_ as _-ₙ_, _<_}
+use Prim.Native.Nat.{ℕ, zero, suc, _+_ as _+ₙ_, _-_ as _-ₙ_, _<_, zero-le}
 use native.Mathlib.Nat.{zero-add as zero-addₙ, add-zero, suc-add as suc-addₙ, eq-or-lt-of-le}
 use native.Mathlib.Omega.{arith}
 use mathlib.Core.Path.{_≡_, refl, sym, ap, ap₂, _∙_, fun-ext}
 use mathlib.Core.Logic.{⊎-elim}
 use mathlib.Core.List.{[], _∷_}
 use Rattle.ring.specs.Ring.{CRing, zer-add, mul-zer, zer-mul, neg-zer}
-use Rattle.ring.specs.Identity.{ring, ring-from, times, quote}
+use Rattle.ring.specs.Identity.{ring, ring-from, times, plus, quote}
 use Rattle.ring.specs.Series.{S, Series, addS, conv, negS, zerS, con, conv-con}
-use Rattle.ring.specs.Degree.{Below, below-add}
+use Rattle.ring.specs.Degree.{Below, below-add, lead-conv}
 
 module _ {A : Type 0} (F : CRing A) where
   open CRing F using (add as _+_, mul as _*_, neg as -_, zer as 𝟘, one as 𝟙, add-zer, add-neg, mul-assoc, mul-one)
@@ -120,3 +120,15 @@ module _ {A : Type 0} (F : CRing A) where
         quo-low = below-add F (mon c n) (r .quo) (suc n) (below-mon c n) (λ i p. r .quo-low i (omega arith));
         rem-low = r .rem-low;
       }
+
+  -- q g of degree under m, where g has degree m, is 0: so quotients and remainders are unique
+  pub no-quo : (n : ℕ) (q g : S F) (m : ℕ) (u : A) → u * g m ≡ 𝟙 → Below F g (suc m) → Below F q n → Below F (conv F q g) m → q ≡ zerS F
+  unfolding zerS
+  no-quo zero q g m u e l h k = fun-ext (λ i. h i zero-le)
+  no-quo (suc n) q g m u e l h k = no-quo n q g m u e l lower k
+    where
+      top : q n ≡ 𝟘
+      top = ring-from F (q n ∷ g m ∷ u ∷ []) (plus F (times F (- q n) e) (times F u (sym (lead-conv F n m q g h l) ∙ k (n +ₙ m) (omega arith)))) (search quote depth 40 fits 9999) tt
+
+      lower : Below F q n
+      lower i p = ⊎-elim (λ (w : n ≡ i). ap q (sym w) ∙ top) (λ (w : n < i). h i w) (eq-or-lt-of-le p)

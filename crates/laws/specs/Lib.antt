@@ -1,0 +1,5 @@
+pub mod Surd
+pub mod Fraction
+pub mod Walk
+pub mod Convergents
+pub mod QuasiPeriod
