@@ -10,7 +10,7 @@ use Rattle.ring.specs.Order.{le-or-lt}
 use Rattle.definitions.specs.Ticket.{ticketOf, testsOf, refusalOf, notSquarefree}
 use Rattle.bridge.specs.Prime.{OddPrime, odd-prime-true, prime-odd-prime, odd-prime-more}
 use Rattle.bridge.specs.Residues.{pos}
-use Rattle.demands.specs.Sentences.{q, n, D, coefficient, Applies, SquareFactor}
+use Rattle.demands.specs.Sentences.{q, n, D, coefficient, Applies, NotSquarefree}
 use Rattle.demands.specs.Tests.{Tests, tests-eq, tests-stable, NoneBelow, Numbered, end, _then_, Answers, first-of, answer-first, answer-none}
 use Rattle.demands.specs.Readings.{prime-allowed, tests-head, tests-prime, tests-degree, tests-layout, tests-coefficient, tests-lead, coefficient-at, length-D}
 use Rattle.demands.specs.Squares.{tests-square}
@@ -44,7 +44,7 @@ module _ (w : List ℕ) where
   unfolding Applies
   lead none = tests-stable (tests-eq (coefficient w (n w)) 1) (λ h. none 6 (omega arith) (omega arith) h)
 
-  tests-squarefree : NoneBelow P 7 → Tests (notSquarefree (q w) (D w)) (SquareFactor w)
+  tests-squarefree : NoneBelow P 7 → Tests (notSquarefree (q w) (D w)) (NotSquarefree w)
   tests-squarefree none = tests-square (q w) (prime none .prime) (odd-prime-more (q w) (prime none)) (D w) (n w) (omega (arith, length-D w (words 7 (omega arith) none))) (coefficient-at w (n w) (omega arith) ∙ lead none) (below none)
 
   numbered : Numbered P 1 (testsOf (ticketOf w) w)

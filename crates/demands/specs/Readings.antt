@@ -1,10 +1,9 @@
 -- The tests of a ticket, 1 to 6: each is true exactly where its sentence applies, 5 where the words are laid out as 4 asks.
 use Prim.Native.Nat.{ℕ, suc, _+_, _-_, _%_, _≤_, _<_}
 use native.Mathlib.Nat.{mod-lt, eq-or-lt-of-le}
-use native.Mathlib.Decide.{ℕ-discrete}
 use native.Mathlib.Omega.{arith}
 use mathlib.Core.Path.{_≡_, refl, sym, ap, _∙_, subst}
-use mathlib.Core.Logic.{_↔_, _≢_, _⊎_, inl, inr, ⊎-elim, Iff·trans, Dec·not-not}
+use mathlib.Core.Logic.{_↔_, _≢_, _⊎_, inl, inr, ⊎-elim, Iff·trans}
 use mathlib.Core.Bool.{not}
 use mathlib.Core.List.{List, [], _∷_, _++_, map}
 use lib.ListN.{length, getD, take, drop, replicate, length-append, length-take, length-drop, length-map, length-replicate, getD-replicate, List·getD-append, List·getD-map}
@@ -15,7 +14,7 @@ use Rattle.definitions.specs.Words.{kind, value, same}
 use Rattle.definitions.specs.Ticket.{wrongHead, wrongPrime, wrongDegree, laterKinds, wrongLayout, wrongCoefficient, wrongLead}
 use Rattle.bridge.specs.Prime.{OddPrime, odd-prime-true, prime-odd-prime, prime-divisor, prime-of-divisors}
 use Rattle.demands.specs.Sentences.{kindAt, valueAt, q, n, coefficient, D, AllowedPrime, WrongHead, WrongPrime, WrongDegree, WrongKind, WrongLayout, WrongCoefficient, WrongLead}
-use Rattle.demands.specs.Tests.{Tests, tests-lt, tests-eq, tests-not, tests-or, tests-some, tests-differ}
+use Rattle.demands.specs.Tests.{Tests, tests-lt, tests-eq, tests-not, tests-stable, tests-or, tests-some, tests-differ}
 
 pub prime-allowed : (p : ℕ) → OddPrime p ↔ AllowedPrime p
 prime-allowed p = (λ r. record { odd = r .odd; below = r .small; more = r .prime .two; divisors = prime-divisor p (r .prime) }, λ r. record { prime = prime-of-divisors p (r .more) (r .divisors); odd = r .odd; small = r .below })
@@ -99,7 +98,7 @@ module _ (w : List ℕ) where
 
   pub tests-layout : Tests (wrongLayout (n w) w) (WrongLayout w)
   unfolding wrongLayout
-  tests-layout = tests-or (tests-not (tests-eq (length w) (n w + 5))) (λ h. tests-kind (Dec·not-not (ℕ-discrete (length w) (n w + 5)) .0 h)) (tests-not (tests-eq (valueAt w (n w + 4)) (n w + 4)))
+  tests-layout = tests-or (tests-not (tests-eq (length w) (n w + 5))) (λ h. tests-kind (tests-stable (tests-eq (length w) (n w + 5)) h)) (tests-not (tests-eq (valueAt w (n w + 4)) (n w + 4)))
 
   pub tests-coefficient : length w ≡ n w + 5 → Tests (wrongCoefficient (q w) (D w)) (WrongCoefficient w)
   unfolding wrongCoefficient

@@ -74,9 +74,9 @@ module _ (w : List ℕ) where
   WrongLead = coefficient w (n w) ≢ 1
 
   -- "7: the square of some polynomial of degree 1 or more divides D"
-  abbrev pub SquareFactor : Type 0
-  SquareFactor = SquareDivides (q w) (D w)
+  abbrev pub NotSquarefree : Type 0
+  NotSquarefree = SquareDivides (q w) (D w)
 
 -- sentence k applies to the words
 unfoldable pub Applies : ℕ → List ℕ → Type 0
-Applies k w = getD (⊥ ∷ WrongHead w ∷ WrongPrime w ∷ WrongDegree w ∷ WrongLayout w ∷ WrongCoefficient w ∷ WrongLead w ∷ SquareFactor w ∷ []) k ⊥
+Applies k w = getD (⊥ ∷ WrongHead w ∷ WrongPrime w ∷ WrongDegree w ∷ WrongLayout w ∷ WrongCoefficient w ∷ WrongLead w ∷ NotSquarefree w ∷ []) k ⊥

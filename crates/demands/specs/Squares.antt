@@ -1,18 +1,16 @@
 -- Sentence 7 over the field of q elements: the square of a polynomial of degree 1 or more divides D exactly where the gcd of D and D′ is not constant (F3 of the algebra).
--- Lists stand for polynomials, and every polynomial has its list of residues.
-use Prim.Native.Nat.{ℕ, zero, suc, _-_ as _-ₙ_, _≤_, _<_, suc-le-suc, zero-le}
-use native.Mathlib.Nat.{mod-eq-of-lt}
+-- The square factor is carried from lists to polynomials and back.
+use Prim.Native.Nat.{ℕ, suc, _-_ as _-ₙ_, _≤_, _<_}
 use native.Mathlib.Omega.{arith}
-use mathlib.Core.Path.{_≡_, refl, sym, ap, ap₂, _∙_, fun-ext, subst}
+use mathlib.Core.Path.{_≡_, refl, sym, ap, ap₂, _∙_, subst}
 use mathlib.Core.Logic.{_≢_, ⊎-elim, Iff·trans}
-use mathlib.Core.List.{List, [], _∷_}
+use mathlib.Core.List.{List}
 use lib.ListN.{length, getD}
 use Rattle.ring.specs.Order.{le-or-lt}
-use Rattle.ring.specs.Residues.{Fq, FqRing, to, val-path}
+use Rattle.ring.specs.Residues.{Fq, FqRing}
 use Rattle.ring.specs.Series.{conv}
-use Rattle.ring.specs.Degree.{Below}
 use Rattle.algebra.specs.Field.{Field}
-use Rattle.algebra.specs.Polynomial.{F, Px, Deg, deg-path, deg-not-zero, monic-deg}
+use Rattle.algebra.specs.Polynomial.{F, Deg, deg-path, deg-not-zero, monic-deg}
 use Rattle.algebra.specs.Gcd.{IsGcd, gcd-zero}
 use Rattle.algebra.specs.Derivative.{derivative as ∂}
 use Rattle.algebra.specs.Squarefree.{SquareFactor, square-gcd, gcd-square}
@@ -24,10 +22,11 @@ use Rattle.bridge.specs.Model.{Model, Oks, series}
 use Rattle.bridge.specs.Trim.{below-length, length-trim, size-is, series-trim, series-ext, trim-idem, oks-trim}
 use Rattle.bridge.specs.Arithmetic.{series-mul, trim-mul, oks-mul}
 use Rattle.bridge.specs.Degree.{series-deg, series-zero, series-monic-of, deg-size}
+use Rattle.bridge.specs.Coefficients.{coefficients, series-coefficients}
 use Rattle.bridge.specs.Derivative.{series-derivative}
 use Rattle.bridge.specs.Euclid.{gcd-is}
 use Rattle.bridge.specs.Prime.{Prime}
-use Rattle.bridge.specs.Residues.{pos, model, inverts, field}
+use Rattle.bridge.specs.Residues.{pos, model, inverts, onto, field}
 use Rattle.demands.specs.Sentences.{SquareDivides}
 use Rattle.demands.specs.Tests.{Tests, tests-eq, tests-not}
 
@@ -37,20 +36,6 @@ module _ (q : ℕ) (p : Prime q) (more : 2 < q) where
 
   abbrev K : Field (Fq q)
   K = field q p more
-
-  -- ---- every polynomial has a list
-  residues : ℕ → Px K → List ℕ
-  residues zero f = []
-  residues (suc n) f = f 0 .0 ∷ residues n (λ i. f (suc i))
-
-  series-residues : (n : ℕ) (f : Px K) → Below (F K) f n → series M (residues n f) ≡ f
-  unfolding residues to
-  series-residues n f h = fun-ext (at n f h)
-    where
-      at : (n : ℕ) (f : Px K) → Below (F K) f n → (i : ℕ) → series M (residues n f) i ≡ f i
-      at zero f h i = sym (h i zero-le)
-      at (suc n) f h zero = val-path q _ _ (mod-eq-of-lt (f 0 .1))
-      at (suc n) f h (suc i) = at n (λ j. f (suc j)) (λ j l. h (suc j) (suc-le-suc l)) i
 
   -- ---- a square that divides D, on lists and on polynomials
   square-factor : (D : List ℕ) → SquareDivides q D → SquareFactor K (series M D)
@@ -76,16 +61,16 @@ module _ (q : ℕ) (p : Prime q) (more : 2 < q) where
   }
     where
       h : List ℕ
-      h = residues (suc (s .size)) (s .factor)
+      h = coefficients M (onto q p) (s .factor) (suc (s .size))
 
       e : List ℕ
-      e = residues (s .divides .size) (s .divides .by)
+      e = coefficients M (onto q p) (s .divides .by) (s .divides .size)
 
       h-is : series M h ≡ s .factor
-      h-is = series-residues (suc (s .size)) (s .factor) (s .deg .low)
+      h-is = series-coefficients M (onto q p) (s .factor) (suc (s .size)) (s .deg .low)
 
       e-is : series M e ≡ s .divides .by
-      e-is = series-residues (s .divides .size) (s .divides .by) (s .divides .low)
+      e-is = series-coefficients M (onto q p) (s .divides .by) (s .divides .size) (s .divides .low)
 
       same : series M (trim (modulo q) D) ≡ series M (mul (modulo q) (mul (modulo q) h h) e)
       same = series-trim M D ∙ s .divides .is ∙ sym (series-mul M (mul (modulo q) h h) e ∙ ap₂ (conv (F K)) (series-mul M h h ∙ ap (λ f. conv (F K) f f) h-is) e-is)

@@ -4,11 +4,11 @@ use native.Mathlib.Nat.{eq-or-lt-of-le}
 use native.Mathlib.Omega.{arith}
 use mathlib.Core.Path.{_≡_, refl, sym, subst}
 use mathlib.Core.Logic.{_↔_, _≢_, _⊎_, inl, inr, ⊎-elim}
-use mathlib.Core.Bool.{Bool, true, false, not, _||_}
+use mathlib.Core.Bool.{Bool, true, false, not, _||_, false≢true}
 use mathlib.Core.List.{List, [], _∷_}
 use lib.Dec.{ltb, eqb, leb}
 use lib.ListN.{length, getD}
-use borrow.Author.Tests.{ltb-true, lt-ltb, eqb-true, eqb-false, eq-eqb, leb-true, leb-false, le-leb}
+use borrow.Author.Tests.{ltb-true, lt-ltb, eqb-true, eqb-false, eq-eqb, leb-true, leb-false}
 use Rattle.ring.specs.Order.{le-or-lt}
 use Rattle.definitions.specs.Words.{same, someFrom}
 use Rattle.definitions.specs.Ticket.{firstOf}
@@ -17,39 +17,33 @@ use Rattle.definitions.specs.Ticket.{firstOf}
 abbrev pub Tests : Bool → Type 0 → Type 0
 Tests b P = (b ≡ true) ↔ P
 
-pub false-true : {P : Type 0} → false ≡ true → P
-false-true e = absurd (let z : _≡_ {A = ℕ} 0 1 = cc in omega arith)
-
 -- ---- tests from tests
 pub tests-lt : (a b : ℕ) → Tests (ltb a b) (a < b)
 tests-lt a b = (ltb-true a b, lt-ltb a b)
-
-pub tests-le : (a b : ℕ) → Tests (leb a b) (a ≤ b)
-tests-le a b = (leb-true a b, le-leb a b)
 
 pub tests-eq : (a b : ℕ) → Tests (eqb a b) (a ≡ b)
 tests-eq a b = (eqb-true a b, eq-eqb a b)
 
 pub tests-not : {b : Bool} {P : Type 0} → Tests b P → Tests (not b) (¬ P)
-tests-not {b = true} t = (λ e. false-true e, λ h. absurd (h (t .0 refl)))
-tests-not {b = false} t = (λ e p. false-true (t .1 p), λ h. refl)
+tests-not {b = true} t = (λ e. absurd (false≢true e), λ h. absurd (h (t .0 refl)))
+tests-not {b = false} t = (λ e p. absurd (false≢true (t .1 p)), λ h. refl)
 
 -- what is tested and not false is true
 pub tests-stable : {b : Bool} {P : Type 0} → Tests b P → ¬ ¬ P → P
 tests-stable {b = true} t h = t .0 refl
-tests-stable {b = false} t h = absurd (h (λ p. false-true (t .1 p)))
+tests-stable {b = false} t h = absurd (h (λ p. absurd (false≢true (t .1 p))))
 
 -- the second test may count on the first being false
 pub tests-or : {a b c : Bool} {P Q R : Type 0} → Tests a P → (¬ P → Tests b Q) → Tests c R → Tests (a || b || c) (P ⊎ Q ⊎ R)
 tests-or {a = true} s t u = (λ e. inl (s .0 refl), λ h. refl)
-tests-or {a = false} {b = true} s t u = (λ e. inr (inl (t (λ p. false-true (s .1 p)) .0 refl)), λ h. refl)
-tests-or {a = false} {b = false} s t u = (λ e. inr (inr (u .0 e)), ⊎-elim (λ p. false-true (s .1 p)) (⊎-elim (λ p. false-true (t (λ r. false-true (s .1 r)) .1 p)) (u .1)))
+tests-or {a = false} {b = true} s t u = (λ e. inr (inl (t (λ p. absurd (false≢true (s .1 p))) .0 refl)), λ h. refl)
+tests-or {a = false} {b = false} s t u = (λ e. inr (inr (u .0 e)), ⊎-elim (λ p. absurd (false≢true (s .1 p))) (⊎-elim (λ p. absurd (false≢true (t (λ r. absurd (false≢true (s .1 r))) .1 p))) (u .1)))
 
 -- ---- tests of lists: some place of the list ..
 -- .. has a number from q on
 pub tests-some : (q : ℕ) (l : List ℕ) → Tests (someFrom q l) ((i : ℕ) × (i < length l) × (q ≤ getD l i 0))
 unfolding someFrom
-tests-some q [] = (λ e. false-true e, λ h. absurd (omega arith))
+tests-some q [] = (λ e. absurd (false≢true e), λ h. absurd (omega arith))
 tests-some q (x ∷ l) = go (leb q x) refl (tests-some q l)
   where
     go : (b : Bool) → leb q x ≡ b → Tests (someFrom q l) ((i : ℕ) × (i < length l) × (q ≤ getD l i 0)) → Tests (elim b [ true ↦ true | false ↦ someFrom q l ]) ((i : ℕ) × (i < suc (length l)) × (q ≤ getD (x ∷ l) i 0))
@@ -63,7 +57,7 @@ tests-some q (x ∷ l) = go (leb q x) refl (tests-some q l)
 -- .. differs from that of another list of the same length
 pub tests-differ : (l m : List ℕ) → length l ≡ length m → Tests (not (same l m)) ((i : ℕ) × (i < length l) × (getD l i 0 ≢ getD m i 0))
 unfolding same
-tests-differ [] [] e = (λ h. false-true h, λ h. absurd (omega arith))
+tests-differ [] [] e = (λ h. absurd (false≢true h), λ h. absurd (omega arith))
 tests-differ [] (y ∷ m) e = absurd (omega arith)
 tests-differ (x ∷ l) [] e = absurd (omega arith)
 tests-differ (x ∷ l) (y ∷ m) e = go (eqb x y) refl (tests-differ l m (omega arith))
@@ -106,7 +100,7 @@ module _ (P : ℕ → Type 0) where
     where
       go : (b : Bool) → Tests b (P k) → (NoneBelow (suc k) → Answers m (firstOf l)) → Answers m (elim b [ true ↦ k | false ↦ firstOf l ])
       go true u rest = inr (low, omega arith, (u .0 refl, none))
-      go false u rest = rest (none-more none (λ p. false-true (u .1 p)))
+      go false u rest = rest (none-more none (λ p. absurd (false≢true (u .1 p))))
 
   first-unique : {j k : ℕ} → 1 ≤ j → 1 ≤ k → First j → First k → j ≡ k
   first-unique {j} {k} low low′ f g = ⊎-elim (λ h. ⊎-elim (λ e. sym e) (λ l. absurd (f .1 k low′ l (g .0))) (eq-or-lt-of-le h)) (λ l. absurd (g .1 j low l (f .0))) (le-or-lt k j)
