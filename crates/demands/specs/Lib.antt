@@ -3,3 +3,4 @@ pub mod Tests
 pub mod Readings
 pub mod Squares
 pub mod FirstRefusal
+pub mod LeastDegree
