@@ -4,3 +4,5 @@ pub mod Readings
 pub mod Squares
 pub mod FirstRefusal
 pub mod LeastDegree
+pub mod Continued
+pub mod Example
