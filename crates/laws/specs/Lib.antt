@@ -5,3 +5,5 @@ pub mod Convergents
 pub mod QuasiPeriod
 pub mod NoSquare
 pub mod Admitted
+pub mod Signs
+pub mod Norms
