@@ -115,6 +115,8 @@ regulators() =
   setrand(1);
   about(3, [1, 1, 0, 0, 1]); about(3, [1, 0, 1]); about(5, [2, 0, 0, 0, 1]);
   for (i = 1, #small, [q, n, h] = small[i]; for (j = 1, h, about(q, someD(q, n))));
+  \\ quasi-periods 1,023 to 1,025 at n = 4, found by search: listings of 8,184, 8,192 and 8,200 words, about the program's 8,192
+  about(1999, [989, 1412, 0, 0, 1]); about(1999, [101, 1091, 0, 0, 1]); about(1999, [1808, 1993, 0, 0, 1]);
   \\ every degree with a short quasi-period, also where q is large
   forstep (n = 2, 64, 2, q = primes1[1 + random(10)]; about(q, shortD(q, n, random(n / 2))));
   for (r = 0, 12, about(4093, shortD(4093, 24, r)));
