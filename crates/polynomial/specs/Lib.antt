@@ -1,3 +1,6 @@
 pub mod Record
 pub mod Pad
 pub mod Held
+pub mod Places
+pub mod Linear
+pub mod Result
