@@ -5,3 +5,6 @@ pub mod Convergents
 pub mod QuasiPeriod
 pub mod NoSquare
 pub mod Admitted
+pub mod Signs
+pub mod Norms
+pub mod Solutions

@@ -3,6 +3,7 @@ pub mod Pad
 pub mod Held
 pub mod Places
 pub mod Linear
+pub mod Result
 pub mod Row
 pub mod Product
 pub mod Divided
