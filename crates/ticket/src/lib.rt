@@ -1,0 +1,5 @@
+// The job ticket.
+mod head;
+mod layout;
+mod radicand;
+pub mod words;
