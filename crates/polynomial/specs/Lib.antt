@@ -3,3 +3,9 @@ pub mod Pad
 pub mod Held
 pub mod Places
 pub mod Linear
+pub mod Row
+pub mod Product
+pub mod Divided
+pub mod Results
+pub mod Division
+pub mod Gcd
