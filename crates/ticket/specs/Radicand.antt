@@ -1,15 +1,21 @@
 -- The coefficients of D in the words, and the tests on them: where a test fails or holds at one place or at all.
-use Prim.Native.Nat.{ℕ, zero, suc, _+_, _<_, _≤_}
+use Prim.Native.Nat.{ℕ, zero, suc, _+_, _%_, _<_, _≤_}
+use native.Mathlib.Nat.{mod-eq-of-lt}
 use native.Mathlib.Omega.{arith}
 use mathlib.Core.Path.{_≡_, refl, sym, ap, _∙_}
 use mathlib.Core.Bool.{Bool, true, false}
 use mathlib.Core.List.{List, [], _∷_, map}
-use lib.Dec.{leb}
+use lib.Dec.{leb, eqb}
 use lib.ListN.{length, getD, take, drop, length-map, length-drop, List·getD-map}
 use lib.Seq.{length-take-le, getD-take, getD-drop}
-use borrow.Author.Tests.{lt-leb}
+use borrow.Author.Tests.{lt-leb, ne-eqb}
+use Rattle.definitions.specs.Field.{Ops, modulo}
+use Rattle.definitions.specs.Polynomials.{at, keep, cons, trim}
 use Rattle.definitions.specs.Words.{value, someFrom}
-use Rattle.laws.specs.Admitted.{below-of}
+use Rattle.definitions.specs.Ticket.{wrongCoefficient, wrongLead}
+use Rattle.polynomial.specs.Record.{poly, Held, Is}
+use Rattle.polynomial.specs.Held.{is-held}
+use Rattle.laws.specs.Admitted.{below-of, lead-of}
 
 -- the values of the n + 1 words after the first two
 abbrev pub coefficients : ℕ → List ℕ → List ℕ
@@ -45,3 +51,24 @@ module _ (q : ℕ) where
 
     pub take-at : 0 < q → (i : ℕ) → i < n → q ≤ getD c i 0 → someFrom q (take n c) ≡ true
     take-at pos i low h = some-at pos (take n c) i (let e : getD (take n c) i 0 ≡ getD c i 0 = getD-take n c i 0 low in omega arith)
+
+-- a list whose last coefficient is not 0 has no zero at its end
+module _ {A : Type 0} (o : Ops A) where
+  trim-full : (l : List A) (n : ℕ) → length l ≡ suc n → o .zer? (at o l n) ≡ false → trim o l ≡ l
+  unfolding trim
+  trim-full [] n e z = absurd (omega arith)
+  trim-full (a ∷ []) zero e z = ap (λ (b : Bool). keep o b a) z
+  trim-full (a ∷ []) (suc n) e z = absurd (omega arith)
+  trim-full (a ∷ (b ∷ l)) zero e z = absurd (omega arith)
+  trim-full (a ∷ (b ∷ l)) (suc n) e z = ap (cons o a) (trim-full (b ∷ l) n (omega arith) z)
+
+pub trim-lead-one : (q : ℕ) → 1 < q → (l : List ℕ) (n : ℕ) → length l ≡ suc n → getD l n 0 ≡ 1 → trim (modulo q) l ≡ l
+trim-lead-one q h l n e one = trim-full (modulo q) l n e (ne-eqb (getD l n 0 % q) 0 (λ z. let m : 1 % q ≡ 1 = mod-eq-of-lt h in let k : getD l n 0 % q ≡ 1 % q = ap (λ (x : ℕ). x % q) one in omega arith))
+
+-- past tests 5 and 6 the record of D is held
+pub held-of : (q : ℕ) → 1 < q → (c : List ℕ) (size n : ℕ) → size ≡ n + 1 → size ≤ 129 → Is q c size (poly c size) → wrongCoefficient q (poly c size) ≡ false → wrongLead n (poly c size) ≡ false → Held q c size
+unfolding wrongCoefficient
+held-of q h c size n e s is low lead =
+    is-held q c size (poly c size) is (let k : size ≡ length (poly c size) = is .size-is in omega arith)
+    (trim-lead-one q h (poly c size) n (let k : size ≡ length (poly c size) = is .size-is in omega arith) (lead-of n (poly c size) lead))
+    (below-of q (omega arith) (poly c size) low)
