@@ -1,10 +1,9 @@
 -- Tests of the later words' kinds, place by place: two lists of one length are the same exactly where they have the same numbers.
-use Prim.Native.Nat.{ℕ, zero, suc, _+_, _<_, _≤_}
+use Prim.Native.Nat.{ℕ, _+_, _<_}
 use native.Mathlib.Omega.{arith}
-use native.Mathlib.Numerals.{add-one}
 use mathlib.Core.Path.{_≡_, refl, sym, ap, ap₂, _∙_}
-use mathlib.Core.Bool.{Bool, true, false, not}
-use mathlib.Core.List.{List, [], _∷_, _++_, map}
+use mathlib.Core.Bool.{Bool, true, false}
+use mathlib.Core.List.{List, [], _∷_, map}
 use lib.Dec.{eqb}
 use lib.ListN.{length, getD, drop, replicate, length-append, length-map, length-drop, length-replicate, getD-replicate, List·getD-append, List·getD-map}
 use lib.Seq.{ext-getD, getD-drop, getD-append-add}

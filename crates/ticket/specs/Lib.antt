@@ -3,3 +3,4 @@ pub mod Layout
 pub mod Radicand
 pub mod Refusal
 pub mod Squarefree
+pub mod Read

@@ -2,10 +2,9 @@
 use Prim.Native.Nat.{ℕ, zero, suc, _+_, _%_, _<_, _≤_}
 use native.Mathlib.Nat.{mod-eq-of-lt}
 use native.Mathlib.Omega.{arith}
-use mathlib.Core.Path.{_≡_, refl, sym, ap, _∙_}
+use mathlib.Core.Path.{_≡_, refl, sym, ap, _∙_, subst}
 use mathlib.Core.Bool.{Bool, true, false}
 use mathlib.Core.List.{List, [], _∷_, map}
-use lib.Dec.{leb, eqb}
 use lib.ListN.{length, getD, take, drop, length-map, length-drop, List·getD-map}
 use lib.Seq.{length-take-le, getD-take, getD-drop}
 use borrow.Author.Tests.{lt-leb, ne-eqb}
@@ -14,7 +13,7 @@ use Rattle.definitions.specs.Polynomials.{at, keep, cons, trim}
 use Rattle.definitions.specs.Words.{value, someFrom}
 use Rattle.definitions.specs.Ticket.{wrongCoefficient, wrongLead}
 use Rattle.polynomial.specs.Record.{poly, Held, Is}
-use Rattle.polynomial.specs.Held.{is-held}
+use Rattle.polynomial.specs.Held.{is-held, is-poly}
 use Rattle.laws.specs.Admitted.{below-of, lead-of}
 
 -- the values of the n + 1 words after the first two
@@ -72,3 +71,14 @@ held-of q h c size n e s is low lead =
     is-held q c size (poly c size) is (let k : size ≡ length (poly c size) = is .size-is in omega arith)
     (trim-lead-one q h (poly c size) n (let k : size ≡ length (poly c size) = is .size-is in omega arith) (lead-of n (poly c size) lead))
     (below-of q (omega arith) (poly c size) low)
+
+-- the record that the coefficients are read into
+module _ (n : ℕ) (w : List ℕ) (most : n ≤ 64) (long : n + 3 ≤ length w) (q : ℕ) (c : List ℕ) (size : ℕ) (is : Is q c size (coefficients n w)) where
+  pub radicand-size : size ≡ n + 1
+  radicand-size = is .size-is ∙ length-coefficients n w long
+
+  pub radicand-poly : poly c size ≡ coefficients n w
+  radicand-poly = is-poly q c size (coefficients n w) is (omega (arith, length-coefficients n w long))
+
+  pub radicand-itself : Is q c size (poly c size)
+  radicand-itself = subst (Is q c size) (sym radicand-poly) is

@@ -1,8 +1,6 @@
 -- Each test on n is the definition's.
-use Prim.Native.Nat.{_%_}
-use mathlib.Core.Path.{refl, sym, ap, _∙_}
+use mathlib.Core.Path.{sym, ap}
 use mathlib.Core.Bool.{not}
-use lib.Dec.{eqb, ltb}
 use borrow.Author.Tests.{lt-ltb, le-ltb, ne-eqb, eq-eqb}
 use Rattle.definitions.specs.Ticket.{wrongDegree}
 use Rattle.ticket.specs.Any.{any-first, any-second, any-third}

@@ -1,7 +1,7 @@
 -- Each test on the first two words is the definition's.
 use Prim.Native.Nat.{_≤_}
 use native.Mathlib.Omega.{arith}
-use mathlib.Core.Path.{refl, sym, ap, _∙_}
+use mathlib.Core.Path.{sym, ap, _∙_}
 use mathlib.Core.Bool.{not}
 use lib.Dec.{eqb}
 use lib.ListN.{length}

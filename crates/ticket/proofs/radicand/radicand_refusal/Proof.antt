@@ -1,5 +1,5 @@
 -- The first test that applies gives the number; past tests 5 and 6 the record is held.
-use mathlib.Core.Path.{_≡_, sym, _∙_}
+use mathlib.Core.Path.{sym, _∙_}
 use native.Mathlib.Omega.{arith}
 use borrow.Author.Needs.{needs}
 use Rattle.ticket.specs.Radicand.{held-of}
