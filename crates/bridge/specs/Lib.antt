@@ -11,3 +11,7 @@ pub mod Monic
 pub mod Gcd
 pub mod Bezout
 pub mod Product
+pub mod Derivative
+pub mod Degree
+pub mod Euclid
+pub mod Root

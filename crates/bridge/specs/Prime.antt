@@ -17,9 +17,6 @@ pub record OddPrime (q : ℕ) : Type 0 where
   pub odd : q % 2 ≡ 1
   pub small : q < 4096
 
-pub prime-pos : (q : ℕ) → Prime q → 0 < q
-prime-pos q p = let h = p .two in omega arith
-
 -- ---- a prime has no divisor but 1 and itself
 pub prime-divisor : (q : ℕ) → Prime q → (d : ℕ) → q % d ≡ 0 → (d ≡ 1) ⊎ (d ≡ q)
 prime-divisor q p zero e = absurd (let h = p .two in let k : q ≡ 0 = sym (mod-zero q) ∙ e in omega arith)
