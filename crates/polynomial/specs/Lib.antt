@@ -4,3 +4,5 @@ pub mod Held
 pub mod Row
 pub mod Dots
 pub mod Divided
+pub mod Places
+pub mod Linear
