@@ -5,3 +5,4 @@ pub mod Convergents
 pub mod QuasiPeriod
 pub mod NoSquare
 pub mod Admitted
+pub mod State
