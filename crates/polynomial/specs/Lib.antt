@@ -6,3 +6,6 @@ pub mod Dots
 pub mod Divided
 pub mod Places
 pub mod Linear
+pub mod Row
+pub mod Dots
+pub mod Divided
