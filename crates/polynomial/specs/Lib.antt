@@ -1,9 +1,6 @@
 pub mod Record
 pub mod Pad
 pub mod Held
-pub mod Row
-pub mod Dots
-pub mod Divided
 pub mod Places
 pub mod Linear
 pub mod Row
