@@ -6,9 +6,9 @@ use mathlib.Core.List.{List, [], _∷_}
 use lib.ListN.{length}
 use Rattle.ring.specs.Ring.{CRing}
 use Rattle.ring.specs.Identity.{ring, ring-from, times, plus, quote}
-use Rattle.ring.specs.Series.{S, Series, addS, conv, negS, zerS, con}
+use Rattle.ring.specs.Series.{Series, addS, conv, negS, con}
 use Rattle.definitions.specs.Field.{Ops}
-use Rattle.definitions.specs.Polynomials.{Bezout, at, trim, sub, mul, lead, quo, rem, monic, gcd, bezoutIn, bezout}
+use Rattle.definitions.specs.Polynomials.{Bezout, trim, sub, mul, lead, quo, rem, gcd, bezoutIn, bezout}
 use Rattle.bridge.specs.Model.{Model, Inverts, Oks, series, series-nil}
 use Rattle.bridge.specs.Trim.{Trim, trim-idem, length-trim, series-trim, oks-trim}
 use Rattle.bridge.specs.Arithmetic.{series-sub, series-mul, trim-sub, oks-sub, oks-nil}

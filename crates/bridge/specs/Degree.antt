@@ -1,23 +1,23 @@
 -- The degree of a list is that of its polynomial: over a field, the size is one more than the degree and the leading coefficient is not 0.
 use Prim.Native.Nat.{ℕ, zero, suc, _+_ as _+ₙ_, _-_ as _-ₙ_, _≤_, _<_}
 use native.Mathlib.Omega.{arith}
-use mathlib.Core.Path.{_≡_, refl, sym, ap, ap₂, _∙_, subst}
+use mathlib.Core.Path.{_≡_, refl, sym, ap, _∙_}
 use mathlib.Core.Logic.{_⊎_, inl, inr, ⊎-elim}
-use mathlib.Core.List.{List, [], _∷_}
+use mathlib.Core.List.{List, []}
 use lib.ListN.{length}
-use Rattle.ring.specs.Ring.{CRing}
 use Rattle.ring.specs.Order.{le-or-lt}
-use Rattle.ring.specs.Series.{S, zerS, conv}
+use Rattle.ring.specs.Series.{zerS}
 use Rattle.algebra.specs.Field.{Field}
-use Rattle.algebra.specs.Polynomial.{F, Px, Deg, Monic, deg-below, deg-mul, deg-not-zero, deg-path, monic-deg}
+use Rattle.algebra.specs.Polynomial.{F, Px, Deg, Monic, deg-below, deg-mul, deg-path, deg-scale, monic-deg}
 use Rattle.definitions.specs.Field.{Ops}
-use Rattle.definitions.specs.Polynomials.{at, trim, size, deg, lead, mul}
+use Rattle.definitions.specs.Polynomials.{at, trim, size, deg, scale, mul}
 use Rattle.bridge.specs.Model.{Model, series, series-nil}
-use Rattle.bridge.specs.Trim.{Trim, trim-nil, trim-none, below-size, size-le, series-trim, lead-some, lead-is}
-use Rattle.bridge.specs.Arithmetic.{series-mul, trim-mul}
+use Rattle.bridge.specs.Trim.{trim-nil, trim-none, below-size, size-le, series-trim, lead-some, lead-is}
+use Rattle.bridge.specs.Arithmetic.{series-mul, series-scale, trim-mul, trim-scale}
+use Rattle.bridge.specs.Lengths.{length-scale}
 
 module _ {A B : Type 0} {o : Ops A} (K : Field B) (M : Model o (K .scalars)) where
-  open Model M using (φ, φ-zer)
+  open Model M using (φ)
 
   pub deg-is : (l : List A) → deg o l ≡ length (trim o l) -ₙ 1
   unfolding deg size
@@ -57,3 +57,13 @@ module _ {A B : Type 0} {o : Ops A} (K : Field B) (M : Model o (K .scalars)) whe
       let e : length (trim o (mul o p q)) ≡ suc (length (trim o p) -ₙ 1 +ₙ (length (trim o q) -ₙ 1)) = deg-size (mul o p q) (deg-path K _ (sym (series-mul M p q)) (deg-mul K (series M p) (series M q) _ _ (series-deg p h) (series-deg q k))) in
       let t : length (trim o (mul o p q)) ≡ length (mul o p q) = ap length (trim-mul M p q) in
       omega arith
+
+  -- a nonzero multiple keeps the degree
+  pub size-scale : (c : A) (p : List A) → (φ c ≡ F K .zer → ⊥) → length (scale o c p) ≡ length (trim o p)
+  size-scale c p h = ⊎-elim some (λ k. let w : length (scale o c p) ≤ length (trim o p) = length-scale M c p in omega arith) (le-or-lt 1 (length (trim o p)))
+    where
+      some : 1 ≤ length (trim o p) → length (scale o c p) ≡ length (trim o p)
+      some k =
+          let e : length (trim o (scale o c p)) ≡ suc (length (trim o p) -ₙ 1) = deg-size (scale o c p) (deg-path K _ (sym (series-scale M c p)) (deg-scale K (φ c) (series M p) _ h (series-deg p k))) in
+          let t : length (trim o (scale o c p)) ≡ length (scale o c p) = ap length (trim-scale M c p) in
+          omega arith

@@ -1,14 +1,13 @@
 -- The derivative of a list is that of its polynomial; it is trimmed, its coefficients stand for themselves, and it is shorter.
-use Prim.Native.Nat.{ℕ, zero, suc, _+_ as _+ₙ_, _-_ as _-ₙ_, _≤_, _<_, suc-le-suc}
+use Prim.Native.Nat.{ℕ, zero, suc, _+_ as _+ₙ_, _-_ as _-ₙ_, _≤_}
 use native.Mathlib.Nat.{add-zero, add-suc, suc-add}
 use native.Mathlib.Omega.{arith}
-use mathlib.Core.Path.{_≡_, refl, sym, ap, ap₂, _∙_, fun-ext, subst}
+use mathlib.Core.Path.{_≡_, refl, sym, ap, _∙_, fun-ext}
 use mathlib.Core.List.{List, [], _∷_}
 use lib.ListN.{length}
 use Rattle.ring.specs.Ring.{CRing, mul-zer, zer-mul}
 use Rattle.ring.specs.Identity.{ring, quote}
 use Rattle.ring.specs.Series.{S}
-use Rattle.ring.specs.Degree.{Below}
 use Rattle.algebra.specs.Multiple.{natural}
 use Rattle.algebra.specs.Derivative.{derivative as derivativeOf, derivative-at}
 use Rattle.definitions.specs.Field.{Ops}

@@ -1,20 +1,19 @@
 -- Division of lists is division of polynomials: a = quo·b + rem, and rem is shorter than b, since the divisor's leading coefficient has its inverse.
-use Prim.Native.Nat.{ℕ, zero, suc, _+_ as _+ₙ_, _-_ as _-ₙ_, _≤_, _<_, zero-le, suc-le-suc}
+use Prim.Native.Nat.{ℕ, zero, suc, _-_ as _-ₙ_, _≤_, _<_}
 use native.Mathlib.Nat.{le-of-suc-le-suc, eq-or-lt-of-le}
 use native.Mathlib.Omega.{arith}
-use mathlib.Core.Path.{_≡_, refl, sym, ap, ap₂, _∙_, fun-ext, subst}
-use mathlib.Core.Logic.{_⊎_, inl, inr, ⊎-elim}
+use mathlib.Core.Path.{_≡_, refl, sym, ap, ap₂, _∙_, subst}
+use mathlib.Core.Logic.{⊎-elim}
 use mathlib.Core.List.{List, [], _∷_}
 use lib.ListN.{length}
-use Rattle.ring.specs.Ring.{CRing, mul-zer}
-use Rattle.ring.specs.Identity.{ring, ring-from, times, plus, quote}
-use Rattle.ring.specs.Order.{le-or-lt}
-use Rattle.ring.specs.Series.{S, Series, addS, conv, negS, zerS, con}
+use Rattle.ring.specs.Ring.{CRing}
+use Rattle.ring.specs.Identity.{ring, ring-from, times, quote}
+use Rattle.ring.specs.Series.{Series, addS, conv, negS, con}
 use Rattle.ring.specs.Degree.{Below}
 use Rattle.definitions.specs.Field.{Ops}
 use Rattle.definitions.specs.Polynomials.{Split, at, trim, sub, scale, put, divide, lead, quo, rem}
-use Rattle.bridge.specs.Model.{Model, Inverts, Oks, series, series-nil, zer-by-mul}
-use Rattle.bridge.specs.Trim.{Trim, trim-idem, trim-none, below-length, below-size, length-le, size-series, series-trim, series-ext, lead-some, lead-none, lead-is, trim-kept, oks-trim}
+use Rattle.bridge.specs.Model.{Model, Inverts, Oks, series, series-nil}
+use Rattle.bridge.specs.Trim.{Trim, trim-idem, below-length, length-le, series-trim, lead-some, lead-is, trim-kept, oks-trim}
 use Rattle.bridge.specs.Arithmetic.{X, at-sub, at-scale, oks-sub, trim-sub, series-cons, series-sub, series-scale}
 
 module _ {A B : Type 0} {o : Ops A} {R : CRing B} (M : Model o R) where

@@ -1,26 +1,27 @@
 -- Division and greatest common divisor of lists are the field's: the definitions take the steps of Euclid's recursion, so that Bezout's identity and divisibility carry over.
 use Prim.Native.Nat.{ℕ, zero, suc, _+_ as _+ₙ_, _-_ as _-ₙ_, _≤_, _<_}
 use native.Mathlib.Omega.{arith}
-use mathlib.Core.Path.{_≡_, refl, sym, ap, ap₂, _∙_, subst}
-use mathlib.Core.Logic.{_⊎_, inl, inr, ⊎-elim}
+use mathlib.Core.Path.{_≡_, sym, ap, _∙_, subst}
+use mathlib.Core.Logic.{⊎-elim}
 use mathlib.Core.List.{List, [], _∷_}
 use lib.ListN.{length}
-use Rattle.ring.specs.Ring.{CRing}
 use Rattle.ring.specs.Identity.{ring, ring-from, times, plus, quote}
 use Rattle.ring.specs.Order.{le-or-lt}
-use Rattle.ring.specs.Series.{S, Series, addS, conv, zerS, con}
+use Rattle.ring.specs.Series.{Series, addS, conv, zerS, con}
 use Rattle.algebra.specs.Field.{Field}
-use Rattle.algebra.specs.Polynomial.{F, Px, Deg}
-use Rattle.algebra.specs.Division.{Division}
+use Rattle.algebra.specs.Polynomial.{F, Px}
+use Rattle.algebra.specs.Divides.{Divides}
+use Rattle.algebra.specs.Division.{Division, quotient-deg}
 use Rattle.algebra.specs.Gcd.{IsGcd, gcd-base-zero, gcd-base, gcd-step, gcd-unique}
 use Rattle.definitions.specs.Field.{Ops}
-use Rattle.definitions.specs.Polynomials.{at, trim, lead, quo, rem, monic, gcd, bezout}
-use Rattle.bridge.specs.Model.{Model, Inverts, series}
-use Rattle.bridge.specs.Trim.{below-length, trim-nil, series-ext, lead-is, lead-some}
-use Rattle.bridge.specs.Division.{series-quo-rem, rem-below, rem-less, trim-rem}
+use Rattle.definitions.specs.Polynomials.{trim, lead, quo, rem, monic, gcd}
+use Rattle.bridge.specs.Model.{Model, Inverts, series, series-nil}
+use Rattle.bridge.specs.Trim.{below-length, trim-nil, lead-is, lead-some}
+use Rattle.bridge.specs.Division.{series-quo-rem, rem-below, rem-less, rem-by-zero, trim-rem, trim-quo}
+use Rattle.bridge.specs.Quotient.{quo-length, quo-exact}
 use Rattle.bridge.specs.Monic.{series-monic}
 use Rattle.bridge.specs.Gcd.{gcd-zero, gcd-rule}
-use Rattle.bridge.specs.Degree.{series-deg, series-zero}
+use Rattle.bridge.specs.Degree.{series-deg, series-zero, deg-size, zero-size}
 
 module _ {A B : Type 0} {o : Ops A} (K : Field B) (M : Model o (K .scalars)) (I : Inverts M) where
   open Model M using (φ)
@@ -38,6 +39,34 @@ module _ {A B : Type 0} {o : Ops A} (K : Field B) (M : Model o (K .scalars)) (I 
     quo-low = below-length M (quo o a b);
     rem-low = rem-below M I a b h;
   }
+
+  -- the quotient's degree is the difference of both degrees
+  pub size-quo : (a b : List A) → 0 < length (trim o b) → length (quo o a b) ≡ length (trim o a) +ₙ 1 -ₙ length (trim o b)
+  size-quo a b h = ⊎-elim some (λ k. let w = quo-length M a b in omega arith) (le-or-lt (length (trim o b)) (length (trim o a)))
+    where
+      some : length (trim o b) ≤ length (trim o a) → length (quo o a b) ≡ length (trim o a) +ₙ 1 -ₙ length (trim o b)
+      some k =
+          let t : length (trim o (quo o a b)) ≡ length (quo o a b) = ap length (trim-quo M a b) in
+          let e : length (trim o (quo o a b)) ≡ suc (length (trim o a) -ₙ 1 -ₙ (length (trim o b) -ₙ 1)) = deg-size K M (quo o a b) (quotient-deg K (series-deg K M b h) (series-deg K M a (omega arith)) (omega arith) (division-of a b h)) in
+          omega arith
+
+  -- ---- divisibility: the remainder is 0
+  pub rem-none-divides : (a b : List A) → rem o a b ≡ [] → Divides K (series M b) (series M a)
+  rem-none-divides a b e = record {
+    by = series M (quo o a b);
+    size = length (quo o a b);
+    low = below-length M (quo o a b);
+    is = series-quo-rem M a b ∙ ap (addS (F K) (conv (F K) (series M (quo o a b)) (series M b))) (ap (series M) e ∙ series-nil M) ∙ ring (Series (F K)) (series M (quo o a b) ∷ series M b ∷ []) (search quote depth 40 fits 9999) tt;
+  }
+
+  pub divides-rem-none : (a b : List A) → Divides K (series M b) (series M a) → rem o a b ≡ []
+  divides-rem-none a b d = ⊎-elim some none (le-or-lt 1 (length (trim o b)))
+    where
+      some : 1 ≤ length (trim o b) → rem o a b ≡ []
+      some h = quo-exact M I a b (d .by) (d .size) h (d .low) (d .is ∙ Series (F K) .mul-comm (series M b) (d .by)) .1
+
+      none : length (trim o b) < 1 → rem o a b ≡ []
+      none h = sym (trim-rem M a b) ∙ zero-size K M (rem o a b) (rem-by-zero M a b (trim-nil M b (omega arith)) ∙ d .is ∙ ap (λ f. conv (F K) f (d .by)) (series-zero K M b (omega arith)) ∙ ring (Series (F K)) (d .by ∷ []) (search quote depth 40 fits 9999) tt)
 
   -- ---- the greatest common divisor
   abbrev IsGcdOf : List A → List A → Type 0

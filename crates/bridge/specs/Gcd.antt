@@ -1,15 +1,13 @@
 -- The greatest common divisor and its factors by the rules as they are read: each step goes to the divisor and the remainder, which is shorter, so that the turns are enough.
 use Prim.Native.Nat.{ℕ, zero, suc, _≤_, _<_}
 use native.Mathlib.Omega.{arith}
-use mathlib.Core.Path.{_≡_, refl, sym, ap, ap₂, _∙_, subst}
+use mathlib.Core.Path.{_≡_, refl, sym, ap, ap₂, _∙_}
 use mathlib.Core.List.{List, [], _∷_}
 use lib.ListN.{length}
 use Rattle.ring.specs.Ring.{CRing}
-use Rattle.ring.specs.Identity.{ring, ring-from, times, plus, quote}
-use Rattle.ring.specs.Series.{S, Series, addS, conv, negS, con}
 use Rattle.definitions.specs.Field.{Ops}
-use Rattle.definitions.specs.Polynomials.{Bezout, at, trim, sub, mul, lead, quo, rem, monic, gcdIn, gcd, bezoutIn, bezout}
-use Rattle.bridge.specs.Model.{Model, Inverts, Oks, series}
+use Rattle.definitions.specs.Polynomials.{Bezout, trim, sub, mul, lead, quo, rem, monic, gcdIn, gcd, bezoutIn, bezout}
+use Rattle.bridge.specs.Model.{Model, Inverts, series}
 use Rattle.bridge.specs.Trim.{Trim, trim-idem, length-trim, size-series, series-trim}
 use Rattle.bridge.specs.Division.{trim-rem, rem-less}
 use Rattle.bridge.specs.Quotient.{rem-cong, quo-cong}
@@ -24,8 +22,6 @@ unfoldable pub bezoutLast : {A : Type 0} → Ops A → List A → Bezout A
 bezoutLast o a = record { gcd = monic o a; u = trim o (o .inv (lead o a) ∷ []); v = [] }
 
 module _ {A B : Type 0} {o : Ops A} {R : CRing B} (M : Model o R) (I : Inverts M) where
-  open Model M using (φ)
-
   gcd-in : (k : ℕ) (a b : List A) → bezoutIn o k a b .gcd ≡ gcdIn o k a b
   unfolding bezoutIn gcdIn
   gcd-in zero a b = refl

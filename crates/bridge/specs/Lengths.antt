@@ -1,12 +1,12 @@
 -- How long the results are: a bound on the degree gives a bound on the length, as no result has a zero at its end.
-use Prim.Native.Nat.{ℕ, zero, suc, _+_ as _+ₙ_, _≤_, _<_}
+use Prim.Native.Nat.{ℕ, zero, suc, _+_ as _+ₙ_, _≤_}
 use native.Mathlib.Omega.{arith}
-use mathlib.Core.Path.{_≡_, refl, sym, ap, ap₂, _∙_, subst}
-use mathlib.Core.List.{List, [], _∷_}
+use mathlib.Core.Path.{_≡_, sym, ap, _∙_, subst}
+use mathlib.Core.List.{List}
 use lib.ListN.{length}
 use Rattle.ring.specs.Ring.{CRing, mul-zer, neg-zer}
-use Rattle.ring.specs.Series.{S, addS, negS, conv}
-use Rattle.ring.specs.Degree.{Below, below-add, below-conv}
+use Rattle.ring.specs.Series.{S, negS}
+use Rattle.ring.specs.Degree.{Below, below-add, below-conv, conv-none}
 use Rattle.definitions.specs.Field.{Ops}
 use Rattle.definitions.specs.Polynomials.{at, trim, add, sub, scale, mul}
 use Rattle.bridge.specs.Model.{Model, series}
@@ -35,3 +35,6 @@ module _ {A B : Type 0} {o : Ops A} {R : CRing B} (M : Model o R) where
   -- one less than the sum of both
   pub length-mul : (p q : List A) (n : ℕ) → length (trim o p) +ₙ length (trim o q) ≤ suc n → length (mul o p q) ≤ n
   length-mul p q n h = by-series (mul o p q) _ n (trim-mul M p q) (series-mul M p q) (λ i l. below-conv R (length (trim o p)) (length (trim o q)) (series M p) (series M q) (below-size M p) (below-size M q) i (omega arith))
+
+  pub length-mul-none : (p q : List A) → length (trim o p) ≡ 0 → length (mul o p q) ≡ 0
+  length-mul-none p q h = let k : length (mul o p q) ≤ 0 = by-series (mul o p q) _ 0 (trim-mul M p q) (series-mul M p q) (λ i l. conv-none R (series M p) (series M q) (low p 0 (omega arith)) i) in omega arith

@@ -2,7 +2,7 @@
 use Prim.Native.Nat.{ℕ, _-_ as _-ₙ_, _≤_, _<_}
 use native.Mathlib.Omega.{arith}
 use mathlib.Core.Path.{_≡_, refl, sym, ap, _∙_}
-use mathlib.Core.Logic.{_⊎_, ⊎-elim}
+use mathlib.Core.Logic.{⊎-elim}
 use mathlib.Core.Bool.{Bool, true, false}
 use mathlib.Core.List.{List, [], _∷_}
 use lib.ListN.{length}
@@ -11,7 +11,7 @@ use Rattle.ring.specs.Identity.{ring-from, times, plus, quote}
 use Rattle.ring.specs.Order.{le-or-lt}
 use Rattle.ring.specs.Series.{S, conv, con}
 use Rattle.definitions.specs.Field.{Ops}
-use Rattle.definitions.specs.Polynomials.{at, trim, scale, lead, monic}
+use Rattle.definitions.specs.Polynomials.{trim, scale, lead, monic}
 use Rattle.bridge.specs.Model.{Model, Inverts, Oks, series}
 use Rattle.bridge.specs.Trim.{Trim, below-length, size-series, lead-some, lead-is}
 use Rattle.bridge.specs.Arithmetic.{at-scale, scale-cong, trim-scale, oks-scale, series-scale}

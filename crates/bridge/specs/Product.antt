@@ -4,10 +4,10 @@ use native.Mathlib.Nat.{mod-lt, mul-le-mul, suc-add, zero-add, add-zero, add-suc
 use native.Mathlib.Numerals.{add-one}
 use native.Mathlib.Omega.{arith}
 use mathlib.Core.Path.{_≡_, refl, sym, ap, ap₂, _∙_, subst}
-use mathlib.Core.Logic.{_⊎_, ⊎-elim}
-use mathlib.Core.List.{List, [], _∷_}
+use mathlib.Core.Logic.{⊎-elim}
+use mathlib.Core.List.{List}
 use lib.ListN.{getD}
-use Rattle.ring.specs.Ring.{CRing, zer-add}
+use Rattle.ring.specs.Ring.{zer-add}
 use Rattle.ring.specs.Order.{le-or-lt}
 use Rattle.ring.specs.Residues.{FqRing, to, addF, mulF}
 use Rattle.ring.specs.Series.{S}

@@ -1,26 +1,26 @@
 -- Quotient and remainder of lists are the only ones: so they depend on the polynomials alone, whatever zeros stand at the end. Their lengths.
-use Prim.Native.Nat.{ℕ, zero, suc, _+_ as _+ₙ_, _-_ as _-ₙ_, _≤_, _<_, zero-le}
-use native.Mathlib.Nat.{eq-or-lt-of-le}
+use Prim.Native.Nat.{ℕ, zero, _+_ as _+ₙ_, _-_ as _-ₙ_, _≤_, _<_}
 use native.Mathlib.Omega.{arith}
 use mathlib.Core.Path.{_≡_, refl, sym, ap, ap₂, _∙_, fun-ext, subst}
-use mathlib.Core.Logic.{_⊎_, inl, inr, ⊎-elim}
+use mathlib.Core.Logic.{⊎-elim}
 use mathlib.Core.List.{List, [], _∷_}
 use lib.ListN.{length, drop}
 use lib.Seq.{getD-drop}
-use Rattle.ring.specs.Ring.{CRing, mul-zer, neg-zer, eq-of-sub}
+use Rattle.ring.specs.Ring.{CRing, neg-zer, eq-of-sub}
 use Rattle.ring.specs.Identity.{ring, ring-from, times, plus, quote}
 use Rattle.ring.specs.Order.{le-or-lt}
 use Rattle.ring.specs.Series.{S, Series, addS, conv, negS, zerS, con}
-use Rattle.ring.specs.Degree.{Below, below-add, lead-conv}
+use Rattle.ring.specs.Degree.{Below, below-add}
+use Rattle.ring.specs.Division.{no-quo}
 use Rattle.definitions.specs.Field.{Ops}
-use Rattle.definitions.specs.Polynomials.{Split, at, trim, put, divide, lead, quo, rem}
-use Rattle.bridge.specs.Model.{Model, Inverts, Oks, series, series-nil}
-use Rattle.bridge.specs.Trim.{Trim, trim-idem, trim-none, trim-nil, below-length, below-size, length-le, size-series, size-is, series-trim, series-ext, lead-some, lead-none, lead-is, lead-trim}
+use Rattle.definitions.specs.Polynomials.{at, trim, divide, lead, quo, rem}
+use Rattle.bridge.specs.Model.{Model, Inverts, series}
+use Rattle.bridge.specs.Trim.{trim-idem, trim-none, trim-nil, below-length, below-size, length-le, size-series, series-trim, series-ext, lead-some, lead-none, lead-is, lead-trim}
 use Rattle.bridge.specs.Division.{trim-rem, trim-quo, oks-rem, oks-quo, series-quo-rem, rem-by-zero, rem-below, rem-less}
 use Rattle.bridge.specs.Stages.{quo-drop, divide-low-quo, divide-low-rem, divide-none-quo}
 
 module _ {A B : Type 0} {o : Ops A} {R : CRing B} (M : Model o R) where
-  open Model M using (φ, φ-zer, φ-mul, Ok, inj, ok-zer)
+  open Model M using (φ)
 
   zero-at : (i : ℕ) → zerS R i ≡ R .zer
   unfolding zerS
@@ -29,18 +29,6 @@ module _ {A B : Type 0} {o : Ops A} {R : CRing B} (M : Model o R) where
   below-sub : (f g : S R) (n : ℕ) → Below R f n → Below R g n → Below R (addS R f (negS R g)) n
   unfolding negS
   below-sub f g n h k = below-add R f (negS R g) n h (λ i p. ap (R .neg) (k i p) ∙ neg-zer R)
-
-  -- a multiple f·g of lower degree than g is 0, where the leading coefficient of g has an inverse
-  no-multiple : (n : ℕ) (f g : S R) (m : ℕ) (u : B) → R .mul u (g m) ≡ R .one → Below R g (suc m) → Below R f n → Below R (conv R f g) m → f ≡ zerS R
-  unfolding zerS
-  no-multiple zero f g m u e l h k = fun-ext (λ i. h i zero-le)
-  no-multiple (suc n) f g m u e l h k = no-multiple n f g m u e l lower k
-    where
-      top : f n ≡ R .zer
-      top = ring-from R (f n ∷ g m ∷ u ∷ []) (plus R (times R (R .neg (f n)) e) (times R u (sym (lead-conv R n m f g h l) ∙ k (n +ₙ m) (omega arith)))) (search quote depth 40 fits 9999) tt
-
-      lower : Below R f n
-      lower i p = ⊎-elim (λ (w : n ≡ i). ap f (sym w) ∙ top) (λ (w : n < i). h i w) (eq-or-lt-of-le p)
 
   -- ---- the divisor alone: its zeros at the end do not matter
   pub rem-trim-divisor : (a b : List A) → 0 < length (trim o b) → rem o a (trim o b) ≡ rem o a b
@@ -85,7 +73,7 @@ module _ {A B : Type 0} {o : Ops A} {R : CRing B} (M : Model o R) where
         gap = ring-from (Series R) (f ∷ r ∷ series M a ∷ series M b ∷ series M (quo o a b) ∷ series M (rem o a b) ∷ []) (plus (Series R) (times (Series R) (negS R (con R (R .one))) e) (times (Series R) (con R (R .one)) (series-quo-rem M a b))) (search quote depth 40 fits 9999) tt
 
         none : addS R (series M (quo o a b)) (negS R f) ≡ zerS R
-        none = no-multiple (length (quo o a b) +ₙ n) _ (series M b) (length (trim o b) -ₙ 1) (φ (o .inv (lead o b))) (lead-inverse b h) (λ i p. below-size M b i (omega arith)) (below-sub (series M (quo o a b)) f _ (λ i p. below-length M (quo o a b) i (omega arith)) (λ i p. hf i (omega arith))) (subst (λ (g : S R). Below R g (length (trim o b) -ₙ 1)) gap (below-sub r (series M (rem o a b)) _ hr (rem-below M I a b h)))
+        none = no-quo R (length (quo o a b) +ₙ n) _ (series M b) (length (trim o b) -ₙ 1) (φ (o .inv (lead o b))) (lead-inverse b h) (λ i p. below-size M b i (omega arith)) (below-sub (series M (quo o a b)) f _ (λ i p. below-length M (quo o a b) i (omega arith)) (λ i p. hf i (omega arith))) (subst (λ (g : S R). Below R g (length (trim o b) -ₙ 1)) gap (below-sub r (series M (rem o a b)) _ hr (rem-below M I a b h)))
 
         same : series M (quo o a b) ≡ f
         same = eq-of-sub (Series R) _ _ none

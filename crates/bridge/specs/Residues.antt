@@ -3,7 +3,7 @@ use Prim.Native.Nat.{ℕ, zero, suc, _+_, _*_, _-_, _/_, _%_, _≤_, _<_}
 use native.Mathlib.Nat.{mod-lt, mod-eq-of-lt, mod-mod, mod-add-mod, add-mod-mod, mul-add-mod-self-left, div-add-mod, mul-assoc, mul-comm, mul-add, add-mod-right, mul-le-mul-right, lt-trans, eq-zero-or-pos}
 use native.Mathlib.Decide.{ℕ-discrete}
 use native.Mathlib.Omega.{arith}
-use mathlib.Core.Path.{_≡_, refl, sym, ap, ap₂, _∙_, subst}
+use mathlib.Core.Path.{_≡_, refl, sym, ap, _∙_, subst}
 use mathlib.Core.Logic.{_⊎_, inl, inr}
 use mathlib.Core.Bool.{Bool, true, false}
 use lib.Dec.{leb, eqb}
@@ -11,8 +11,9 @@ use borrow.Author.Tests.{leb-true, leb-false, eqb-true, eqb-false}
 use Rattle.ring.specs.Order.{le-or-lt}
 use Rattle.ring.specs.Residues.{Fq, FqRing, val-path, to, addF, mulF, negF, mod-mul-mod, mul-mod-mod}
 use Rattle.algebra.specs.Field.{Field}
-use Rattle.definitions.specs.Field.{Ops, modulo, inverseIn, inverse}
+use Rattle.definitions.specs.Field.{modulo, inverseIn, inverse}
 use Rattle.bridge.specs.Model.{Model, Inverts}
+use Rattle.bridge.specs.Coefficients.{Onto}
 use Rattle.bridge.specs.Prime.{Prime}
 
 -- ---- the inverse's two rules, as they are read
@@ -176,9 +177,13 @@ module _ (q : ℕ) (p : Prime q) where
   pub pos : 0 < q
   pos = let h = p .two in omega arith
 
-  to-back : (a : Fq q) → to q pos (a .0) ≡ a
+  pub to-back : (a : Fq q) → to q pos (a .0) ≡ a
   unfolding to
   to-back a = val-path q _ _ (mod-eq-of-lt (a .1))
+
+  -- every residue is that of a number below q
+  abbrev pub onto : Onto (model q pos)
+  onto = record { back = λ a. a .0; φ-back = to-back; ok-back = λ a. a .1 }
 
   pub inv-is : (a : Fq q) → (a ≡ to q pos 0 → ⊥) → mulF q pos (to q pos (inverse q (a .0))) a ≡ to q pos 1
   inv-is a h = ap (mulF q pos (to q pos (inverse q (a .0)))) (sym (to-back a)) ∙ inverts q pos p .inv-mul (a .0) (λ e. h (sym (to-back a) ∙ e))

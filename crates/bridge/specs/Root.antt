@@ -1,21 +1,21 @@
 -- `root D N` is the root d of a monic D of degree 2N: each turn makes one more coefficient of D − d² vanish. It is trimmed, with N + 1 coefficients that stand for themselves.
-use Prim.Native.Nat.{ℕ, zero, suc, _+_ as _+ₙ_, _-_ as _-ₙ_, _≤_, _<_}
+use Prim.Native.Nat.{ℕ, zero, suc, _+_ as _+ₙ_, _≤_}
 use native.Mathlib.Nat.{le-of-suc-le-suc}
 use native.Mathlib.Omega.{arith}
-use mathlib.Core.Path.{_≡_, refl, sym, ap, ap₂, _∙_, subst}
+use mathlib.Core.Path.{_≡_, refl, sym, ap, _∙_}
 use mathlib.Core.Bool.{Bool, true, false}
 use mathlib.Core.List.{List, [], _∷_}
 use lib.ListN.{length}
 use Rattle.ring.specs.Ring.{CRing}
 use Rattle.ring.specs.Identity.{ring-from, times, quote}
-use Rattle.ring.specs.Series.{S, Series, addS, conv, negS}
+use Rattle.ring.specs.Series.{Series}
 use Rattle.algebra.specs.Field.{Field}
 use Rattle.algebra.specs.Polynomial.{F, Px, _≺_, Monic, low-up, low-path, monic-mul, monic-sub, monic-dominant, monic-path}
 use Rattle.algebra.specs.Root.{IsRoot, root-step, root-unique}
 use Rattle.definitions.specs.Field.{Ops}
 use Rattle.definitions.specs.Polynomials.{at, keep, cons, trim, add, sub, mul, monomial, rootIn, root}
 use Rattle.bridge.specs.Model.{Model, Inverts, Oks, series}
-use Rattle.bridge.specs.Trim.{Trim, series-ext}
+use Rattle.bridge.specs.Trim.{Trim}
 use Rattle.bridge.specs.Arithmetic.{oks-add, trim-add, series-add, series-sub, series-mul}
 use Rattle.bridge.specs.Degree.{monic-size}
 

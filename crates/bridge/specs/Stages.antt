@@ -2,7 +2,7 @@
 use Prim.Native.Nat.{ℕ, zero, suc, _+_ as _+ₙ_, _-_ as _-ₙ_, _≤_, _<_}
 use native.Mathlib.Nat.{suc-add, zero-add}
 use native.Mathlib.Omega.{arith}
-use mathlib.Core.Path.{_≡_, refl, sym, ap, ap₂, _∙_, subst}
+use mathlib.Core.Path.{_≡_, refl, sym, ap, ap₂, _∙_}
 use mathlib.Core.List.{List, [], _∷_}
 use lib.ListN.{length, drop}
 use lib.Seq.{drop-cons}
@@ -14,7 +14,7 @@ use Rattle.bridge.specs.Model.{Model, Oks, series}
 use Rattle.bridge.specs.Division.{put-at, divide-oks, divide-quo-oks}
 
 module _ {A B : Type 0} {o : Ops A} {R : CRing B} (M : Model o R) where
-  open Model M using (φ, φ-zer, φ-sub, φ-mul, Ok, inj, ok-zer)
+  open Model M using (φ, φ-zer, φ-sub, φ-mul, inj, ok-zer)
 
   -- ---- one turn
   pub divide-drop : (u : A) (b p : List A) (k : ℕ) → k < length p → divide o u b (drop k p) ≡ put o u b (at o p k) (divide o u b (drop (suc k) p))

@@ -1,6 +1,8 @@
 pub mod Record
 pub mod Pad
 pub mod Held
+pub mod Places
+pub mod Linear
 pub mod Row
 pub mod Dots
 pub mod Divided

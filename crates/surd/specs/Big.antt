@@ -1,10 +1,10 @@
 -- Pairs (x, y) that are near to y √D: x - d y has a smaller degree than y. A pair with a small norm is near, or becomes so by the
 -- other sign of y (carried by the product (x - d y)(x + d y), which is small, while the factors' difference 2 d y is not).
-use Prim.Native.Nat.{ℕ, zero, suc, _+_ as _+ₙ_, _≤_, _<_}
+use Prim.Native.Nat.{ℕ, suc, _+_ as _+ₙ_, _<_}
 use native.Mathlib.Omega.{arith}
-use mathlib.Core.Path.{_≡_, refl, sym, ap, _∙_}
+use mathlib.Core.Path.{_≡_, sym}
 use mathlib.Core.Logic.{_⊎_, inl, inr, ⊎-elim}
-use mathlib.Core.List.{List, [], _∷_}
+use mathlib.Core.List.{[], _∷_}
 use Rattle.ring.specs.Ring.{CRing}
 use Rattle.ring.specs.Identity.{ring, ring-from, times, quote}
 use Rattle.ring.specs.Series.{Series}
@@ -14,7 +14,7 @@ use Rattle.algebra.specs.Polynomial.{F, Px, _≺_ as Low, Deg, low-up, low-zero
 use Rattle.surd.specs.Root.{Root, deg-twice, d-deg}
 
 module _ {A : Type 0} (K : Field A) where
-  open CRing (Series (F K)) using (add as _+_, mul as _*_, neg as -_, zer as 𝟘, one as 𝟙)
+  open CRing (Series (F K)) using (add as _+_, mul as _*_, neg as -_, zer as 𝟘)
 
   infixl 6 _+_ _-_
   infixl 7 _*_

@@ -1,16 +1,16 @@
 -- Classification: a reduced ideal with a generator is an ideal of the walk, and the degree of the generator is its distance there.
 -- By the descent the generator is λ times a convergent; λ divides Q and y, which have no common factor, so λ is a constant.
-use Prim.Native.Nat.{ℕ, zero, suc, _+_ as _+ₙ_, _-_ as _-ₙ_, _≤_, _<_}
+use Prim.Native.Nat.{ℕ, suc, _+_ as _+ₙ_, _≤_}
 use native.Mathlib.Omega.{arith}
-use mathlib.Core.Path.{_≡_, refl, sym, ap, _∙_, subst}
-use mathlib.Core.List.{List, [], _∷_}
+use mathlib.Core.Path.{_≡_, sym, _∙_}
+use mathlib.Core.List.{[], _∷_}
 use Rattle.ring.specs.Ring.{CRing}
 use Rattle.ring.specs.Identity.{ring, ring-from, times, plus, quote}
 use Rattle.ring.specs.Series.{Series, con}
 use Rattle.algebra.specs.Field.{Field}
 use mathlib.Core.Logic.{_⊎_, inl, inr, ⊎-elim}
 use Rattle.ring.specs.Division.{below-con}
-use Rattle.algebra.specs.Polynomial.{F, Px, _≺_ as Low, Deg, low-up, low-neg, low-add, low-sub, low-product, low-path, low-one, con-inv, deg-path, deg-con, deg-mul, deg-neg, deg-unique}
+use Rattle.algebra.specs.Polynomial.{F, Px, _≺_ as Low, Deg, low-up, low-neg, low-sub, low-product, con-inv, deg-con, deg-mul}
 use Rattle.algebra.specs.Divides.{Divides, divides-path, divides-refl, divides-trans, divides-add, divides-sub, divides-mul, divides-mulˡ, divides-constant}
 use Rattle.algebra.specs.Associate.{Associate, associate-path, associate-sym, associate-trans, associate-deg, associate-low, associate-divides, divides-associate}
 use Rattle.surd.specs.Root.{Root}
@@ -20,12 +20,12 @@ use Rattle.surd.specs.Walk.{Walk, P-monic}
 use Rattle.surd.specs.Convergents.{sign, linear}
 use Rattle.surd.specs.Convergents as convergents
 use Rattle.surd.specs.Distance.{distance, p-deg}
-use Rattle.surd.specs.Descent.{Multiple, descent-big, multiple-deg, multiple-norm}
+use Rattle.surd.specs.Descent.{Multiple, descent-big, multiple-norm}
 use Rattle.surd.specs.Ideal.{SameIdeal}
 use Rattle.surd.specs.Generators.{Generates, generates-conjugate, associate-scale, sign-constant, cofactor, cofactor-low, combination, s-bounded}
 
 module _ {A : Type 0} (K : Field A) where
-  open CRing (Series (F K)) using (add as _+_, mul as _*_, neg as -_, zer as 𝟘, one as 𝟙)
+  open CRing (Series (F K)) using (add as _+_, mul as _*_, neg as -_, one as 𝟙)
 
   infixl 6 _+_ _-_
   infixl 7 _*_

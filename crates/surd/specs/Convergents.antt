@@ -1,15 +1,16 @@
 -- The convergents p, s of the continued fraction, their norms and linear identities. One induction gives all norms: the form
 -- N i (u, v) = Q i u² - 2 P i u v - Q (i - 1) v² is the norm of u p + v s, up to a sign.
 use Prim.Native.Nat.{ℕ, zero, suc}
-use mathlib.Core.Path.{_≡_, refl, sym, ap, ap₂, _∙_}
-use mathlib.Core.List.{List, [], _∷_}
+use mathlib.Core.Path.{_≡_, ap, ap₂, _∙_}
+use mathlib.Core.List.{[], _∷_}
 use Rattle.ring.specs.Ring.{CRing}
 use Rattle.ring.specs.Identity.{ring, ring-from, times, plus, quote}
+use Rattle.ring.specs.Identities.{form, norm-turn as turn}
 use Rattle.ring.specs.Series.{Series}
 use Rattle.algebra.specs.Field.{Field}
 use Rattle.algebra.specs.Polynomial.{F, Px, _≺_ as Low, Deg, low-neg, low-path, deg-path, deg-neg}
 use Rattle.surd.specs.Root.{Root}
-use Rattle.surd.specs.Walk.{Walk, prior, norm}
+use Rattle.surd.specs.Walk.{Walk, prior}
 
 module _ {A : Type 0} (K : Field A) where
   open CRing (Series (F K)) using (add as _+_, mul as _*_, neg as -_, zer as 𝟘, one as 𝟙)
@@ -76,10 +77,10 @@ module _ {A : Type 0} (K : Field A) where
 
     -- ---- norms
     abbrev pub N : ℕ → P[x] → P[x] → P[x]
-    N i u v = Q i * (u * u) - (𝟙 + 𝟙) * P i * u * v - prior K D Q i * (v * v)
+    N i = form R[x] (Q i) (P i) (prior K D Q i)
 
-    pub norm-turn : (i : ℕ) (v z : P[x]) → N i (a i * v + z) v ≡ - N (suc i) v z
-    norm-turn i v z = rw (Q-step i, P-step i) (ring R[x] (P i ∷ prior K D Q i ∷ Q i ∷ a i ∷ v ∷ z ∷ []) (search quote depth 40 fits 9999) tt)
+    pub norm-turn : (i : ℕ) (u v : P[x]) → N i (a i * u + v) u ≡ - N (suc i) u v
+    norm-turn i u v = turn R[x] (P i) (Q i) (prior K D Q i) (a i) u v (P-step i) (Q-step i)
 
     pub norm-combination : (i : ℕ) (u v : P[x])
         → (u * p (suc i) + v * p i) * (u * p (suc i) + v * p i) - D * ((u * s (suc i) + v * s i) * (u * s (suc i) + v * s i)) ≡ sign i * N i u v

@@ -1,12 +1,13 @@
 -- The descent: a pair whose norm has degree at most g is a polynomial multiple of a convergent, up to the sign of its second part.
 -- Carried by division of the pair through the convergents, each remainder of smaller degree than the last.
-use Prim.Native.Nat.{ℕ, zero, suc, max, _+_ as _+ₙ_, _-_ as _-ₙ_, _≤_, _<_}
+use Prim.Native.Nat.{ℕ, zero, suc, max, _+_ as _+ₙ_, _-_ as _-ₙ_, _<_}
 use native.Mathlib.Omega.{arith}
-use mathlib.Core.Path.{_≡_, refl, sym, ap, ap₂, _∙_}
+use mathlib.Core.Path.{_≡_, sym, ap₂, _∙_}
 use mathlib.Core.Logic.{_⊎_, inl, inr, ⊎-elim}
-use mathlib.Core.List.{List, [], _∷_}
+use mathlib.Core.List.{[], _∷_}
 use Rattle.ring.specs.Ring.{CRing}
 use Rattle.ring.specs.Identity.{ring, ring-from, times, plus, quote}
+use Rattle.ring.specs.Identities.{norm-factors, descent-left, descent-right}
 use Rattle.ring.specs.Series.{Series}
 use Rattle.ring.specs.Order.{le-or-lt}
 use Rattle.algebra.specs.Field.{Field}
@@ -16,7 +17,7 @@ use Rattle.surd.specs.Big.{Big, dichotomy}
 use Rattle.surd.specs.Walk.{Walk, prior, norm, a-first}
 use Rattle.surd.specs.Convergents.{sign, sign-low, sign-swap, norm-combination, norm-convergent}
 use Rattle.surd.specs.Convergents as convergents
-use Rattle.surd.specs.Distance.{distance, p-deg}
+use Rattle.surd.specs.Distance.{distance, height, p-deg, s-deg, convergent-near}
 
 module _ {A : Type 0} (K : Field A) where
   open CRing (Series (F K)) using (add as _+_, mul as _*_, neg as -_, zer as 𝟘, one as 𝟙)
@@ -76,16 +77,16 @@ module _ {A : Type 0} (K : Field A) where
         rem-low = low-sub K u (a i * v) _ (low-up K u (omega arith) (hu .low)) (low-up K (a i * v) (omega arith) (low-mul K (a i) v (size i) n (a-low i) (hv .low)))
 
         rem-Q : y₋ + r i * v ≡ (u - a i * v) * Q i
-        rem-Q = ring-from R[x] (Q i ∷ u ∷ v ∷ P i ∷ d ∷ r i ∷ a i ∷ []) (times R[x] (- v) (divide i)) (search quote depth 40 fits 9999) tt
+        rem-Q = sym (R[x] .mul-comm (u - a i * v) (Q i) ∙ descent-left R[x] (P i) (Q i) (a i) d (r i) u v (divide i))
 
         y₊-deg : Deg K y₊ (κi +ₙ m)
-        y₊-deg = deg-path K (κi +ₙ m) (ring R[x] (Q i ∷ u ∷ v ∷ P i ∷ d ∷ []) (search quote depth 40 fits 9999) tt) (deg-dominant K (Q i * u) (- ((P i - d) * v)) (κi +ₙ m) (deg-mul K (Q i) u κi m (Q-deg i) hu) (low-neg K ((P i - d) * v) (κi +ₙ m) (low-up K ((P i - d) * v) (omega arith) (low-mul K (P i - d) v κi n (near j) (hv .low)))))
+        y₊-deg = deg-path K (κi +ₙ m) (sym (descent-right R[x] (P i) (Q i) d u v)) (deg-dominant K (Q i * u) (- ((P i - d) * v)) (κi +ₙ m) (deg-mul K (Q i) u κi m (Q-deg i) hu) (low-neg K ((P i - d) * v) (κi +ₙ m) (low-up K ((P i - d) * v) (omega arith) (low-mul K (P i - d) v κi n (near j) (hv .low)))))
 
-        product : N i u v * Q i + o .e * (v * v) ≡ y₋ * y₊
-        product = ring-from R[x] (Q i ∷ u ∷ v ∷ P i ∷ d ∷ prior K D Q i ∷ o .e ∷ D ∷ []) (plus R[x] (times R[x] (v * v) (norm K w i)) (times R[x] (- (v * v)) (o .is))) (search quote depth 40 fits 9999) tt
+        product : y₋ * y₊ ≡ Q i * N i u v + o .e * (v * v)
+        product = norm-factors R[x] (P i) (Q i) (prior K D Q i) d (o .e) u v (norm K w i) (o .is)
 
         product-low : y₋ * y₊ ≺ suc g +ₙ M
-        product-low = low-path K (suc g +ₙ M) product (low-add K _ _ (suc g +ₙ M) (low-up K _ (omega arith) (low-mul K (N i u v) (Q i) (suc g) κi h (Q-deg i .low))) (low-up K _ (omega arith) (low-mul K (o .e) (v * v) (suc g) (n +ₙ n) (o .e-low) (deg-mul K v v n n hv hv .low))))
+        product-low = low-path K (suc g +ₙ M) (sym product) (low-add K _ _ (suc g +ₙ M) (low-up K _ (omega arith) (low-mul K (Q i) (N i u v) (suc κi) g (Q-deg i .low) h)) (low-up K _ (omega arith) (low-mul K (o .e) (v * v) (suc g) (n +ₙ n) (o .e-low) (deg-mul K v v n n hv hv .low))))
 
         twice-deg : Deg K (d * v + d * v) (suc g +ₙ n)
         twice-deg = deg-twice K (d * v) (suc g +ₙ n) (deg-mul K d v (suc g) n (d-deg K o) hv)
@@ -177,3 +178,14 @@ module _ {A : Type 0} (K : Field A) where
       multiple-norm =
           ap₂ (λ f k. f * f - D * (k * k)) (h .x-is) (h .y-is)
           ∙ ring-from R[x] (h .by ∷ p (suc (suc (h .at))) ∷ s (suc (suc (h .at))) ∷ D ∷ sign K (suc (h .at)) ∷ Q (suc (h .at)) ∷ []) (times R[x] (h .by * h .by) (norm-convergent K w (suc (h .at)))) (search quote depth 40 fits 9999) tt
+
+      -- the sign is +: x is near to d y
+      pub multiple-big : Big K o x y
+      multiple-big = record {
+        height = h .size +ₙ height K w (h .at);
+        y-deg = deg-path K _ (sym (h .y-is)) (deg-mul K (h .by) (s (suc (suc (h .at)))) (h .size) (height K w (h .at)) (h .by-deg) (s-deg K w (h .at)));
+        near = low-path K _ near-is (low-up K _ (omega arith) (low-mul K (p (suc (suc (h .at))) - o .d * s (suc (suc (h .at)))) (h .by) (height K w (h .at)) (h .size) (convergent-near K w (h .at)) (h .by-deg .low)));
+      }
+        where
+          near-is : (p (suc (suc (h .at))) - o .d * s (suc (suc (h .at)))) * h .by ≡ x - o .d * y
+          near-is = ring-from R[x] (x ∷ y ∷ h .by ∷ p (suc (suc (h .at))) ∷ s (suc (suc (h .at))) ∷ o .d ∷ []) (plus R[x] (times R[x] (- 𝟙) (h .x-is)) (times R[x] (o .d) (h .y-is))) (search quote depth 40 fits 9999) tt

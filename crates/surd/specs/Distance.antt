@@ -2,11 +2,11 @@
 use Prim.Native.Nat.{ℕ, zero, suc, _+_ as _+ₙ_, _-_ as _-ₙ_, _*_ as _*ₙ_, _≤_, _<_}
 use native.Mathlib.Nat.{zero-add, suc-add, suc-mul}
 use native.Mathlib.Omega.{arith}
-use mathlib.Core.Path.{_≡_, refl, sym, ap, ap₂, _∙_, subst}
+use mathlib.Core.Path.{_≡_, sym, ap, ap₂, _∙_, subst}
 use mathlib.Core.Logic.{⊎-elim}
-use mathlib.Core.List.{List, [], _∷_}
+use mathlib.Core.List.{[], _∷_}
 use Rattle.ring.specs.Ring.{CRing, one-mul}
-use Rattle.ring.specs.Identity.{ring, ring-from, times, plus, quote}
+use Rattle.ring.specs.Identity.{ring, ring-from, times, quote}
 use Rattle.ring.specs.Series.{Series, addS}
 use Rattle.ring.specs.Order.{le-or-lt}
 use Rattle.ring.specs.Degree.{lead-conv}
@@ -149,21 +149,3 @@ module _ {A : Type 0} (K : Field A) where
     pub distance-most : (i : ℕ) → distance i ≤ i *ₙ suc g
     distance-most zero = omega arith
     distance-most (suc i) = let h = distance-most i in let e = suc-mul i (suc g) in omega arith
-
-    -- ---- the quasi-period: the first index from 1 on at which Q is constant
-    pub record QuasiPeriod (m : ℕ) : Type 0 where
-      pub positive : 0 < m
-      pub constant : κ m ≡ 0
-      pub least : (j : ℕ) → 0 < j → j < m → κ j ≡ 0 → ⊥
-
-    pub regulator-least : (m : ℕ) → QuasiPeriod m → g +ₙ m ≤ distance m
-    regulator-least zero h = absurd (omega arith)
-    regulator-least (suc m) h = let k = distance-least m in omega arith
-
-    pub regulator-most : (m : ℕ) → QuasiPeriod m → distance m ≤ m *ₙ g +ₙ 1
-    regulator-most zero h = absurd (omega arith)
-    regulator-most (suc m) h = up-to m (omega arith)
-      where
-        up-to : (j : ℕ) → j < suc m → distance (suc j) ≤ suc j *ₙ g +ₙ 1
-        up-to zero l = let e = suc-mul 0 g in omega arith
-        up-to (suc j) l = let k = up-to j (omega arith) in let e = suc-mul (suc j) g in let c = h .least (suc j) (omega arith) l in ⊎-elim (λ z. (omega arith)) (λ z. absurd (c (omega arith))) (le-or-lt 1 (κ (suc j)))

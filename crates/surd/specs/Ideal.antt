@@ -1,9 +1,9 @@
 -- Ideals as pairs: (Q, P) up to a constant factor of Q and a multiple of Q in P; and that a step sees only the ideal. Carried by rigidity:
 -- the next P is the one P′ with Q | P + P′ and P′ - d of smaller degree than Q.
-use Prim.Native.Nat.{ℕ, zero, suc, _+_ as _+ₙ_, _≤_, _<_}
+use Prim.Native.Nat.{ℕ, suc, _+_ as _+ₙ_}
 use native.Mathlib.Omega.{arith}
-use mathlib.Core.Path.{_≡_, refl, sym, ap, ap₂, _∙_, subst}
-use mathlib.Core.List.{List, [], _∷_}
+use mathlib.Core.Path.{_≡_, sym, subst}
+use mathlib.Core.List.{[], _∷_}
 use Rattle.ring.specs.Ring.{CRing}
 use Rattle.ring.specs.Identity.{ring, ring-from, times, plus, quote}
 use Rattle.ring.specs.Series.{Series}

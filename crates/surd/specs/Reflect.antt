@@ -1,15 +1,15 @@
 -- Reflection: where the walk turns back on itself at one place, P i = P (j + 1) with Q i and Q j associates, it does so at all places from there,
 -- forward in i and backward in j. Carried by rigidity, as the step is.
-use Prim.Native.Nat.{ℕ, zero, suc, _+_ as _+ₙ_, _-_ as _-ₙ_, _≤_, _<_}
+use Prim.Native.Nat.{ℕ, zero, suc, _+_ as _+ₙ_}
 use native.Mathlib.Nat.{zero-add, suc-add}
 use native.Mathlib.Omega.{arith}
-use mathlib.Core.Path.{_≡_, refl, sym, ap, _∙_, subst}
-use mathlib.Core.List.{List, [], _∷_}
+use mathlib.Core.Path.{_≡_, subst}
+use mathlib.Core.List.{[], _∷_}
 use Rattle.ring.specs.Ring.{CRing}
-use Rattle.ring.specs.Identity.{ring, ring-from, times, plus, quote}
+use Rattle.ring.specs.Identity.{ring-from, times, plus, quote}
 use Rattle.ring.specs.Series.{Series}
 use Rattle.algebra.specs.Field.{Field}
-use Rattle.algebra.specs.Polynomial.{F, Px, _≺_ as Low, Deg, low-up}
+use Rattle.algebra.specs.Polynomial.{F, Px, _≺_ as Low, low-up}
 use Rattle.algebra.specs.Divides.{divides-path, divides-sub}
 use Rattle.algebra.specs.Associate.{Associate, associate-sym, associate-cofactor, divides-associate}
 use Rattle.surd.specs.Root.{Root}
@@ -18,7 +18,7 @@ use Rattle.surd.specs.Ideal.{near-rigid}
 use Rattle.surd.specs.Same.{divides-sum, same-κ}
 
 module _ {A : Type 0} (K : Field A) where
-  open CRing (Series (F K)) using (add as _+_, mul as _*_, neg as -_, zer as 𝟘, one as 𝟙)
+  open CRing (Series (F K)) using (add as _+_, mul as _*_, neg as -_, one as 𝟙)
 
   infixl 6 _+_ _-_
   infixl 7 _*_

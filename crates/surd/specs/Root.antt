@@ -1,8 +1,8 @@
 -- The root d of D and what is left: D = d² + e with d monic of degree g + 1 and e of degree at most g.
-use Prim.Native.Nat.{ℕ, zero, suc, _+_ as _+ₙ_}
+use Prim.Native.Nat.{ℕ, suc, _+_ as _+ₙ_}
 use native.Mathlib.Omega.{arith}
-use mathlib.Core.Path.{_≡_, refl, sym, _∙_}
-use mathlib.Core.List.{List, [], _∷_}
+use mathlib.Core.Path.{_≡_, sym, _∙_}
+use mathlib.Core.List.{[], _∷_}
 use Rattle.ring.specs.Ring.{CRing}
 use Rattle.ring.specs.Identity.{ring, quote}
 use Rattle.ring.specs.Series.{Series, addS}
@@ -11,7 +11,7 @@ use Rattle.algebra.specs.Polynomial.{F, Px, _≺_ as Low, Deg, Monic, low-up, l
 use Rattle.algebra.specs.Root.{IsRoot}
 
 module _ {A : Type 0} (K : Field A) where
-  open CRing (Series (F K)) using (add as _+_, mul as _*_, neg as -_, zer as 𝟘, one as 𝟙)
+  open CRing (Series (F K)) using (add as _+_, mul as _*_, neg as -_)
 
   infixl 6 _+_
   infixl 7 _*_

@@ -1,15 +1,15 @@
 -- Two states of one walk with the same ideal: then so have the states after them, and the states before them. Forward a step sees only
 -- the ideal; backward rigidity serves again, since P is near to d with respect to its own Q too.
-use Prim.Native.Nat.{ℕ, zero, suc, _+_ as _+ₙ_, _-_ as _-ₙ_, _≤_, _<_}
+use Prim.Native.Nat.{ℕ, zero, suc, _+_ as _+ₙ_}
 use native.Mathlib.Nat.{zero-add, suc-add}
 use native.Mathlib.Omega.{arith}
-use mathlib.Core.Path.{_≡_, refl, sym, ap, _∙_, subst}
-use mathlib.Core.List.{List, [], _∷_}
+use mathlib.Core.Path.{_≡_, _∙_, subst}
+use mathlib.Core.List.{[], _∷_}
 use Rattle.ring.specs.Ring.{CRing}
-use Rattle.ring.specs.Identity.{ring, ring-from, times, plus, quote}
+use Rattle.ring.specs.Identity.{ring-from, times, plus, quote}
 use Rattle.ring.specs.Series.{Series}
 use Rattle.algebra.specs.Field.{Field}
-use Rattle.algebra.specs.Polynomial.{F, Px, _≺_ as Low, Deg, low-up, deg-unique}
+use Rattle.algebra.specs.Polynomial.{F, Px, _≺_ as Low, low-up, deg-unique}
 use Rattle.algebra.specs.Divides.{Divides, divides-path, divides-sub}
 use Rattle.algebra.specs.Associate.{Associate, associate-sym, associate-deg, associate-cofactor, divides-associate}
 use Rattle.surd.specs.Root.{Root}
@@ -17,7 +17,7 @@ use Rattle.surd.specs.Walk.{Walk, norm, P-sum, near-prior}
 use Rattle.surd.specs.Ideal.{SameIdeal, Follows, near-rigid, next-same, next-same-P}
 
 module _ {A : Type 0} (K : Field A) where
-  open CRing (Series (F K)) using (add as _+_, mul as _*_, neg as -_, zer as 𝟘, one as 𝟙)
+  open CRing (Series (F K)) using (add as _+_, mul as _*_, neg as -_, one as 𝟙)
 
   infixl 6 _+_ _-_
   infixl 7 _*_

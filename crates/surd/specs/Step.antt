@@ -1,12 +1,13 @@
 -- One step from a state (Q, P): it is exact, it never reaches Q = 0, and it keeps Q reduced (of degree at most g). Carried by one identity,
 -- Q′ Q = r (2 d - r) + e, in which the degrees are compared.
-use Prim.Native.Nat.{ℕ, zero, suc, _+_ as _+ₙ_, _≤_, _<_}
+use Prim.Native.Nat.{ℕ, suc, _+_ as _+ₙ_, _≤_, _<_}
 use native.Mathlib.Omega.{arith}
 use mathlib.Core.Path.{_≡_, refl, sym, ap, _∙_}
 use mathlib.Core.Logic.{_⊎_, inl, inr}
-use mathlib.Core.List.{List, [], _∷_}
+use mathlib.Core.List.{[], _∷_}
 use Rattle.ring.specs.Ring.{CRing}
-use Rattle.ring.specs.Identity.{ring, ring-from, times, plus, quote}
+use Rattle.ring.specs.Identity.{ring-from, times, plus, quote}
+use Rattle.ring.specs.Identities.{step-exact, step-product}
 use Rattle.ring.specs.Series.{Series}
 use Rattle.algebra.specs.Field.{Field}
 use Rattle.algebra.specs.Polynomial.{F, Px, _≺_ as Low, Deg, low-up, low-zero, low-add, low-neg, low-sub, low-mul, low-path, degree, deg-mul, deg-dominant, deg-below}
@@ -57,13 +58,13 @@ module _ {A : Type 0} (K : Field A) where
 
     -- D - P′² = Q Q′
     pub exact : D ≡ next-P * next-P + next-Q * Q
-    exact = s .norm ∙ ring R[x] (Q ∷ C ∷ P ∷ a ∷ []) (search quote depth 40 fits 9999) tt
+    exact = step-exact R[x] P Q C a (s .norm) refl refl ∙ ap (λ f. next-P * next-P + f) (R[x] .mul-comm Q next-Q)
 
     pub next-P-is : next-P ≡ o .d - r
     next-P-is = ring-from R[x] (Q ∷ P ∷ a ∷ r ∷ o .d ∷ []) (times R[x] (- 𝟙) (q .is)) (search quote depth 40 fits 9999) tt
 
     pub product : next-Q * Q ≡ r * (o .d + o .d - r) + o .e
-    product = ring-from R[x] (next-Q ∷ Q ∷ next-P ∷ r ∷ o .d ∷ o .e ∷ D ∷ []) (plus R[x] (times R[x] (- 𝟙) exact) (plus R[x] (times R[x] 𝟙 (o .is)) (times R[x] (- (next-P + o .d - r)) next-P-is))) (search quote depth 40 fits 9999) tt
+    product = R[x] .mul-comm next-Q Q ∙ step-product R[x] D (o .d) (o .e) r Q next-P next-Q (step-exact R[x] P Q C a (s .norm) refl refl) (o .is) next-P-is
 
     pub next-P-low : next-P ≺ n +ₙ s .κ +ₙ s .size
     next-P-low = low-sub K (a * Q) P _ (low-up K (a * Q) (omega arith) (low-mul K a Q (n) (s .κ) (q .quo-low) (s .deg .low))) (low-up K P (omega arith) (s .P-low))

@@ -2,8 +2,8 @@
 -- the cheap recurrence, and the degrees of P i and a i.
 use Prim.Native.Nat.{ℕ, zero, suc, _+_ as _+ₙ_, _-_ as _-ₙ_, _≤_, _<_}
 use native.Mathlib.Omega.{arith}
-use mathlib.Core.Path.{_≡_, refl, sym, ap, ap₂, _∙_}
-use mathlib.Core.List.{List, [], _∷_}
+use mathlib.Core.Path.{_≡_, sym, ap, ap₂, _∙_}
+use mathlib.Core.List.{[], _∷_}
 use Rattle.ring.specs.Ring.{CRing}
 use Rattle.ring.specs.Identity.{ring, ring-from, times, plus, quote}
 use Rattle.ring.specs.Series.{Series, addS}
@@ -77,7 +77,7 @@ module _ {A : Type 0} (K : Field A) where
     pub κ-first : κ 0 ≡ 0
     κ-first = let h : κ 0 < 1 = deg-below K 𝟙 (κ 0) 1 (deg-path K (κ 0) Q-first (Q-deg 0)) (one-low K) in omega arith
 
-    r-first : r 0 ≡ 𝟘
+    pub r-first : r 0 ≡ 𝟘
     r-first = low-none K (r 0) (low-up K (r 0) (omega (arith, κ-first)) (r-low 0))
 
     pub a-first : a 0 ≡ o .d

@@ -1,14 +1,14 @@
 -- The walk from the equations that compute it: quotients and remainders of P + d and of D - P² by Q. That the second remainder is 0,
 -- that no Q is 0 and that each is reduced is proved here, step by step.
-use Prim.Native.Nat.{ℕ, zero, suc, _+_ as _+ₙ_, _≤_, _<_}
+use Prim.Native.Nat.{ℕ, zero, suc, _+_ as _+ₙ_, _≤_}
 use native.Mathlib.Omega.{arith}
-use mathlib.Core.Path.{_≡_, refl, sym, ap, ap₂, _∙_}
-use mathlib.Core.List.{List, [], _∷_}
+use mathlib.Core.Path.{_≡_, sym, ap, ap₂, _∙_}
+use mathlib.Core.List.{[], _∷_}
 use Rattle.ring.specs.Ring.{CRing}
 use Rattle.ring.specs.Identity.{ring, ring-from, times, plus, quote}
 use Rattle.ring.specs.Series.{Series}
 use Rattle.algebra.specs.Field.{Field}
-use Rattle.algebra.specs.Polynomial.{F, Px, _≺_ as Low, Deg, low-up, low-zero, low-path, deg-path, monic-deg, monic-one}
+use Rattle.algebra.specs.Polynomial.{F, Px, _≺_ as Low, Deg, low-zero, low-path, deg-path, monic-deg, monic-one}
 use Rattle.algebra.specs.Division.{Division, division-unique}
 use Rattle.surd.specs.Root.{Root, No-square, D-low}
 use Rattle.surd.specs.Step.{State, next-P, next-Q, exact, next, reduced}

@@ -1,0 +1,1 @@
+// The definitions' walk is the continued fraction of √D: specifications only.

@@ -1,0 +1,286 @@
+#!/usr/bin/env python3
+"""Checks every line of the vectors against document 01, followed word by word: its walk, its formulas, its order of refusals."""
+import os
+import sys
+
+KIND = 1 << 28
+PRIMES = [q for q in range(3, 4096, 2) if all(q % p for p in range(3, q, 2) if p * p <= q)]
+
+
+# ---- polynomials: lists of numbers below q, constant term first, no zeros at the end
+
+def trim(a):
+    while a and a[-1] == 0:
+        a.pop()
+    return a
+
+
+def deg(a):
+    return len(a) - 1
+
+
+def add(q, a, b, sign=1):
+    c = [0] * max(len(a), len(b))
+    for i, v in enumerate(a):
+        c[i] = v
+    for i, v in enumerate(b):
+        c[i] = (c[i] + sign * v) % q
+    return trim(c)
+
+
+def sub(q, a, b):
+    return add(q, a, b, -1)
+
+
+def mul(q, a, b):
+    if not a or not b:
+        return []
+    c = [0] * (len(a) + len(b) - 1)
+    for i, v in enumerate(a):
+        if v:
+            for j, w in enumerate(b):
+                c[i + j] += v * w
+    return trim([v % q for v in c])
+
+
+def divmod_(q, a, b):
+    a = a[:]
+    u = pow(b[-1], -1, q)
+    quotient = [0] * max(0, len(a) - len(b) + 1)
+    for k in range(len(a) - len(b), -1, -1):
+        v = a[k + len(b) - 1] * u % q
+        quotient[k] = v
+        if v:
+            for i, w in enumerate(b):
+                a[k + i] = (a[k + i] - v * w) % q
+    return trim(quotient), trim(a)
+
+
+def div(q, a, b):
+    return divmod_(q, a, b)[0]
+
+
+def mod(q, a, b):
+    return divmod_(q, a, b)[1]
+
+
+def monic(q, a):
+    return mul(q, a, [pow(a[-1], -1, q)]) if a else []
+
+
+def gcd(q, a, b):
+    return gcd(q, b, mod(q, a, b)) if b else monic(q, a)
+
+
+def bezout(q, a, b):
+    """g, u, v with g = u*a + v*b, g monic."""
+    u, v = ([1], []), ([], [1])
+    while b:
+        t, r = divmod_(q, a, b)
+        a, b = b, r
+        u, v = v, tuple(sub(q, x, mul(q, t, y)) for x, y in zip(u, v))
+    if not a:
+        return [], [], []
+    c = [pow(a[-1], -1, q)]
+    return mul(q, a, c), mul(q, u[0], c), mul(q, u[1], c)
+
+
+# ---- the ticket
+
+def refusal(w):
+    """The first number of 1 to 7 that applies, or 0."""
+    if len(w) < 7 or w[0] // KIND != 1 or w[1] // KIND != 2:
+        return 1
+    q, n = w[0] % KIND, w[1] % KIND
+    if q not in PRIMES:
+        return 2
+    if n % 2 or n < 2 or n > 64:
+        return 3
+    if len(w) != n + 5 or [v // KIND for v in w[2:]] != [3] * (n + 1) + [4, 15] or w[-1] % KIND != n + 4:
+        return 4
+    c = [v % KIND for v in w[2:n + 3]]
+    if max(c) >= q:
+        return 5
+    if c[n] != 1:
+        return 6
+    derivative = trim([i * v % q for i, v in enumerate(c)][1:])
+    if deg(gcd(q, c, derivative)) > 0:
+        return 7
+    return 0
+
+
+def read(w):
+    """q, g, D, b of a ticket past 1 to 7."""
+    n = w[1] % KIND
+    return w[0] % KIND, n // 2 - 1, [v % KIND for v in w[2:n + 3]], w[n + 3] % KIND
+
+
+# ---- the walk
+
+def floor_root(q, g, D):
+    """The monic d of degree g + 1 with deg(D - d^2) at most g."""
+    d, half = [0] * (g + 1) + [1], pow(2, -1, q)
+    for k in range(g, -1, -1):
+        rest = sub(q, D, mul(q, d, d))
+        d[k] = (rest[k + g + 1] if k + g + 1 < len(rest) else 0) * half % q
+    assert deg(sub(q, D, mul(q, d, d))) <= g
+    return d
+
+
+def step(q, D, d, P, Q):
+    a = div(q, add(q, P, d), Q)
+    P1 = sub(q, mul(q, a, Q), P)
+    Q1, rest = divmod_(q, sub(q, D, mul(q, P1, P1)), Q)
+    assert not rest
+    return a, P1, Q1
+
+
+def walk(w, unit=False):
+    """The answer, the pairs (P_i, Q_i) for i below the steps made with deg p_{i-1}, and the last convergent if asked for."""
+    q, g, D, b = read(w)
+    d = floor_root(q, g, D)
+    P, Q, degree, seen = [], [1], 0, []
+    p, s = ([1], []), ([], [1])
+    for i in range(b):
+        seen.append((P, Q, degree))
+        a, P, Q = step(q, D, d, P, Q)
+        degree += deg(a)
+        if unit:
+            p = add(q, mul(q, a, p[0]), p[1]), p[0]
+            s = add(q, mul(q, a, s[0]), s[1]), s[0]
+        if deg(Q) == 0:
+            m = i + 1
+            return [0, degree, m, Q[0] if m % 2 == 0 else q - Q[0]], seen, (p[0], s[0])
+    return [11, b, degree, 0], seen, None
+
+
+def regulator(w):
+    r = refusal(w)
+    return [r, 0, 0, 0] if r else walk(w)[0]
+
+
+def pad(a, k):
+    assert len(a) <= k
+    return a + [0] * (k - len(a))
+
+
+def unit(w):
+    answer, _, (p, s) = walk(w, True)
+    assert deg(p) == answer[1]
+    q, g, D, b = read(w)
+    assert sub(q, mul(q, p, p), mul(q, D, mul(q, s, s))) == [answer[3]]
+    return answer + pad(p, answer[1] + 1) + pad(s, answer[1] + 1)
+
+
+def listing(w):
+    if refusal(w):
+        return [refusal(w), 0, 0, 0, 0]
+    answer, seen, _ = walk(w)
+    if answer[0]:
+        return answer + [0]
+    q, g, D, b = read(w)
+    out = []
+    for i, (P, Q, delta) in enumerate(seen, 1):
+        mirror = answer[1] - delta
+        out += [5 * KIND + i, 6 * KIND + (delta >> 28), 7 * KIND + delta % KIND, 10 * KIND + (mirror >> 28), 11 * KIND + mirror % KIND]
+        out += [8 * KIND + v for v in pad(monic(q, Q), g + 1)]
+        out += [9 * KIND + v for v in pad(mod(q, P, Q), g)]
+    return answer + [len(out)] + out
+
+
+# ---- product and giant step
+
+def is_ideal(q, g, D, Q, P):
+    if len(Q) != g + 1 or len(P) != g or any(v >= q for v in Q + P):
+        return False
+    Q, P = trim(Q[:]), trim(P[:])
+    return bool(Q) and Q[-1] == 1 and deg(P) < deg(Q) and not mod(q, sub(q, D, mul(q, P, P)), Q)
+
+
+def sized(a):
+    return [len(a)] + a
+
+
+def combine(w, Q1, P1, y1, Q2, P2, y2):
+    r = refusal(w)
+    if not r:
+        q, g, D, _ = read(w)
+        r = 0 if is_ideal(q, g, D, Q1, P1) and is_ideal(q, g, D, Q2, P2) else 9
+    if r:
+        return [r, 0, 0, 0, r, 0, 0, 0, 0, 0, 0]
+    Q1, P1, Q2, P2 = (trim(a[:]) for a in (Q1, P1, Q2, P2))
+    T, u, v = bezout(q, Q1, Q2)
+    S, t, W = bezout(q, T, add(q, P1, P2))
+    U, V = mul(q, t, u), mul(q, t, v)
+    assert S == gcd(q, gcd(q, Q1, Q2), add(q, P1, P2))
+    assert S == add(q, add(q, mul(q, U, Q1), mul(q, V, Q2)), mul(q, W, add(q, P1, P2)))
+    Q = div(q, mul(q, Q1, Q2), mul(q, S, S))
+    inner = add(q, mul(q, U, sub(q, P2, P1)), mul(q, W, div(q, sub(q, D, mul(q, P1, P1)), Q1)))
+    P = mod(q, add(q, P1, mul(q, div(q, Q1, S), inner)), Q)
+    product = [0] + sized(S) + sized(Q) + sized(P)
+    if max(y1, y2) > 2 ** 40:
+        return product + [10, 0, 0, 0, 0, 0, 0]
+    d, total, start, k = floor_root(q, g, D), 0, deg(Q), 0
+    while deg(Q) > g:
+        _, P, Q = step(q, D, d, P, Q)
+        k += 1
+        total += deg(div(q, add(q, P, d), Q))
+    f = deg(Q) - start + total - deg(S)
+    assert -2 * g <= f <= 0
+    distance = y1 + y2 + f
+    size = abs(distance)
+    return product + [0] + sized(monic(q, Q)) + sized(mod(q, P, Q)) + [-f, int(distance < 0), size >> 32, size % 2 ** 32]
+
+
+# ---- the files
+
+class Numbers:
+    """A line's numbers, taken from the front."""
+
+    def __init__(self, line):
+        self.rest = [int(v) for v in line.split()]
+        assert all(0 <= v < 2 ** 32 for v in self.rest)
+
+    def take(self, k):
+        assert len(self.rest) >= k
+        out, self.rest = self.rest[:k], self.rest[k:]
+        return out
+
+    def counted(self):
+        return self.take(self.take(1)[0])
+
+    def wide(self):
+        high, low = self.take(2)
+        return high << 32 | low
+
+
+def expected(name, numbers):
+    w = numbers.counted()
+    if name == "products":
+        Q1, P1, y1 = numbers.counted(), numbers.counted(), numbers.wide()
+        Q2, P2, y2 = numbers.counted(), numbers.counted(), numbers.wide()
+        return combine(w, Q1, P1, y1, Q2, P2, y2)
+    return {"regulators": regulator, "units": unit, "listings": listing}[name](w)
+
+
+def main():
+    here, wrong = os.path.dirname(os.path.abspath(__file__)), 0
+    for name in ["regulators", "units", "listings", "products"]:
+        jobs = total = 0
+        tally = {}
+        with open(os.path.join(here, name + ".txt")) as file:
+            for at, line in enumerate(file, 1):
+                numbers = Numbers(line)
+                total += len(numbers.rest)
+                jobs += 1
+                mine = expected(name, numbers)
+                tally[mine[0]] = tally.get(mine[0], 0) + 1
+                if mine != numbers.rest:
+                    wrong += 1
+                    print(f"{name}.txt:{at}: document 01 gives {mine}, the line has {numbers.rest}")
+        print(f"{name}: {jobs} jobs, {total} numbers; by answer: " + ", ".join(f"{k}: {tally[k]}" for k in sorted(tally)))
+    sys.exit(1 if wrong else 0)
+
+
+if __name__ == "__main__":
+    main()
