@@ -1,3 +1,4 @@
 pub mod Table
 pub mod Root
 pub mod State
+pub mod Start
