@@ -22,7 +22,7 @@ use Rattle.bridge.specs.Arithmetic.{series-add, series-sub, series-mul, oks-add
 use Rattle.bridge.specs.Division.{series-quo-rem, oks-quo, oks-rem}
 use Rattle.polynomial.specs.Places.{Within}
 use Rattle.walk.specs.Step.{stepQuo, nextRem, nextQ}
-use Rattle.walk.specs.Sizes.{rem-short}
+use Rattle.walk.specs.Sizes.{rem-past}
 
 module _ (q : ℕ) (pos : 0 < q) where
   abbrev F : CRing (Fq q)
@@ -141,16 +141,13 @@ module _ (q : ℕ) (pos : 0 < q) where
       unfolding addS
       top-term = ap (λ (f : S F). f (k + (n - 1))) missing-mul ∙ ap (F .add (product z b (k + (n - 1)))) (lead-conv F k (n - 1) missing (series M b) missing-below (λ i h. ap φ (bw .past i (omega arith))) ∙ ap (λ u. F .mul u (φ (getD b (n - 1) 0))) missing-at)
 
-      no-rem : (i : ℕ) → n - 1 ≤ i → getD (nextRem q s b r) i 0 ≡ 0
-      no-rem i h = List·getD-eq-default (nextRem q s b r) 0 {n = i} (let l = rem-short q p pos m n s b r sw rw bw top some in omega arith)
-
       unit-mul : F .mul (φ (inverse q (getD b (n - 1) 0))) (φ (getD b (n - 1) 0)) ≡ F .one
       unit-mul = inverts q pos p .inv-mul (getD b (n - 1) 0) (λ h. top (M .inj _ _ (bw .reduced (n - 1)) pos h))
 
       -- what is left at the top is a_k times the leading coefficient
       left-at : φ (getD (sub (modulo q) (sub (modulo q) s r) (mul (modulo q) z b)) (k + (n - 1)) 0) ≡ F .mul (φ (getD (stepQuo q s b r) k 0)) (φ (getD b (n - 1) 0))
       left-at =
-          sub-at (sub (modulo q) s r) (mul (modulo q) z b) (k + (n - 1)) ∙ ap₂ (λ u v. F .add u (F .neg v)) (step-at (k + (n - 1)) ∙ ap₂ (F .add) top-term (ap φ (no-rem (k + (n - 1)) (omega arith)))) (mul-at z b (k + (n - 1)))
+          sub-at (sub (modulo q) s r) (mul (modulo q) z b) (k + (n - 1)) ∙ ap₂ (λ u v. F .add u (F .neg v)) (step-at (k + (n - 1)) ∙ ap₂ (F .add) top-term (ap φ (rem-past q p pos m n s b r sw rw bw top some (k + (n - 1)) (omega arith)))) (mul-at z b (k + (n - 1)))
           ∙ ring F (product z b (k + (n - 1)) ∷ φ (getD (stepQuo q s b r) k 0) ∷ φ (getD b (n - 1) 0) ∷ []) (search quote depth 40 fits 9999) tt
 
       pub quo-at : (at v : ℕ) → at ≡ k + (n - 1) → v ≡ getD (sub (modulo q) (sub (modulo q) s r) (mul (modulo q) z b)) at 0 → (v * inverse q (getD b (n - 1) 0)) % q ≡ getD (stepQuo q s b r) k 0

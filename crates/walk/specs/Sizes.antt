@@ -15,7 +15,7 @@ use Rattle.bridge.specs.Lengths.{length-sub}
 use Rattle.bridge.specs.Division.{oks-quo, rem-less}
 use Rattle.bridge.specs.Quotient.{quo-length}
 use Rattle.bridge.specs.Residues.{model, inverts}
-use Rattle.polynomial.specs.Places.{Within}
+use Rattle.polynomial.specs.Places.{Places, Within}
 use Rattle.walk.specs.Step.{stepQuo, nextRem}
 use Rattle.walk.specs.Down.{Down}
 
@@ -61,3 +61,9 @@ module _ (q : ℕ) (p : Prime q) (pos : 0 < q) (m n : ℕ) (s b r : List ℕ) (s
         reduced = λ i. ⊎-elim (λ l. subst (λ (x : ℕ). x < q) (sym (d .done i l)) (quo-reduced i)) (λ l. subst (λ (x : ℕ). x < q) (sym (d .rest i l)) pos) (le-or-lt k i);
         past = λ i l. d .done i (omega arith) ∙ quo-past i l;
       }
+
+  pub quo-places : (a : List ℕ) → Places a (λ i. getD (stepQuo q s b r) i 0) → Within q a (m + 1 - n)
+  quo-places a h = record { reduced = λ i. subst (λ (x : ℕ). x < q) (sym (h .at i)) (quo-reduced i); past = λ i l. h .at i ∙ quo-past i l }
+
+  pub rem-past : 0 < n → (i : ℕ) → n - 1 ≤ i → getD (nextRem q s b r) i 0 ≡ 0
+  rem-past h i l = List·getD-eq-default (nextRem q s b r) 0 {n = i} (let w = rem-short h in omega arith)

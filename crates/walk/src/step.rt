@@ -60,3 +60,84 @@ fn next_at(
     let t = before[k] + terms(f, a, z, k, l, m) + (128 * q * q - terms(f, a, r, k, l, m));
     reduce(f, reciprocal, t)
 }
+
+// z becomes the quotient of s − r by b, whose leading coefficient has the inverse `unit`: from the top coefficient down, each clears what is left at its top place.
+fn quotient(
+    f: Field,
+    reciprocal: u32,
+    unit: u32,
+    s: &[u32; 129],
+    r: &[u32; 129],
+    m: usize,
+    b: &[u32; 129],
+    n: usize,
+    z: &mut [u32; 129],
+)
+    requires { ⌜ Prime (f .q) × (f .q < 4096) × (reciprocal ≡ 4294967295 / f .q) × (unit ≡ inverse (f .q) (getD (now b) (n - 1) 0)) ⌝ }
+    requires { ⌜ (0 < n) × (n ≤ m) × (m ≤ 128) ⌝ }
+    requires { ⌜ Division (f .q) m n (now s) (now b) (now r) ⌝ }
+    ensures { λ _. ⌜ Places (now (z .exit)) (λ i. getD (stepQuo (f .q) (now (s .entry)) (now (b .entry)) (now (r .entry))) i 0) ⌝ }
+{
+    *z = [0u32; 129];
+    let l = m + 1 - n;
+    let mut k = l;
+    while 0 < k {
+        k -= 1;
+        let v = rest_at(f, reciprocal, s, r, z, l, b, n, k + n - 1);
+        z[k] = reduce(f, reciprocal, v * unit);
+    }
+}
+
+// z becomes the remainder of s − r by b, whose quotient is a.
+fn remainder(
+    f: Field,
+    reciprocal: u32,
+    s: &[u32; 129],
+    r: &[u32; 129],
+    a: &[u32; 129],
+    m: usize,
+    b: &[u32; 129],
+    n: usize,
+    z: &mut [u32; 129],
+)
+    requires { ⌜ Prime (f .q) × (f .q < 4096) × (reciprocal ≡ 4294967295 / f .q) ⌝ }
+    requires { ⌜ (0 < n) × (n ≤ m) × (m ≤ 128) ⌝ }
+    requires { ⌜ Division (f .q) m n (now s) (now b) (now r) ⌝ }
+    requires { ⌜ Places (now a) (λ i. getD (stepQuo (f .q) (now s) (now b) (now r)) i 0) ⌝ }
+    ensures { λ _. ⌜ Places (now (z .exit)) (λ i. getD (nextRem (f .q) (now (s .entry)) (now (b .entry)) (now (r .entry))) i 0) ⌝ }
+{
+    *z = [0u32; 129];
+    let l = m + 1 - n;
+    let mut k: usize = 0;
+    while k < n - 1 {
+        z[k] = rest_at(f, reciprocal, s, r, a, l, b, n, k);
+        k += 1;
+    }
+}
+
+// w becomes before + a·(z − r), of m coefficients at most.
+fn next(
+    f: Field,
+    reciprocal: u32,
+    before: &[u32; 129],
+    a: &[u32; 129],
+    l: usize,
+    z: &[u32; 129],
+    r: &[u32; 129],
+    m: usize,
+    w: &mut [u32; 129],
+)
+    requires { ⌜ (f .q < 4096) × (reciprocal ≡ 4294967295 / f .q) × (l ≤ 128) × (m ≤ 128) ⌝ }
+    requires { ⌜ Bounded (f .q) (now before) ⌝ }
+    requires { ⌜ Within (f .q) (now a) l ⌝ }
+    requires { ⌜ Within (f .q) (now z) m × Within (f .q) (now r) m ⌝ }
+    requires { ⌜ length (add (modulo (f .q)) (now before) (mul (modulo (f .q)) (now a) (sub (modulo (f .q)) (now z) (now r)))) ≤ m ⌝ }
+    ensures { λ _. ⌜ Places (now (w .exit)) (λ i. getD (add (modulo (f .q)) (now (before .entry)) (mul (modulo (f .q)) (now (a .entry)) (sub (modulo (f .q)) (now (z .entry)) (now (r .entry))))) i 0) ⌝ }
+{
+    *w = [0u32; 129];
+    let mut k: usize = 0;
+    while k < m {
+        w[k] = next_at(f, reciprocal, before, a, l, z, r, m, k);
+        k += 1;
+    }
+}
