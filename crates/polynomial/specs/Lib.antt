@@ -4,5 +4,9 @@ pub mod Held
 pub mod Places
 pub mod Linear
 pub mod Row
-pub mod Dots
+pub mod Product
 pub mod Divided
+pub mod Results
+pub mod Division
+pub mod Gcd
+pub mod Bezout

@@ -4,10 +4,14 @@ ghost use Prim.Native.Nat.{ℕ, _+_, _-_, _*_, _<_, _≤_, _%_};
 ghost use lib.ListN.{length, getD};
 ghost use Rattle.definitions.specs.Field.{modulo};
 ghost use Rattle.definitions.specs.Polynomials.{quo as quoOf, rem as remOf};
+ghost use Rattle.bridge.specs.Prime.{Prime};
 ghost use Rattle.polynomial.specs.Record.{poly, Held, Is};
 ghost use Rattle.polynomial.specs.Row.{Bounded, Ends, Row};
+ghost use Rattle.polynomial.specs.Places.{Places, Within};
 ghost use Rattle.polynomial.specs.Divided.{Divided};
 use crate::Poly;
+use crate::linear::top;
+use crate::linear::zero;
 use crate::product::excess;
 use field::Field;
 
@@ -42,8 +46,8 @@ fn clear(
     n: usize,
 ) -> usize
     requires { ⌜ (f .q < 4096) × (u < f .q) × (0 < n) × (m ≤ 129) × (n ≤ 129) × (length (now x) ≡ 129) × (length (now z) ≡ 129) ⌝ }
-    requires { ⌜ Bounded (f .q) (now x) × Ends (now x) m ⌝ }
-    requires { ⌜ Bounded (f .q) (now y) × Ends (now y) n × (length (now y) ≡ 129) ⌝ }
+    requires { ⌜ Within (f .q) (now x) m ⌝ }
+    requires { ⌜ Within (f .q) (now y) n × (length (now y) ≡ 129) ⌝ }
     requires { ⌜ Ends (now z) 0 ⌝ }
     ensures { λ r. ⌜ (r ≡ m + 1 - n) × Divided (f .q) u (poly (now (y .entry)) n) (poly (now (x .entry)) m) (now (x .exit)) (now (z .exit)) ⌝ }
 {
@@ -56,4 +60,58 @@ fn clear(
         add_row(f.q - c, x, y, k, n);
     }
     t
+}
+
+// z becomes x modulo q, whose places from n on are 0 modulo q.
+fn reduce_places(f: Field, x: &[u32; 129], n: usize, z: &mut [u32; 129])
+    requires { ⌜ (0 < f .q) × (n ≤ 129) ⌝ }
+    requires { ⌜ ((i : ℕ) → n ≤ i → getD (now x) i 0 % f .q ≡ 0) ⌝ }
+    ensures { λ _. ⌜ Places (now (z .exit)) (λ i. getD (now (x .entry)) i 0 % f .q) ⌝ }
+{
+    *z = [0u32; 129];
+    let mut i: usize = 0;
+    while i < n {
+        z[i] = x[i] % f.q;
+        i += 1;
+    }
+}
+
+// Division by a polynomial that is not 0.
+pub fn div_by(f: Field, a: Poly, b: Poly) -> Split
+    requires { ⌜ Prime (f .q) × (f .q < 4096) × (0 < b .size) ⌝ }
+    requires { ⌜ Held (f .q) (a .c) (a .size) ⌝ }
+    requires { ⌜ Held (f .q) (b .c) (b .size) ⌝ }
+    ensures { λ r. ⌜ Is (f .q) (r .quo .c) (r .quo .size) (quoOf (modulo (f .q)) (poly (a .c) (a .size)) (poly (b .c) (b .size))) ⌝ }
+    ensures { λ r. ⌜ Is (f .q) (r .rem .c) (r .rem .size) (remOf (modulo (f .q)) (poly (a .c) (a .size)) (poly (b .c) (b .size))) ⌝ }
+{
+    let n = b.size;
+    let y = b.c;
+    let u = field::inverse(f, y[n - 1]);
+    let mut x = a.c;
+    let mut z = [0u32; 129];
+    let t = clear(f, u, &mut x, &y, &mut z, a.size, n);
+    let mut w = [0u32; 129];
+    reduce_places(f, &x, n - 1, &mut w);
+    let s = top(&z, t);
+    let r = top(&w, n - 1);
+    Split {
+        quo: Poly { c: z, size: s },
+        rem: Poly { c: w, size: r },
+    }
+}
+
+// Division with remainder; by 0 the quotient is 0 and the remainder is a.
+pub fn div_rem(f: Field, a: Poly, b: Poly) -> Split
+    requires { ⌜ Prime (f .q) × (f .q < 4096) ⌝ }
+    requires { ⌜ Held (f .q) (a .c) (a .size) ⌝ }
+    requires { ⌜ Held (f .q) (b .c) (b .size) ⌝ }
+    ensures { λ r. ⌜ Is (f .q) (r .quo .c) (r .quo .size) (quoOf (modulo (f .q)) (poly (a .c) (a .size)) (poly (b .c) (b .size))) ⌝ }
+    ensures { λ r. ⌜ Is (f .q) (r .rem .c) (r .rem .size) (remOf (modulo (f .q)) (poly (a .c) (a .size)) (poly (b .c) (b .size))) ⌝ }
+{
+    if b.size == 0 {
+        let z = zero();
+        Split { quo: z, rem: a }
+    } else {
+        div_by(f, a, b)
+    }
 }

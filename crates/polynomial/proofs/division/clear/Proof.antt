@@ -26,13 +26,13 @@ abbrev μ-loop : tie.MeasureT-loop
 
 -- what is known of the arguments: q is positive, the lists' lengths and coefficients
 positive : (s : tie.Start Inv-loop μ-loop) → 0 < s .args .f .q
-positive s = let h = s .pre .1 .0 .0 0 in omega arith
+positive s = let h = s .pre .1 .0 .reduced 0 in omega arith
 
 dividend : (s : tie.Start Inv-loop μ-loop) (i : ℕ) → getD (poly (s .args .x .now) (s .args .m)) i 0 ≡ getD (s .args .x .now) i 0
-dividend s = at-take (s .args .x .now) (s .args .m) (s .pre .1 .0 .1)
+dividend s = at-take (s .args .x .now) (s .args .m) (s .pre .1 .0 .past)
 
 reduced : (s : tie.Start Inv-loop μ-loop) → Bounded (s .args .f .q) (poly (s .args .x .now) (s .args .m))
-reduced s i = subst (λ (v : ℕ). v < s .args .f .q) (sym (dividend s i)) (s .pre .1 .0 .0 i)
+reduced s i = subst (λ (v : ℕ). v < s .args .f .q) (sym (dividend s i)) (s .pre .1 .0 .reduced i)
 
 long-x : (s : tie.Start Inv-loop μ-loop) → length (poly (s .args .x .now) (s .args .m)) ≡ s .args .m
 long-x s = length-take-le (s .args .m) (s .args .x .now) (omega arith)
@@ -54,7 +54,7 @@ loop-holds c =
     let s = c .before in
     let x = long-x s in
     let y = long-y s in
-    (search needs, search needs, search needs, λ i. (let h = s .pre .1 .0 .0 i in omega arith), start _ _ _ _ (positive s) (reduced s) _ _ _ (λ i. sym (dividend s i)) (s .pre .1 .1 .1) (omega arith))
+    (search needs, search needs, search needs, λ i. (let h = s .pre .1 .0 .reduced i in omega arith), start _ _ _ _ (positive s) (reduced s) _ _ _ (λ i. sym (dividend s i)) (s .pre .1 .1 .1) (omega arith))
 
 -- src/division.rt:46:9
 sub-k : tie.Need-sub-k Inv-loop μ-loop
@@ -116,7 +116,7 @@ add-row-requires : tie.Need-add-row-requires Inv-loop μ-loop
 add-row-requires c κs =
     let s = c .before .before .before .before .before .before .before .before in
     let l = c .before .before .before .before .before .before .loop in
-    ((search needs, omega arith, search needs), (λ i. (let h = l .inv .3 i in omega arith), (λ i. (let h = s .pre .1 .1 .0 .0 i in omega arith), s .pre .1 .1 .0 .1)))
+    ((search needs, omega arith, search needs), (λ i. (let h = l .inv .3 i in omega arith), (λ i. (let h = s .pre .1 .1 .0 .0 .reduced i in omega arith), s .pre .1 .1 .0 .0 .past)))
 
 -- src/division.rt:45:5
 loop-less : tie.Need-loop-less Inv-loop μ-loop
@@ -144,8 +144,8 @@ loop-again c =
       omega arith,
       row .long,
       search needs,
-      subst (λ (B : ℕ). Bounded B y) room (row-bounded (q - v) (l .x) (s .args .y .now) k y _ (omega arith) (λ i. (let h = s .pre .1 .1 .0 .0 i in omega arith)) (l .inv .3) row),
-      step q u b p (positive s) (reduced s) k (l .x) y (l .z) v (omega arith) (omega arith) (subst (λ (j : ℕ). Stage q u b p j (l .x) (l .z)) back (l .inv .4)) (ap (λ (j : ℕ). (getD (l .x) j 0 % q) * u % q) same) (row-take (q - v) (l .x) (s .args .y .now) k (s .args .n) y (s .pre .1 .1 .0 .1) row),
+      subst (λ (B : ℕ). Bounded B y) room (row-bounded (q - v) (l .x) (s .args .y .now) k y _ (omega arith) (λ i. (let h = s .pre .1 .1 .0 .0 .reduced i in omega arith)) (l .inv .3) row),
+      step q u b p (positive s) (reduced s) k (l .x) y (l .z) v (omega arith) (omega arith) (subst (λ (j : ℕ). Stage q u b p j (l .x) (l .z)) back (l .inv .4)) (ap (λ (j : ℕ). (getD (l .x) j 0 % q) * u % q) same) (row-take (q - v) (l .x) (s .args .y .now) k (s .args .n) y (s .pre .1 .1 .0 .0 .past) row),
     )
 
 -- src/division.rt:36:1

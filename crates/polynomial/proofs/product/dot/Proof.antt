@@ -5,7 +5,8 @@ use native.Mathlib.Nat.{mul-le-mul}
 use native.Mathlib.Omega.{arith}
 use lib.ListN.{getD}
 use borrow.Author.Needs.{needs}
-use Rattle.polynomial.specs.Dots.{dots, dots-more, dots-before, dots-all}
+use Rattle.bridge.specs.Product.{dots, dots-more}
+use Rattle.polynomial.specs.Product.{dots-before, dots-all}
 use Rattle.polynomial.proofs.product.dot.Statement.{statement}
 use Rattle.polynomial.proofs.product.dot.Tie as tie
 use Rattle.polynomial.proofs.product.dot.Reads as reads
@@ -25,8 +26,8 @@ term : (c : tie.After-sum2 Inv-loop μ-loop)
 term c =
     let s = c .before .before .before .before .before .before in
     let i = c .before .before .before .loop .i in
-    let a = s .pre .1 .0 .0 i in
-    let b = s .pre .1 .1 .0 (s .args .k - i) in
+    let a = s .pre .1 .0 .reduced i in
+    let b = s .pre .1 .1 .reduced (s .args .k - i) in
     let ex : getD (s .args .x .now) i 0 ≤ 4095 = omega arith in
     let ey : getD (s .args .y .now) (s .args .k - i) 0 ≤ 4095 = omega arith in
     mul-le-mul ex ey
@@ -58,7 +59,8 @@ excess-requires-2 c κs = search needs
 -- src/product.rt:31:5
 loop-holds : tie.Need-loop-holds Inv-loop μ-loop
 loop-holds c =
-    let s = c .before .before in (search needs, sym (dots-before _ _ _ (s .args .n) _ (s .pre .1 .1 .1) (omega arith)), search needs)
+    let s = c .before .before in
+    (search needs, sym (ap (dots (s .args .x .now) (s .args .y .now) (s .args .k)) (let e : c .excess2 .result ≡ s .args .k + 1 - s .args .n = omega arith in e) ∙ dots-before _ _ (s .args .k) (s .args .n) (s .pre .1 .1 .past)), search needs)
 
 -- src/product.rt:32:16
 mul-sum : tie.Need-mul-sum Inv-loop μ-loop
@@ -106,16 +108,15 @@ loop-again c =
 -- src/product.rt:35:5
 rem-result : tie.Need-rem-result Inv-loop μ-loop
 rem-result c =
-    omega (arith, c .before .before .before .before .before .pre .1 .0 .0 0)
+    omega (arith, c .before .before .before .before .before .pre .1 .0 .reduced 0)
 
 -- src/product.rt:22:1
 returns : tie.Need-returns Inv-loop μ-loop
 returns c =
     let s = c .before .before .before .before .before in
     let l = c .before .before .loop in
-    let le : l .i ≤ s .args .k + 1 = omega arith in
-    let end : s .args .k + 1 - (s .args .k + 1 - s .args .m) ≤ l .i = omega arith in
-    ap (λ (v : ℕ). v % s .args .f .q) (l .inv .1 ∙ dots-all (s .args .x .now) (s .args .y .now) (s .args .k) (s .args .m) (l .i) (s .pre .1 .0 .1) end le)
+    let h = s .pre .1 .0 .reduced 0 in
+    ap (λ (v : ℕ). v % s .args .f .q) (l .inv .1) ∙ dots-all (s .args .f .q) (omega arith) (s .args .x .now) (s .args .y .now) (s .args .k) (s .args .m) (l .i) (s .pre .1 .0 .past) (omega arith) (omega arith)
 
 pub dot-spec : {M : Type 1} → statement M
 dot-spec =
