@@ -5,6 +5,10 @@ pub mod Convergents
 pub mod QuasiPeriod
 pub mod NoSquare
 pub mod Admitted
+<<<<<<< HEAD
 pub mod Signs
 pub mod Norms
 pub mod Solutions
+=======
+pub mod State
+>>>>>>> 38c5095fd29cb4134ab8af2692cd0b99f614154a
