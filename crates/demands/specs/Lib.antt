@@ -3,3 +3,6 @@ pub mod Tests
 pub mod Readings
 pub mod Squares
 pub mod FirstRefusal
+pub mod LeastDegree
+pub mod Continued
+pub mod Example
