@@ -1,16 +1,16 @@
 -- The product of ideals is an ideal, is commutative, and (1, 0) is its unit: each by the congruences that hold of one P modulo Q only.
 use Prim.Native.Nat.{ℕ, _+_ as _+ₙ_}
 use native.Mathlib.Omega.{arith}
-use mathlib.Core.Path.{_≡_, sym, ap, _∙_}
+use mathlib.Core.Path.{_≡_, sym}
 use mathlib.Core.List.{[], _∷_}
 use Rattle.ring.specs.Ring.{CRing}
-use Rattle.ring.specs.Identity.{ring, ring-from, times, plus, quote}
+use Rattle.ring.specs.Identity.{ring-from, times, plus, quote}
 use Rattle.ring.specs.Series.{Series}
 use Rattle.algebra.specs.Field.{Field}
 use Rattle.algebra.specs.Polynomial.{F, Px, _≺_ as Low, Deg, low-up, monic-one}
-use Rattle.algebra.specs.Divides.{Divides, divides-path, divides-zero, divides-one, divides-monic}
+use Rattle.algebra.specs.Divides.{divides-path, divides-zero, divides-one, divides-monic}
 use Rattle.surd.specs.Step.{State}
-use Rattle.ideals.specs.Finite.{Finite, finite-monic}
+use Rattle.ideals.specs.Finite.{Finite}
 use Rattle.ideals.specs.Product.{Common, Multipliers, Meets, meets-norm, meets-unique, product-Q}
 
 module _ {A : Type 0} (K : Field A) where

@@ -2,7 +2,7 @@
 -- Carried by one identity, Q′ Q = (d - P′)(P′ + d) + e, in which the degrees are compared.
 use Prim.Native.Nat.{ℕ, suc, _+_ as _+ₙ_, _-_ as _-ₙ_, _≤_, _<_}
 use native.Mathlib.Omega.{arith}
-use mathlib.Core.Path.{_≡_, sym, _∙_}
+use mathlib.Core.Path.{_≡_, _∙_}
 use mathlib.Core.Logic.{_⊎_, inl, inr, ⊎-elim}
 use mathlib.Core.List.{[], _∷_}
 use Rattle.ring.specs.Ring.{CRing}
@@ -10,7 +10,7 @@ use Rattle.ring.specs.Identity.{ring, ring-from, times, plus, quote}
 use Rattle.ring.specs.Order.{le-or-lt}
 use Rattle.ring.specs.Series.{Series}
 use Rattle.algebra.specs.Field.{Field}
-use Rattle.algebra.specs.Polynomial.{F, Px, _≺_ as Low, Deg, low-up, low-add, low-neg, low-sub, low-mul, low-path, degree, deg-path, deg-mul, deg-neg, deg-dominant, deg-below, deg-factor, deg-unique, deg-not-zero}
+use Rattle.algebra.specs.Polynomial.{F, Px, _≺_ as Low, Deg, low-up, low-neg, low-sub, low-mul, low-path, degree, deg-path, deg-mul, deg-neg, deg-dominant, deg-below, deg-factor, deg-unique, deg-not-zero}
 use Rattle.surd.specs.Root.{Root, No-square, deg-twice, d-deg}
 use Rattle.surd.specs.Step.{State}
 use Rattle.surd.specs.Ideal.{Follows}

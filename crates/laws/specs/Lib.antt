@@ -4,6 +4,8 @@ pub mod Walk
 pub mod Convergents
 pub mod QuasiPeriod
 pub mod NoSquare
+pub mod Pairs
+pub mod Product
 pub mod Admitted
 pub mod Signs
 pub mod Norms
