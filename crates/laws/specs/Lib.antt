@@ -6,6 +6,8 @@ pub mod QuasiPeriod
 pub mod NoSquare
 pub mod Pairs
 pub mod Product
+pub mod Reduction
+pub mod Shift
 pub mod Admitted
 pub mod Signs
 pub mod Norms
