@@ -139,7 +139,7 @@ module _ {q g : ℕ} {D : List ℕ} (h : Admitted q g D) where
   pub least-found : (b m : ℕ) → Quasi (modulo q) D d b m → LeastFound q D (unitOf (modulo q) D d m) (degreeBefore (modulo q) D d m) (constantOf (modulo q) D d m)
   unfolding unitOf normOf degreeBefore
   least-found b m first = record {
-    lower = λ p s u. solutions.degree-least-is z p s (u .some) (constant-size p s u) first;
+    lower = λ p s u. solutions.degree-at-least z p s (u .some) (constant-size p s u) first;
     unit-solves = record { some = solutions.s-some z m (first .positive); constant = size-is M (norm q D (pBefore (modulo q) D d m) (sBefore (modulo q) D d m)) ∙ ap length (trim-sub M _ _) ∙ ap length (unit-norm z m (first .constant)) };
     unit-degree = refl;
     unit-norm = unit-norm z m (first .constant);

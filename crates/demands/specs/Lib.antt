@@ -6,3 +6,4 @@ pub mod FirstRefusal
 pub mod LeastDegree
 pub mod Continued
 pub mod Example
+pub mod Written

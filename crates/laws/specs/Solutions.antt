@@ -61,8 +61,8 @@ module _ {A B : Type 0} {o : Ops A} {K : Field B} {M : Model o (F K)} {g : ℕ} 
       quasi-period : QuasiPeriod K (fraction h) m
       quasi-period = record { positive = first .positive; constant = let e = first .constant in omega arith; least = λ j l u e. first .least j l u (let k = Q-some h j in omega arith) }
 
-      pub degree-least-is : degreeBefore o D d m ≤ deg o p
-      degree-least-is =
+      pub degree-at-least : degreeBefore o D d m ≤ deg o p
+      degree-at-least =
           let r = least.found K (fraction h) m quasi-period solution in
           let e = degree-distance h m in
           let k = degree-of (r .0) (r .1) in

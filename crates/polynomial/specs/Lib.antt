@@ -3,3 +3,4 @@ pub mod Pad
 pub mod Held
 pub mod Places
 pub mod Linear
+pub mod Result
