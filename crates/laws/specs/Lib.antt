@@ -5,6 +5,7 @@ pub mod Convergents
 pub mod QuasiPeriod
 pub mod NoSquare
 pub mod Pairs
+pub mod PairTest
 pub mod Product
 pub mod Reduction
 pub mod Shift
