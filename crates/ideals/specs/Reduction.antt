@@ -2,7 +2,7 @@
 -- Carried by one identity, Q′ Q = (d - P′)(P′ + d) + e, in which the degrees are compared.
 use Prim.Native.Nat.{ℕ, suc, _+_ as _+ₙ_, _-_ as _-ₙ_, _≤_, _<_}
 use native.Mathlib.Omega.{arith}
-use mathlib.Core.Path.{_≡_, _∙_}
+use mathlib.Core.Path.{_≡_, sym, _∙_}
 use mathlib.Core.Logic.{_⊎_, inl, inr, ⊎-elim}
 use mathlib.Core.List.{[], _∷_}
 use Rattle.ring.specs.Ring.{CRing}
@@ -10,7 +10,7 @@ use Rattle.ring.specs.Identity.{ring, ring-from, times, plus, quote}
 use Rattle.ring.specs.Order.{le-or-lt}
 use Rattle.ring.specs.Series.{Series}
 use Rattle.algebra.specs.Field.{Field}
-use Rattle.algebra.specs.Polynomial.{F, Px, _≺_ as Low, Deg, low-up, low-neg, low-sub, low-mul, low-path, degree, deg-path, deg-mul, deg-neg, deg-dominant, deg-below, deg-factor, deg-unique, deg-not-zero}
+use Rattle.algebra.specs.Polynomial.{F, Px, _≺_ as Low, Deg, low-up, low-add, low-neg, low-sub, low-mul, low-path, degree, deg-path, deg-mul, deg-neg, deg-dominant, deg-below, deg-factor, deg-unique, deg-not-zero}
 use Rattle.surd.specs.Root.{Root, No-square, deg-twice, d-deg}
 use Rattle.surd.specs.Step.{State}
 use Rattle.surd.specs.Ideal.{Follows}
@@ -104,6 +104,16 @@ module _ {A : Type 0} (K : Field A) where
 
               some : (h : ℕ) × (h < f .size) × Deg K (P′ + d) h → (h : ℕ) × (κ′ < h) × Deg K (P′ + d) h
               some v = ⊎-elim (λ k. (v .0, k, v .2)) (λ k. absurd (let m = deg-below K (r * (P′ + d)) _ (κ +ₙ κ′) (rest l) (low-mul K r (P′ + d) κ κ′ r-low (low-up K (P′ + d) k (v .2 .low))) in omega arith)) (le-or-lt (suc κ′) (v .0))
+
+      -- a reduced ideal is followed by a reduced one
+      pub small-next : κ ≤ g → κ′ ≤ g
+      small-next l = let m = deg-below K (Q′ * Q) (κ′ +ₙ κ) (κ +ₙ suc g) left (low-path K _ (sym product) both) in omega arith
+        where
+          sum-low : P′ + d ≺ suc (suc g)
+          sum-low = low-path K _ two-d (low-sub K (d + d) r _ (deg-twice K d (suc g) (d-deg K o) .low) (low-up K r (omega arith) r-low))
+
+          both : r * (P′ + d) + o .e ≺ κ +ₙ suc g
+          both = low-add K (r * (P′ + d)) (o .e) _ (low-mul K r (P′ + d) κ (suc g) r-low sum-low) (low-up K (o .e) (omega arith) (o .e-low))
 
       -- where the degree of Q is above g: that of P′ + d is at most as large, and Q′ is reduced or its degree is smaller by 2 or more
       pub fall : g < κ → {h : ℕ} → κ′ < h → Deg K (P′ + d) h → (h ≤ κ) × ((κ′ ≤ g) ⊎ (κ′ +ₙ 2 ≤ κ))

@@ -12,7 +12,7 @@ use Rattle.algebra.specs.Polynomial.{F, Px, Deg, deg-unique}
 use Rattle.algebra.specs.Division.{Division, quotient-deg}
 use Rattle.surd.specs.Root.{Root}
 use Rattle.surd.specs.Ideal.{Follows}
-use Rattle.ideals.specs.Reduction.{sum-deg, fall}
+use Rattle.ideals.specs.Reduction.{sum-deg, small-next, fall}
 
 module _ {A : Type 0} (K : Field A) where
   open CRing (Series (F K)) using (add as _+_)
@@ -51,14 +51,19 @@ module _ {A : Type 0} (K : Field A) where
     pub partial-deg : (i : ℕ) → Deg K (division (suc i) .quo) (height i -ₙ κ (suc i))
     partial-deg i = quotient-deg K (deg (suc i)) (height-deg i) (let h = height-more i in omega arith) (division (suc i))
 
+    degree-same : (i : ℕ) → follows i .κ ≡ κ i
+    degree-same i = deg-unique K (follows i .deg) (deg i)
+
     pub step-fall : (i : ℕ) → g < κ i → (height i ≤ κ i) × ((κ (suc i) ≤ g) ⊎ (κ (suc i) +ₙ 2 ≤ κ i))
-    step-fall i h = subst (λ (n : ℕ). (height i ≤ n) × ((κ (suc i) ≤ g) ⊎ (κ (suc i) +ₙ 2 ≤ n))) same (fall K (follows i) (deg (suc i)) (let e = same in omega arith) (height-more i) (height-deg i))
-      where
-        same : follows i .κ ≡ κ i
-        same = deg-unique K (follows i .deg) (deg i)
+    step-fall i h = subst (λ (n : ℕ). (height i ≤ n) × ((κ (suc i) ≤ g) ⊎ (κ (suc i) +ₙ 2 ≤ n))) (degree-same i) (fall K (follows i) (deg (suc i)) (let e = degree-same i in omega arith) (height-more i) (height-deg i))
 
     pub degree-falls : (i : ℕ) → g < κ i → κ (suc i) < κ i
     degree-falls i h = let a = step-fall i h in let b = height-more i in omega arith
+
+    -- no degree is above a bound of the start's that is at least g
+    pub degree-most : (m : ℕ) → g ≤ m → κ 0 ≤ m → (i : ℕ) → κ i ≤ m
+    degree-most m l h zero = h
+    degree-most m l h (suc i) = let b = degree-most m l h i in ⊎-elim (λ k. let f = degree-falls i k in omega arith) (λ k. let f = small-next K (follows i) (deg (suc i)) (let e = degree-same i in omega arith) in omega arith) (le-or-lt (suc g) (κ i))
 
     -- ---- to the first reduced ideal
     -- k steps from ideals that are not reduced

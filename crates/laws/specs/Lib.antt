@@ -7,7 +7,9 @@ pub mod NoSquare
 pub mod Pairs
 pub mod PairTest
 pub mod Product
+pub mod ProductSizes
 pub mod Reduction
+pub mod ReductionSizes
 pub mod Shift
 pub mod Admitted
 pub mod Signs

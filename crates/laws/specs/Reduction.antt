@@ -3,6 +3,7 @@
 use Prim.Native.Nat.{ℕ, zero, suc, _+_ as _+ₙ_, _≤_, _<_}
 use native.Mathlib.Omega.{arith}
 use mathlib.Core.Path.{_≡_, refl, sym, ap, ap₂, _∙_, subst}
+use mathlib.Core.Logic.{⊎-elim}
 use mathlib.Core.Bool.{Bool, true, false}
 use mathlib.Core.List.{List, [], _∷_}
 use lib.Dec.{leb}
@@ -10,6 +11,7 @@ use lib.ListN.{length}
 use borrow.Author.Tests.{leb-true, leb-false}
 use Rattle.ring.specs.Ring.{CRing}
 use Rattle.ring.specs.Identity.{ring-from, times, quote}
+use Rattle.ring.specs.Order.{le-or-lt}
 use Rattle.ring.specs.Series.{Series}
 use Rattle.algebra.specs.Field.{Field}
 use Rattle.algebra.specs.Polynomial.{F, Px, Deg, deg-unique}
@@ -18,7 +20,7 @@ use Rattle.surd.specs.Step.{State}
 use Rattle.surd.specs.Step as states
 use Rattle.surd.specs.Ideal.{Follows, step-follows}
 use Rattle.ideals.specs.Reduction.{next-state}
-use Rattle.ideals.specs.Steps.{Steps, Above, above-more, turns-less, partial-deg, degree-sum}
+use Rattle.ideals.specs.Steps.{Steps, Above, above-more, turns-less, degree-falls, partial-deg, degree-sum, shift-most}
 use Rattle.definitions.specs.Field.{Ops}
 use Rattle.definitions.specs.Polynomials.{trim, size, deg, add, mul, quo, rem}
 use Rattle.definitions.specs.Walk.{Ideal, partial, nextP, next, steps}
@@ -168,3 +170,18 @@ module _ {A B : Type 0} {o : Ops A} {K : Field B} {M : Model o (F K)} {g : ℕ} 
     pub turns-first : (deg o (Q (turnsOf o D d g x)) ≤ g) × Above K sequence (turnsOf o D d g x)
     unfolding turnsOf steps
     turns-first = found (size o (x .q)) 0 (λ j p. absurd (omega arith)) (let n = size-is M (x .q) in let p = Q-size 0 in omega arith)
+
+    -- as a loop reads it: the size falls while it is above g + 1, and the first index where it is not is the definition's
+    pub size-falls : (j : ℕ) → suc g < length (trim o (Q j)) → length (trim o (Q (suc j))) < length (trim o (Q j))
+    size-falls j h = let a = Q-size j in let b = Q-size (suc j) in let c = degree-falls K sequence j (omega arith) in omega arith
+
+    pub turns-unique : (j : ℕ) → length (trim o (Q j)) ≤ suc g → ((i : ℕ) → i < j → suc g < length (trim o (Q i))) → turnsOf o D d g x ≡ j
+    turns-unique j small above = ⊎-elim (λ h. ⊎-elim (λ e. omega arith) (λ e. absurd (let a = turns-first .1 j e in let b = Q-size j in omega arith)) (le-or-lt k j)) (λ h. absurd (let a = above k h in let b = Q-size k in let c = turns-first .0 in omega arith)) (le-or-lt j k)
+      where
+        k : ℕ
+        k = turnsOf o D d g x
+
+    -- what the degrees of a and of the last Q add up to
+    pub degree-sum-most : deg o (Q (turnsOf o D d g x)) +ₙ degreeSum o D d g x (turnsOf o D d g x) ≤ deg o (x .q)
+    unfolding steps
+    degree-sum-most = let h = shift-most K sequence (turnsOf o D d g x) (turns-first .1) in let e = degree-sum-is (turnsOf o D d g x) in omega arith

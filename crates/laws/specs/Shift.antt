@@ -9,7 +9,7 @@ use lib.Signed.{_≤ℤ_}
 use Rattle.algebra.specs.Field.{Field}
 use Rattle.algebra.specs.Polynomial.{F}
 use Rattle.surd.specs.Step.{State}
-use Rattle.ideals.specs.Steps.{turns-most, shift-most}
+use Rattle.ideals.specs.Steps.{turns-most}
 use Rattle.definitions.specs.Field.{Ops}
 use Rattle.definitions.specs.Polynomials.{deg}
 use Rattle.definitions.specs.Walk.{Ideal, steps}
@@ -19,7 +19,7 @@ use Rattle.bridge.specs.Degree.{deg-is}
 use Rattle.laws.specs.Surd.{Surd}
 use Rattle.laws.specs.Pairs.{IsIdeal, cofactorAt, ideal-state}
 use Rattle.laws.specs.Product.{commonOf, productQ, productP, bezoutU, bezoutW, product-is, bezout-gives, product-ideal, common-le, σ, κ, S-size, Q-size}
-use Rattle.laws.specs.Reduction.{sequence, turns-first, degree-sum-is}
+use Rattle.laws.specs.Reduction.{sequence, turns-first, degree-sum-most}
 
 -- ---- differences of numbers that are not positive
 sub-minus : (a b m : ℕ) → a +ₙ m ≡ b → pos a -ℤ pos b ≡ negℤ (pos m)
@@ -76,11 +76,8 @@ module _ {A B : Type 0} {o : Ops A} {K : Field B} {M : Model o (F K)} {g : ℕ} 
 
   shift-at : (n : ℕ) × (n ≤ g +ₙ g) × (shiftOf o D d g r ≡ negℤ (pos n))
   unfolding steps shiftOf
-  shift-at = (m +ₙ deg o (r .s), let h = start-most in omega arith, sum-minus (deg o (steps o D d (r .ideal) k .q)) (deg o (r .ideal .q)) (degreeSum o D d g (r .ideal) k) (deg o (r .s)) m (omega (arith, below)))
+  shift-at = (m +ₙ deg o (r .s), let h = start-most in omega arith, sum-minus (deg o (steps o D d (r .ideal) k .q)) (deg o (r .ideal .q)) (degreeSum o D d g (r .ideal) k) (deg o (r .s)) m (let h = degree-sum-most z (r .ideal) st in omega arith))
     where
-      below : deg o (steps o D d (r .ideal) k .q) +ₙ degreeSum o D d g (r .ideal) k ≤ deg o (r .ideal .q)
-      below = let h = shift-most K (sequence z (r .ideal) st) k (turns-first z (r .ideal) st .1) in let e = degree-sum-is z (r .ideal) st k in omega arith
-
       m : ℕ
       m = deg o (r .ideal .q) -ₙ (deg o (steps o D d (r .ideal) k .q) +ₙ degreeSum o D d g (r .ideal) k)
 
