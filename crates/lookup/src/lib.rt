@@ -2,7 +2,9 @@
 use counters::Distance;
 ghost use mathlib.Core.Path.{_≡_};
 ghost use mathlib.Core.Bool.{true, false, not};
+ghost use mathlib.Core.List.{[]};
 ghost use Prim.Native.Nat.{ℕ, _+_, _*_, _-_, _/_, _%_, _<_, _≤_};
+ghost use lib.Dec.{eqb};
 ghost use lib.ListN.{length, getD};
 ghost use Rattle.definitions.specs.Ticket.{wrongDegree};
 ghost use Rattle.definitions.specs.Lookup.{recordKinds, rightKinds, rising, lastWithin, recordCount, wrongListing, lookupOf, placeOf};
@@ -29,21 +31,21 @@ fn degree_ok(n: u64) -> bool
     true
 }
 
-// The kind of a record's word j.
-fn kind_at(n: usize, j: usize) -> u32
+// Whether a record's word j has the kind k.
+fn kind_ok(n: usize, j: usize, k: u32) -> bool
     requires { ⌜ (wrongDegree n ≡ false) × (j < n + 4) ⌝ }
-    ensures { λ r. ⌜ r ≡ getD (recordKinds n) j 0 ⌝ }
+    ensures { λ r. ⌜ r ≡ eqb k (getD (recordKinds n) j 0) ⌝ }
 {
     if j < 3 {
-        return 5 + j as u32;
+        return k == 5 + j as u32;
     }
     if j < 5 {
-        return 7 + j as u32;
+        return k == 7 + j as u32;
     }
     if j < 5 + n / 2 {
-        return 8;
+        return k == 8;
     }
-    9
+    k == 9
 }
 
 // Whether the n + 4 words from at on have the kinds of a record.
@@ -53,7 +55,7 @@ fn record_kinds_ok(list: &[u32], at: usize, n: usize) -> bool
 {
     let mut j: usize = 0;
     while j < n + 4 {
-        if list[at + j] / VALUES != kind_at(n, j) {
+        if !kind_ok(n, j, list[at + j] / VALUES) {
             return false;
         }
         j += 1;
@@ -137,6 +139,15 @@ fn last_within(list: &[u32], n: usize, y: u64) -> usize
     0
 }
 
+// The empty part at the start of a list.
+fn empty_start<'a>(list: &'a [u32]) -> &'a [u32]
+    ensures content { λ r. ⌜ now r ≡ [] ⌝ }
+    ensures block { λ r. ⌜ r .ptr .0 ≡ list .entry .ptr .0 ⌝ }
+    ensures place { λ r. ⌜ r .ptr .1 ≡ list .entry .ptr .1 ⌝ }
+{
+    &list[..0]
+}
+
 // The record of the listing with the largest distance at most y, as a part of the list itself.
 // Refusal 8 is the empty part at the list's start; the list is the listing's words alone, with nothing after them.
 pub fn lookup<'a>(list: &'a [u32], n: u64, y: Distance) -> &'a [u32]
@@ -145,7 +156,7 @@ pub fn lookup<'a>(list: &'a [u32], n: u64, y: Distance) -> &'a [u32]
     ensures place { λ r. ⌜ r .ptr .1 ≡ list .entry .ptr .1 + 4 * placeOf (now (list .entry)) n (y .0) ⌝ }
 {
     if !listing_ok(list, n) {
-        return &list[..0];
+        return empty_start(list);
     }
     let degree = n as usize;
     let at = last_within(list, degree, y.0);

@@ -1,11 +1,8 @@
 -- Each test that fails is one of the definition's three.
-use Prim.Native.Nat.{_%_}
 use borrow.Author.Tests.{eq-eqb, ne-eqb, lt-ltb, le-ltb}
 use Rattle.definitions.specs.Ticket.{wrongDegree}
 use Rattle.lookup.proofs.degree_ok.Statement.{statement}
 use Rattle.lookup.proofs.degree_ok.Tie as tie
-use Rattle.lookup.proofs.degree_ok.Reads as reads
-use Rattle.lookup.proofs.degree_ok.Lts as lts
 
 returns : tie.Need-returns
 unfolding wrongDegree

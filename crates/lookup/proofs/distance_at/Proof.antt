@@ -1,10 +1,9 @@
+-- Two values of 28 bits, so that the number fits in 56.
 use borrow.Author.Needs.{needs}
 use Rattle.definitions.specs.Words.{joined, value}
 use Rattle.lookup.specs.Passes.{distanceFrom}
 use Rattle.lookup.proofs.distance_at.Statement.{statement}
 use Rattle.lookup.proofs.distance_at.Tie as tie
-use Rattle.lookup.proofs.distance_at.Reads as reads
-use Rattle.lookup.proofs.distance_at.Lts as lts
 
 add-result : tie.Need-add-result
 add-result c = search needs

@@ -12,9 +12,6 @@ use Rattle.lookup.specs.Records.{Start, first-start, start-fits}
 use Rattle.lookup.specs.Passes.{kinds-more, kinds-refuse, kinds-all}
 use Rattle.lookup.proofs.kinds_ok.Statement.{statement}
 use Rattle.lookup.proofs.kinds_ok.Tie as tie
-use Rattle.lookup.proofs.kinds_ok.Reads as reads
-use Rattle.lookup.proofs.kinds_ok.Lts as lts
-use Rattle.lookup.proofs.record_kinds_ok.Reads as record-kinds-ok-reads
 
 abbrev Inv-loop : tie.InvT-loop
 Inv-loop list n at₀ at = (at ≤ length list) × Allowed n × Start n at (λ k. rightKinds list n k ≡ true)

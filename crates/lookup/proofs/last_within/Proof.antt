@@ -9,9 +9,6 @@ use Rattle.lookup.specs.Records.{first-fits}
 use Rattle.lookup.specs.Search.{Down, down-from-last, down-found, down-more, down-first, down-size}
 use Rattle.lookup.proofs.last_within.Statement.{statement}
 use Rattle.lookup.proofs.last_within.Tie as tie
-use Rattle.lookup.proofs.last_within.Reads as reads
-use Rattle.lookup.proofs.last_within.Lts as lts
-use Rattle.lookup.proofs.distance_at.Reads as distance-at-reads
 
 abbrev Inv-loop : tie.InvT-loop
 Inv-loop list n y at₀ at = (at + (n + 4) ≤ length list) × Allowed n × Down list n y at

@@ -1,9 +1,7 @@
 -- Each test in its turn is the definition's; past the first three the list is whole records, which the passes ask for.
-use Prim.Native.Nat.{_+_, _≤_}
 use native.Mathlib.Omega.{arith}
-use mathlib.Core.Path.{_≡_, sym, ap, _∙_}
-use mathlib.Core.Bool.{true, false, not}
-use lib.ListN.{length}
+use mathlib.Core.Path.{sym, ap, _∙_}
+use mathlib.Core.Bool.{not}
 use borrow.Author.Needs.{needs}
 use borrow.Author.Tests.{not-true, not-false}
 use Rattle.lookup.specs.Kinds.{allowed}
@@ -11,12 +9,6 @@ use Rattle.lookup.specs.Records.{Records, first-fits}
 use Rattle.lookup.specs.Refusal.{not-not, refused-degree, refused-empty, refused-cut, refused-kinds, refused-first, rest-rising}
 use Rattle.lookup.proofs.listing_ok.Statement.{statement}
 use Rattle.lookup.proofs.listing_ok.Tie as tie
-use Rattle.lookup.proofs.listing_ok.Reads as reads
-use Rattle.lookup.proofs.listing_ok.Lts as lts
-use Rattle.lookup.proofs.degree_ok.Reads as degree-ok-reads
-use Rattle.lookup.proofs.distance_at.Reads as distance-at-reads
-use Rattle.lookup.proofs.kinds_ok.Reads as kinds-ok-reads
-use Rattle.lookup.proofs.rising.Reads as rising-reads
 
 degree-ok-requires : tie.Need-degree-ok-requires
 degree-ok-requires c κs = search needs

@@ -1,33 +1,28 @@
 -- A list that is not refused is whole records, so the part found is within it; the three clauses of each return are its content, block and place.
-use Prim.Native.Nat.{ℕ, _+_, _*_, _-_, _≤_}
+use Prim.Native.Nat.{ℕ, _+_, _-_, _≤_}
 use native.Mathlib.Omega.{arith}
-use mathlib.Core.Path.{_≡_, refl, sym, subst}
-use mathlib.Core.Bool.{true, false, not}
+use mathlib.Core.Path.{_≡_, refl, sym, subst, _∙_}
 use lib.ListN.{length}
 use borrow.Author.Needs.{needs}
 use borrow.Author.Tests.{not-true, not-false}
-use Rattle.definitions.specs.Lookup.{lookupOf, placeOf, recordAt, wrongListing}
-use Rattle.lookup.specs.Kinds.{allowed}
+use Rattle.definitions.specs.Lookup.{placeOf}
 use Rattle.lookup.specs.Search.{last-fits}
 use Rattle.lookup.specs.Refusal.{not-not, listing-records, refused-place, refused-words, found-place, found-words}
 use Rattle.lookup.proofs.lookup.Statement.{statement}
 use Rattle.lookup.proofs.lookup.Tie as tie
-use Rattle.lookup.proofs.lookup.Reads as reads
-use Rattle.lookup.proofs.lookup.Lts as lts
-use Rattle.lookup.proofs.last_within.Reads as last-within-reads
-use Rattle.lookup.proofs.listing_ok.Reads as listing-ok-reads
 
 listing-ok-requires : tie.Need-listing-ok-requires
 listing-ok-requires c κs = search needs
 
-slice-aggregate-result : tie.Need-slice-aggregate-result
-slice-aggregate-result c = search needs
+empty-start-requires : tie.Need-empty-start-requires
+empty-start-requires c κs = search needs
 
 returns : tie.Need-returns
 returns c =
     let w = not-not _ (c .before .before .listing-ok .ensures) .0 (not-true _ (c .before .if1 .taken)) in
     let p = refused-place _ _ (c .before .before .before .before .args .y .0) 0 w in
-    (sym (refused-words _ _ _ 0 w), (refl, omega arith))
+    let e = c .empty-start .ensures in
+    (e .0 ∙ sym (refused-words _ _ _ 0 w), (e .1 .0, (let f = e .1 .1 in omega arith)))
 
 last-within-requires : tie.Need-last-within-requires
 last-within-requires c κs = listing-records _ _ (not-not _ (c .before .listing-ok .ensures) .1 (not-false _ (c .if1 .left)))
@@ -70,7 +65,7 @@ lookup-spec =
     tie.close
     (tie.spec
     listing-ok-requires
-    slice-aggregate-result
+    empty-start-requires
     returns
     last-within-requires
     add-end

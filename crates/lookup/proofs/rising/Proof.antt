@@ -1,7 +1,7 @@
 -- The invariant: the word offset is a record's start, and the distances rise up to that record.
 use Prim.Native.Nat.{_≤_, _+_, _-_}
 use native.Mathlib.Omega.{arith}
-use mathlib.Core.Path.{_≡_, refl, sym, _∙_}
+use mathlib.Core.Path.{_≡_, refl, sym}
 use mathlib.Core.Bool.{true}
 use lib.ListN.{length}
 use borrow.Author.Needs.{needs}
@@ -11,9 +11,6 @@ use Rattle.lookup.specs.Records.{Start, first-start, first-fits, next-fi
 use Rattle.lookup.specs.Passes.{rising-more, rising-refuse, rising-all}
 use Rattle.lookup.proofs.rising.Statement.{statement}
 use Rattle.lookup.proofs.rising.Tie as tie
-use Rattle.lookup.proofs.rising.Reads as reads
-use Rattle.lookup.proofs.rising.Lts as lts
-use Rattle.lookup.proofs.distance_at.Reads as distance-at-reads
 
 abbrev Inv-loop : tie.InvT-loop
 Inv-loop list n at₀ at = (at + (n + 4) ≤ length list) × Allowed n × Start n at (λ k. rising list n k ≡ true)

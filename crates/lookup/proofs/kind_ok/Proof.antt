@@ -1,11 +1,11 @@
+-- The four ranges of places of a record's kinds.
 use native.Mathlib.Omega.{arith}
-use mathlib.Core.Path.{sym}
+use mathlib.Core.Path.{sym, ap}
+use lib.Dec.{eqb}
 use borrow.Author.Needs.{needs}
 use Rattle.lookup.specs.Kinds.{kind-first, kind-mirror, kind-Q, kind-P}
-use Rattle.lookup.proofs.kind_at.Statement.{statement}
-use Rattle.lookup.proofs.kind_at.Tie as tie
-use Rattle.lookup.proofs.kind_at.Reads as reads
-use Rattle.lookup.proofs.kind_at.Lts as lts
+use Rattle.lookup.proofs.kind_ok.Statement.{statement}
+use Rattle.lookup.proofs.kind_ok.Tie as tie
 
 cast-result : tie.Need-cast-result
 cast-result c = search needs
@@ -14,7 +14,7 @@ add-result : tie.Need-add-result
 add-result c = search needs
 
 returns : tie.Need-returns
-returns c = sym (kind-first _ (c .before .pre .0) _ (omega arith))
+returns c = ap (eqb _) (sym (kind-first _ (c .before .pre .0) _ (omega arith)))
 
 cast-result-2 : tie.Need-cast-result-2
 cast-result-2 c = search needs
@@ -23,19 +23,19 @@ add-result-2 : tie.Need-add-result-2
 add-result-2 c = search needs
 
 returns-2 : tie.Need-returns-2
-returns-2 c = sym (kind-mirror _ (c .before .before .pre .0) _ (omega arith) (omega arith))
+returns-2 c = ap (eqb _) (sym (kind-mirror _ (c .before .before .pre .0) _ (omega arith) (omega arith)))
 
 add-if3 : tie.Need-add-if3
 add-if3 c = search needs
 
 returns-3 : tie.Need-returns-3
-returns-3 c = sym (kind-Q _ (c .before .before .before .pre .0) _ (omega arith) (omega arith))
+returns-3 c = ap (eqb _) (sym (kind-Q _ (c .before .before .before .pre .0) _ (omega arith) (omega arith)))
 
 returns-4 : tie.Need-returns-4
-returns-4 c = sym (kind-P _ (c .before .before .before .pre .0) _ (omega arith) (omega arith))
+returns-4 c = ap (eqb _) (sym (kind-P _ (c .before .before .before .pre .0) _ (omega arith) (omega arith)))
 
-pub kind-at-spec : {M : Type 1} → statement M
-kind-at-spec =
+pub kind-ok-spec : {M : Type 1} → statement M
+kind-ok-spec =
     tie.close
     (tie.spec
     cast-result
