@@ -1,0 +1,52 @@
+-- The coefficients of one step where the quotient has degree 1: each product has two terms, with the place itself and the place before. q − a serves for −a, so that nothing is below 0.
+use Prim.Native.Nat.{ℕ, zero, suc, _+_, _*_, _-_, _%_, _<_, _≤_}
+use native.Mathlib.Nat.{mul-add, add-mul, mul-comm, zero-add}
+use native.Mathlib.Numerals.{add-one}
+use native.Mathlib.Omega.{arith}
+use mathlib.Core.Path.{_≡_, refl, sym, ap, ap₂, _∙_}
+use mathlib.Core.List.{List, [], _∷_}
+use lib.ListN.{getD}
+use Rattle.definitions.specs.Field.{modulo}
+use Rattle.definitions.specs.Polynomials.{add, sub, mul}
+use Rattle.bridge.specs.Product.{shifted, rows, rows-mul}
+use Rattle.polynomial.specs.Row.{Ends}
+use Rattle.walk.specs.Coefficients.{rest-is, next-is}
+
+pub shifted-next : (b : List ℕ) (k : ℕ) → shifted b 1 (k + 1) ≡ getD b k 0
+unfolding shifted
+shifted-next b k = rw add-one
+
+two-rows : (a b : List ℕ) (k : ℕ) → rows a b 2 k ≡ getD a 0 0 * getD b k 0 + getD a 1 0 * shifted b 1 k
+unfolding rows shifted
+two-rows a b k = let z : 0 + getD a 0 0 * getD b k 0 ≡ getD a 0 0 * getD b k 0 = zero-add _ in ap (λ u. u + getD a 1 0 * shifted b 1 k) z
+
+-- (q − a)·x and a·x make q·x
+complement : (q a x : ℕ) → a ≤ q → (q - a) * x + a * x ≡ x * q
+complement q a x h = sym (add-mul (q - a) a x) ∙ ap (λ n. n * x) (let e : q - a + a ≡ q = omega arith in e) ∙ mul-comm q x
+
+-- a·(z − r) and a·r make a·z, where q is added
+returned : (q a z r : ℕ) → r ≤ q → a * (z + (q - r)) + a * r ≡ a * z + a * q
+returned q a z r h = sym (mul-add a (z + (q - r)) r) ∙ ap (λ n. a * n) (let e : z + (q - r) + r ≡ z + q = omega arith in e) ∙ mul-add a z q
+
+module _ (q : ℕ) (pos : 0 < q) (a : List ℕ) (two : Ends a 2) (a0 a1 : ℕ) (is0 : a0 ≡ getD a 0 0) (is1 : a1 ≡ getD a 1 0) where
+  terms-are : (b : List ℕ) (k : ℕ) → a0 * getD b k 0 + a1 * shifted b 1 k ≡ rows a b 2 k
+  terms-are b k = ap₂ (λ u v. u * getD b k 0 + v * shifted b 1 k) is0 is1 ∙ sym (two-rows a b k)
+
+  -- s − r − a·b at k
+  pub rest-two : (s r b : List ℕ) (k x y : ℕ) → a0 ≤ q → a1 ≤ q → getD r k 0 < q → x ≡ getD b k 0 → y ≡ shifted b 1 k → (getD s k 0 + (q - getD r k 0) + ((q - a0) * x + (q - a1) * y)) % q ≡ getD (sub (modulo q) (sub (modulo q) s r) (mul (modulo q) a b)) k 0
+  rest-two s r b k x y h0 h1 h e f =
+      rest-is q pos s r a b k _ (a0 * x + a1 * y) (x + y) h
+      (ap (λ n. n % q) (ap₂ (λ u v. a0 * u + a1 * v) e f ∙ terms-are b k) ∙ rows-mul q pos a b 2 k two)
+      (let u = complement q a0 x h0 in let v = complement q a1 y h1 in let w : (x + y) * q ≡ x * q + y * q = add-mul x y q in omega arith)
+
+  -- before + a·(z − r) at k
+  pub next-two : (before z r : List ℕ) (k x y : ℕ) → getD r k 0 ≤ q → shifted r 1 k ≤ q → x ≡ getD z k 0 + (q - getD r k 0) → y ≡ shifted z 1 k + (q - shifted r 1 k) → (getD before k 0 + (a0 * x + a1 * y)) % q ≡ getD (add (modulo q) before (mul (modulo q) a (sub (modulo q) z r))) k 0
+  next-two before z r k x y h0 h1 e f =
+      ap₂ (λ u v. (getD before k 0 + (a0 * u + a1 * v)) % q) e f
+      ∙ next-is q pos before a z r k _ (rows a z 2 k) (rows a r 2 k) (a0 + a1) (rows-mul q pos a z 2 k two) (rows-mul q pos a r 2 k two)
+      (let u = returned q a0 (getD z k 0) (getD r k 0) h0 in let v = returned q a1 (shifted z 1 k) (shifted r 1 k) h1 in let w : (a0 + a1) * q ≡ a0 * q + a1 * q = add-mul a0 a1 q in let i = terms-are z k in let j = terms-are r k in omega arith)
+
+pub shifted-less : (q : ℕ) → 0 < q → (b : List ℕ) → ((i : ℕ) → getD b i 0 < q) → (k : ℕ) → shifted b 1 k < q
+unfolding shifted
+shifted-less q pos b h zero = pos
+shifted-less q pos b h (suc k) = h k
