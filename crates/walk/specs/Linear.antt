@@ -6,11 +6,15 @@ use native.Mathlib.Omega.{arith}
 use mathlib.Core.Path.{_≡_, refl, sym, ap, ap₂, _∙_}
 use mathlib.Core.List.{List, [], _∷_}
 use lib.ListN.{getD}
-use Rattle.definitions.specs.Field.{modulo}
+use Rattle.definitions.specs.Field.{modulo, inverse}
 use Rattle.definitions.specs.Polynomials.{add, sub, mul}
+use Rattle.bridge.specs.Prime.{Prime}
 use Rattle.bridge.specs.Product.{shifted, rows, rows-mul}
 use Rattle.polynomial.specs.Row.{Ends}
-use Rattle.walk.specs.Coefficients.{rest-is, next-is}
+use Rattle.polynomial.specs.Places.{Within}
+use Rattle.walk.specs.Step.{stepQuo}
+use Rattle.walk.specs.Sizes.{quo-past}
+use Rattle.walk.specs.Coefficients.{rest-is, next-is, quo-at}
 
 pub shifted-next : (b : List ℕ) (k : ℕ) → shifted b 1 (k + 1) ≡ getD b k 0
 unfolding shifted
@@ -50,3 +54,34 @@ pub shifted-less : (q : ℕ) → 0 < q → (b : List ℕ) → ((i : ℕ) → get
 unfolding shifted
 shifted-less q pos b h zero = pos
 shifted-less q pos b h (suc k) = h k
+
+-- ---- the quotient itself, from the top: what clears s − r at n is a1, what clears s − r − a1·x·b at n − 1 is a0
+module _ (q : ℕ) (p : Prime q) (pos : 0 < q) (n : ℕ) (some : 0 < n) (s b r : List ℕ) (sw : Within q s (n + 1)) (rw : Within q r (n + 1)) (bw : Within q b n) (top : getD b (n - 1) 0 ≡ 0 → ⊥) where
+  past : (i : ℕ) → 2 ≤ i → getD (stepQuo q s b r) i 0 ≡ 0
+  past i h = quo-past q p pos (n + 1) n s b r sw rw bw top i (omega arith)
+
+  pub upper-at : (v : ℕ) → v ≡ (getD s n 0 + (q - getD r n 0) + ((q - 0) * getD b n 0 + (q - 0) * getD b (n - 1) 0)) % q → (v * inverse q (getD b (n - 1) 0)) % q ≡ getD (stepQuo q s b r) 1 0
+  upper-at v e =
+      let back : n - 1 + 1 ≡ n = omega arith in
+      quo-at q pos s b r p (n + 1) n some sw rw bw top [] 1 (λ i h. sym (past i h)) (λ i h. refl) n v (omega arith)
+      (e ∙ rest-two q pos [] (λ i h. refl) 0 0 refl refl s r b n (getD b n 0) (getD b (n - 1) 0) (omega arith) (omega arith) (rw .reduced n) refl (sym (shifted-next b (n - 1)) ∙ ap (shifted b 1) back))
+
+  module _ (a1 : ℕ) (is : a1 ≡ getD (stepQuo q s b r) 1 0) where
+    above : (i : ℕ) → 0 < i → getD (0 ∷ a1 ∷ []) i 0 ≡ getD (stepQuo q s b r) i 0
+    above zero h = absurd (omega arith)
+    above (suc zero) h = is
+    above (suc (suc i)) h = sym (past (suc (suc i)) (omega arith))
+
+    none : (i : ℕ) → i ≤ 0 → getD (0 ∷ a1 ∷ []) i 0 ≡ 0
+    none zero h = refl
+    none (suc i) h = absurd (omega arith)
+
+    ends : Ends (0 ∷ a1 ∷ []) 2
+    ends zero h = absurd (omega arith)
+    ends (suc zero) h = absurd (omega arith)
+    ends (suc (suc i)) h = refl
+
+    pub lower-at : (v y : ℕ) → a1 ≤ q → y ≡ shifted b 1 (n - 1) → v ≡ (getD s (n - 1) 0 + (q - getD r (n - 1) 0) + ((q - 0) * getD b (n - 1) 0 + (q - a1) * y)) % q → (v * inverse q (getD b (n - 1) 0)) % q ≡ getD (stepQuo q s b r) 0 0
+    lower-at v y h f e =
+        quo-at q pos s b r p (n + 1) n some sw rw bw top (0 ∷ a1 ∷ []) 0 above none (n - 1) v (omega arith)
+        (e ∙ rest-two q pos (0 ∷ a1 ∷ []) ends 0 a1 refl refl s r b (n - 1) (getD b (n - 1) 0) y (omega arith) h (rw .reduced (n - 1)) refl f)

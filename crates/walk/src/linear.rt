@@ -97,3 +97,65 @@ fn next(
         k += 1;
     }
 }
+
+// a1, which clears s − r at its top place.
+fn upper(
+    f: Field,
+    reciprocal: u32,
+    unit: u32,
+    s: &[u32; 129],
+    r: &[u32; 129],
+    b: &[u32; 129],
+    n: usize,
+) -> u32
+    requires { ⌜ Prime (f .q) × (f .q < 4096) × (reciprocal ≡ 4294967295 / f .q) × (unit ≡ inverse (f .q) (getD (now b) (n - 1) 0)) ⌝ }
+    requires { ⌜ (0 < n) × (n < 128) × Division (f .q) (n + 1) n (now s) (now b) (now r) ⌝ }
+    ensures { λ a. ⌜ a ≡ getD (stepQuo (f .q) (now (s .entry)) (now (b .entry)) (now (r .entry))) 1 0 ⌝ }
+{
+    let v = rest_of(f, reciprocal, s[n], r[n], 0, 0, b[n], b[n - 1]);
+    reduce(f, reciprocal, v * unit)
+}
+
+// a0, which clears s − r − a1·x·b at the place below.
+fn lower(
+    f: Field,
+    reciprocal: u32,
+    unit: u32,
+    s: &[u32; 129],
+    r: &[u32; 129],
+    a1: u32,
+    b: &[u32; 129],
+    n: usize,
+) -> u32
+    requires { ⌜ Prime (f .q) × (f .q < 4096) × (reciprocal ≡ 4294967295 / f .q) × (unit ≡ inverse (f .q) (getD (now b) (n - 1) 0)) ⌝ }
+    requires { ⌜ (0 < n) × (n < 128) × Division (f .q) (n + 1) n (now s) (now b) (now r) ⌝ }
+    requires { ⌜ a1 ≡ getD (stepQuo (f .q) (now s) (now b) (now r)) 1 0 ⌝ }
+    ensures { λ a. ⌜ a ≡ getD (stepQuo (f .q) (now (s .entry)) (now (b .entry)) (now (r .entry))) 0 0 ⌝ }
+{
+    let y = below(b, n - 1);
+    let v = rest_of(f, reciprocal, s[n - 1], r[n - 1], 0, a1, b[n - 1], y);
+    reduce(f, reciprocal, v * unit)
+}
+
+// One step where b has one coefficient less than s − r may have; `unit` is the inverse of its leading coefficient.
+pub fn linear(
+    f: Field,
+    reciprocal: u32,
+    unit: u32,
+    s: &[u32; 129],
+    before: &[u32; 129],
+    b: &[u32; 129],
+    n: usize,
+    r: &[u32; 129],
+    z: &mut [u32; 129],
+    w: &mut [u32; 129],
+)
+    requires { ⌜ Prime (f .q) × (f .q < 4096) × (reciprocal ≡ 4294967295 / f .q) × (unit ≡ inverse (f .q) (getD (now b) (n - 1) 0)) ⌝ }
+    requires { ⌜ (0 < n) × (n < 128) × Ready (f .q) (n + 1) n (now s) (now before) (now b) (now r) ⌝ }
+    ensures { λ _. ⌜ Moved (f .q) (now (s .entry)) (now (before .entry)) (now (b .entry)) (now (r .entry)) (now (z .exit)) (now (w .exit)) ⌝ }
+{
+    let a1 = upper(f, reciprocal, unit, s, r, b, n);
+    let a0 = lower(f, reciprocal, unit, s, r, a1, b, n);
+    remainder(f, reciprocal, s, r, a0, a1, b, n, z);
+    next(f, reciprocal, s, before, a0, a1, b, n, z, r, w);
+}
