@@ -7,6 +7,7 @@ pub mod NoSquare
 pub mod Pairs
 pub mod PairTest
 pub mod Product
+pub mod ProductCong
 pub mod ProductSizes
 pub mod Reduction
 pub mod ReductionSizes
