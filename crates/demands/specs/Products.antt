@@ -22,9 +22,10 @@ use Rattle.definitions.specs.Answers.{opsOf, rootOf}
 use Rattle.definitions.specs.Listing.{idealOf}
 use Rattle.definitions.specs.Products.{Product, productOf, turnsOf, ProductAnswer, GiantStepAnswer, wrongPair, wrongDistance, productDone, giantDone, productRefused, giantRefused, productAnswer, giantAnswer}
 use Rattle.bridge.specs.Model.{Model, Inverts, Oks, series}
-use Rattle.bridge.specs.Trim.{size-is, lead-is, length-trim, series-ext}
+use Rattle.bridge.specs.Trim.{size-is, size-le, lead-is, series-ext}
 use Rattle.bridge.specs.Arithmetic.{series-add, series-mul, trim-add, oks-add}
-use Rattle.bridge.specs.Division.{oks-quo, rem-less}
+use Rattle.bridge.specs.Division.{oks-quo}
+use Rattle.bridge.specs.Monic.{oks-monic}
 use Rattle.bridge.specs.Degree.{deg-is, monic-size}
 use Rattle.bridge.specs.Bezout.{trim-gcd, oks-gcd}
 use Rattle.bridge.specs.Residues.{pos, model, field, inverts}
@@ -32,9 +33,10 @@ use Rattle.laws.specs.Surd.{Surd}
 use Rattle.laws.specs.Admitted.{Admitted, surd-of, admitted}
 use Rattle.laws.specs.Pairs.{IsIdeal, cofactorAt, ideal-state}
 use Rattle.laws.specs.PairTest.{Passes, pair-passes, pairs-pass, pair-ideal, pair-degree}
-use Rattle.laws.specs.Product.{commonOf, productQ, unreducedP, productP, bezoutU, bezoutV, bezoutW, Gives, product-is, bezout-gives, common, S-divides, Q-product, product-same, product-ideal}
+use Rattle.laws.specs.Product.{commonOf, productQ, productP, bezoutU, bezoutV, bezoutW, Gives, product-is, bezout-gives, common, S-divides, Q-product, product-same, product-ideal}
 use Rattle.laws.specs.Product as product
 use Rattle.laws.specs.Reduction.{next-divides, stated, Q-size, a-size, turns-first}
+use Rattle.laws.specs.Reduced.{reduced-ideal}
 use Rattle.laws.specs.Shift.{turns-few, shift-not-positive, shift-least}
 
 module _ (q : ℕ) where
@@ -61,18 +63,22 @@ module _ (q : ℕ) where
   abbrev pub paperP : List ℕ → Ideal ℕ → Ideal ℕ → List ℕ → List ℕ → List ℕ → List ℕ → List ℕ
   paperP D x y S Q u w = rem (modulo q) (x .p ⊕ quo (modulo q) (x .q) S ⊗ (u ⊗ (y .p ⊖ x .p) ⊕ w ⊗ quo (modulo q) (D ⊖ x .p ⊗ x .p) (x .q))) Q
 
+  -- Q is monic, deg P < deg Q, and Q divides D − P²
+  pub record IsPair (D Q P : List ℕ) : Type 0 where
+    pub monic : lead (modulo q) Q ≡ 1
+    pub less : size (modulo q) P < size (modulo q) Q
+    pub divides : Divides Q (D ⊖ P ⊗ P)
+
   pub record IsProduct (g : ℕ) (D : List ℕ) (x y : Ideal ℕ) (S Q P : List ℕ) : Type 0 where
     pub S-monic : lead (modulo q) S ≡ 1
     pub S-first : Divides S (x .q)
     pub S-second : Divides S (y .q)
     pub S-sum : Divides S (x .p ⊕ y .p)
     pub S-combines : (u : List ℕ) × (v : List ℕ) × (w : List ℕ) × Combines x y S u v w
-    pub Q-monic : lead (modulo q) Q ≡ 1
     pub Q-square : Q ⊗ (S ⊗ S) ≡ x .q ⊗ y .q
     pub Q-most : deg (modulo q) Q ≤ g + g
     pub P-any : (u v w : List ℕ) → Combines x y S u v w → P ≡ paperP D x y S Q u w
-    pub P-less : size (modulo q) P < size (modulo q) Q
-    pub ideal : Divides Q (D ⊖ P ⊗ P)
+    pub ideal : IsPair D Q P
 
   -- the steps from (Q, P), of which the k-th is the first that is reduced
   module _ (g : ℕ) (D d : List ℕ) (s : Ideal ℕ) where
@@ -101,6 +107,7 @@ pub record Steps (t : Ticket) (x : Ideal ℕ) (d : ℕ) (y : Ideal ℕ) (e : ℕ
   pub reduces : ReducesAt (t .q) (genus (t .n)) (t .D) (rootOf t) s k
   pub Q-is : r .q ≡ monic (opsOf t) (steps (opsOf t) (t .D) (rootOf t) s k .q)
   pub P-is : r .p ≡ rem (opsOf t) (steps (opsOf t) (t .D) (rootOf t) s k .p) (r .q)
+  pub ideal : IsPair (t .q) (t .D) (r .q) (r .p)
   pub f-most : r .f ≤ℤ posℤ 0
   pub f-least : negℤ (posℤ (genus (t .n) + genus (t .n))) ≤ℤ r .f
   pub distance : r .distance ≡ posℤ (d + e) +ℤ r .f
@@ -139,6 +146,13 @@ module _ {q g : ℕ} {D : List ℕ} (h : Admitted q g D) {x y : Ideal ℕ} (px :
   lead-is-one : (l : List ℕ) {n : ℕ} → Oks M l → Monic K (series M l) n → lead (modulo q) l ≡ 1
   lead-is-one l {n} k m = M .inj (lead (modulo q) l) 1 (subst (λ (a : ℕ). a < q) (sym (lead-is M l)) (k _)) (let e = h .odd in omega arith) (ap (M .φ) (lead-is M l) ∙ ap (series M l) (let e = monic-size K M l m in omega arith) ∙ m .top)
 
+  is-pair : {s : Ideal ℕ} → Oks M (s .q) → IsIdeal K M D s → IsPair q D (s .q) (s .p)
+  is-pair {s} k i = record {
+    monic = lead-is-one (s .q) k (i .monic);
+    less = let a = monic-size K M (s .q) (i .monic) in let b = size-le M (s .p) (i .κ) (i .low) in let c = size-is M (s .q) in let e = size-is M (s .p) in omega arith;
+    divides = i .divides;
+  }
+
   gives : (u v w : List ℕ) → Combines q x y (commonOf (modulo q) x y) u v w → Gives K M I D x y u v w
   gives u v w e = record { is = ap (series M) e ∙ series-add M _ _ ∙ ap₂ (addS (F K)) (series-add M _ _ ∙ ap₂ (addS (F K)) (series-mul M u (x .q)) (series-mul M v (y .q))) (series-mul M w _ ∙ ap (conv (F K) (series M w)) (series-add M (x .p) (y .p))) }
 
@@ -165,12 +179,10 @@ module _ {q g : ℕ} {D : List ℕ} (h : Admitted q g D) {x y : Ideal ℕ} (px :
     S-second = S-divides K M I D hx hy .1;
     S-sum = S-divides K M I D hx hy .2;
     S-combines = (bezoutU (modulo q) x y, bezoutV (modulo q) x y, bezoutW (modulo q) x y, combines _ _ _ (bezout-gives K M I D x y));
-    Q-monic = lead-is-one Q₀ (oks-quo M _ _) (product.Q-monic K M I D hx hy);
     Q-square = Q-product K M I D hx hy;
     Q-most = let e = product.Q-size K M I D hx hy in let e′ = deg-is K M Q₀ in let a = pair-degree h px in let b = pair-degree h py in omega arith;
     P-any = λ u v w e. product-same K M I D hx hy (bezout-gives K M I D x y) (gives u v w e);
-    P-less = let a = rem-less M I (unreducedP (modulo q) D x y (bezoutU (modulo q) x y) (bezoutW (modulo q) x y)) Q₀ (let e = product.Q-size K M I D hx hy in omega arith) in let b = size-is M Q₀ in let c = size-is M P₀ in let f = length-trim M P₀ in omega arith;
-    ideal = product-ideal K M I D hx hy (bezout-gives K M I D x y) .divides;
+    ideal = is-pair (oks-quo M _ _) (product-ideal K M I D hx hy (bezout-gives K M I D x y));
   }
 
   -- ---- its reduction
@@ -187,6 +199,10 @@ module _ {q g : ℕ} {D : List ℕ} (h : Admitted q g D) {x y : Ideal ℕ} (px :
     first = turns-first z (r .ideal) st .1;
     few = subst (λ (p : Product ℕ). turnsOf (modulo q) D d g (p .ideal) + turnsOf (modulo q) D d g (p .ideal) ≤ suc g) (product-is K M I D x y) (turns-few z hx hy (pair-degree h px) (pair-degree h py));
   }
+
+  answer-pair : (k : ℕ) → let i = idealOf (modulo q) (steps (modulo q) D d (r .ideal) k) in IsPair q D (i .q) (i .p)
+  unfolding idealOf
+  answer-pair k = is-pair (oks-monic M I (steps (modulo q) D d (r .ideal) k .q)) (reduced-ideal K M I D (steps (modulo q) D d (r .ideal) k) (stated z (r .ideal) st k .state))
 
 -- ---- for a ticket
 module _ (t : Ticket) (h : Admitted (t .q) (genus (t .n)) (t .D)) {x y : Ideal ℕ} (px : Passes (t .q) (genus (t .n)) (t .D) x) (py : Passes (t .q) (genus (t .n)) (t .D) y) where
@@ -205,6 +221,7 @@ module _ (t : Ticket) (h : Admitted (t .q) (genus (t .n)) (t .D)) {x y : Ideal �
     reduces = subst (λ (p : Product ℕ). ReducesAt (t .q) (genus (t .n)) (t .D) (rootOf t) (p .ideal) (turnsOf (opsOf t) (t .D) (rootOf t) (genus (t .n)) (p .ideal))) (sym of-lists) (reduces-at h px py);
     Q-is = refl;
     P-is = refl;
+    ideal = subst (λ (p : Product ℕ). let i = idealOf (opsOf t) (steps (opsOf t) (t .D) (rootOf t) (p .ideal) (turnsOf (opsOf t) (t .D) (rootOf t) (genus (t .n)) (p .ideal))) in IsPair (t .q) (t .D) (i .q) (i .p)) (sym of-lists) (answer-pair h px py (turnsOf (opsOf t) (t .D) (rootOf t) (genus (t .n)) (r h px py .ideal)));
     f-most = shift-not-positive (surd-of h) (pair-ideal h px) (pair-ideal h py) (pair-degree h px) (pair-degree h py);
     f-least = shift-least (surd-of h) (pair-ideal h px) (pair-ideal h py) (pair-degree h px) (pair-degree h py);
     distance = refl;

@@ -11,6 +11,7 @@ pub mod ProductCong
 pub mod ProductSizes
 pub mod Reduction
 pub mod ReductionSizes
+pub mod Reduced
 pub mod Shift
 pub mod Admitted
 pub mod Signs
