@@ -9,11 +9,10 @@ use mathlib.Core.List.{List, []}
 use lib.IntN.{ℤ, pos as posℤ, negℤ, _+ℤ_}
 use lib.Signed.{_≤ℤ_}
 use Rattle.algebra.specs.Field.{Field}
-use Rattle.algebra.specs.Polynomial.{F}
+use Rattle.algebra.specs.Polynomial.{F, Monic}
 use Rattle.surd.specs.Step.{State}
 use Rattle.ring.specs.Residues.{Fq}
 use Rattle.ring.specs.Series.{addS, conv}
-use Rattle.algebra.specs.Polynomial.{Monic}
 use Rattle.definitions.specs.Field.{modulo}
 use Rattle.definitions.specs.Polynomials.{size, deg, lead, add, sub, mul, quo, rem, monic, root}
 use Rattle.definitions.specs.Ticket.{Ticket, genus, ticketOf, refusalOf}
