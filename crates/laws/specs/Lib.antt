@@ -7,3 +7,4 @@ pub mod NoSquare
 pub mod Admitted
 pub mod Signs
 pub mod Norms
+pub mod State
