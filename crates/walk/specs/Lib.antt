@@ -1,1 +1,7 @@
+pub mod Step
 pub mod Reciprocal
+pub mod Down
+pub mod Sizes
+pub mod Coefficients
+pub mod Terms
+pub mod Result
