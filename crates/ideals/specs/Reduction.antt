@@ -115,9 +115,9 @@ module _ {A : Type 0} (K : Field A) where
           both : r * (P′ + d) + o .e ≺ κ +ₙ suc g
           both = low-add K (r * (P′ + d)) (o .e) _ (low-mul K r (P′ + d) κ (suc g) r-low sum-low) (low-up K (o .e) (omega arith) (o .e-low))
 
-      -- where the degree of Q is above g: that of P′ + d is at most as large, and Q′ is reduced or its degree is smaller by 2 or more
-      pub fall : g < κ → {h : ℕ} → κ′ < h → Deg K (P′ + d) h → (h ≤ κ) × ((κ′ ≤ g) ⊎ (κ′ +ₙ 2 ≤ κ))
-      fall big {h} less u = ⊎-elim far close (le-or-lt (suc (suc g)) ρ)
+      -- where the degree of Q is above g: the remainder is not 0, and with ρ its degree, deg (P′ + d) - deg Q′ = deg Q - ρ
+      pub remainder-deg : g < κ → {h : ℕ} → Deg K (P′ + d) h → (ρ : ℕ) × (ρ +ₙ h ≡ κ′ +ₙ κ) × (ρ < κ) × Deg K (d - P′) ρ
+      remainder-deg big {h} u = (ρ, omega (arith, f .0), deg-below K r ρ κ (f .1) r-low, f .1)
         where
           ρ : ℕ
           ρ = (κ′ +ₙ κ) -ₙ h
@@ -125,20 +125,16 @@ module _ {A : Type 0} (K : Field A) where
           f : (h ≤ κ′ +ₙ κ) × Deg K r ρ
           f = deg-factor K κ r (P′ + d) (κ′ +ₙ κ) h r-low u (rest (omega arith))
 
-          ρ-less : ρ < κ
-          ρ-less = deg-below K r ρ κ (f .1) r-low
+      -- a remainder of degree above g + 1 has the degree of P′ + d, and one of at most that degree bounds it
+      pub sum-far : {ρ h : ℕ} → suc g < ρ → Deg K (d - P′) ρ → Deg K (P′ + d) h → h ≡ ρ
+      sum-far {ρ} l v u = deg-unique K u (deg-path K ρ turn (deg-dominant K (- r) (d + d) ρ (deg-neg K r ρ v) (low-up K (d + d) l (deg-twice K d (suc g) (d-deg K o) .low))))
+        where
+          turn : - r + (d + d) ≡ P′ + d
+          turn = ring R[x] (P′ ∷ d ∷ []) (search quote depth 40 fits 9999) tt
 
-          far : suc (suc g) ≤ ρ → (h ≤ κ) × ((κ′ ≤ g) ⊎ (κ′ +ₙ 2 ≤ κ))
-          far l = (omega (arith, same, ρ-less), inr (omega (arith, same, ρ-less, f .0)))
-            where
-              turn : - r + (d + d) ≡ P′ + d
-              turn = ring R[x] (P′ ∷ d ∷ []) (search quote depth 40 fits 9999) tt
+      pub sum-close : {ρ h : ℕ} → ρ ≤ suc g → Deg K (d - P′) ρ → Deg K (P′ + d) h → h ≤ suc g
+      sum-close {ρ} {h} l v u = let m = deg-below K (P′ + d) h (suc (suc g)) u (low-path K _ two-d (low-sub K (d + d) r _ (deg-twice K d (suc g) (d-deg K o) .low) (low-up K r (omega arith) (v .low)))) in omega arith
 
-              same : h ≡ ρ
-              same = deg-unique K u (deg-path K ρ turn (deg-dominant K (- r) (d + d) ρ (deg-neg K r ρ (f .1)) (low-up K (d + d) l (deg-twice K d (suc g) (d-deg K o) .low))))
-
-          close : ρ < suc (suc g) → (h ≤ κ) × ((κ′ ≤ g) ⊎ (κ′ +ₙ 2 ≤ κ))
-          close l = (omega (arith, most), inl (omega (arith, most)))
-            where
-              most : h < suc (suc g)
-              most = deg-below K (P′ + d) h (suc (suc g)) u (low-path K _ two-d (low-sub K (d + d) r _ (deg-twice K d (suc g) (d-deg K o) .low) (low-up K r l (f .1 .low))))
+      -- so the degree of P′ + d is at most that of Q, and Q′ is reduced or its degree is smaller by 2 or more
+      pub fall : g < κ → {h : ℕ} → κ′ < h → Deg K (P′ + d) h → (h ≤ κ) × ((κ′ ≤ g) ⊎ (κ′ +ₙ 2 ≤ κ))
+      fall big less u = let v = remainder-deg big u in ⊎-elim (λ l. let e = sum-far l (v .3) u in (omega arith, inr (omega arith))) (λ l. let e = sum-close (omega arith) (v .3) u in (omega arith, inl (omega arith))) (le-or-lt (suc (suc g)) (v .0))

@@ -7,9 +7,11 @@ pub mod NoSquare
 pub mod Pairs
 pub mod PairTest
 pub mod Product
+pub mod ProductCong
 pub mod ProductSizes
 pub mod Reduction
 pub mod ReductionSizes
+pub mod Reduced
 pub mod Shift
 pub mod Admitted
 pub mod Signs

@@ -23,7 +23,7 @@ use Rattle.definitions.specs.Products.{productOf}
 use Rattle.definitions.specs.Products as lists
 use Rattle.bridge.specs.Model.{Model, Inverts, series}
 use Rattle.bridge.specs.Trim.{below-length, series-ext}
-use Rattle.bridge.specs.Arithmetic.{series-add, series-sub, series-mul}
+use Rattle.bridge.specs.Arithmetic.{trim-mul, oks-mul, series-add, series-sub, series-mul}
 use Rattle.bridge.specs.Division.{series-quo-rem, rem-below, trim-rem, oks-rem}
 use Rattle.bridge.specs.Quotient.{quo-exact}
 use Rattle.bridge.specs.Degree.{deg-size}
@@ -186,13 +186,19 @@ module _ {A B : Type 0} {o : Ops A} (K : Field B) (M : Model o (F K)) (I : Inver
     pub S-size : length (trim o S) ≡ suc σ
     S-size = deg-size K M S (monic-deg K (common .monic))
 
-    -- Q_1 / S is exact
-    pub first-series : series M (quo o (x .q) S) ≡ common .first .by
-    first-series = quo-exact M I (x .q) S (common .first .by) (common .first .size) (let e = S-size in omega arith) (common .first .low) (common .first .is ∙ R[x] .mul-comm (series M S) (common .first .by)) .0
+    -- what S divides is divided exactly
+    exact-by : (l : List A) (v : Divides K (series M S) (series M l)) → (series M (quo o l S) ≡ v .by) × (rem o l S ≡ [])
+    exact-by l v = quo-exact M I l S (v .by) (v .size) (let e = S-size in omega arith) (v .low) (v .is ∙ R[x] .mul-comm (series M S) (v .by))
+
+    first-series : series M (quo o (x .q) S) ≡ common .first .by
+    first-series = exact-by (x .q) (common .first) .0
+
+    pub S-divides : (rem o (x .q) S ≡ []) × (rem o (y .q) S ≡ []) × (rem o (add o (x .p) (y .p)) S ≡ [])
+    S-divides = (exact-by (x .q) (common .first) .1, exact-by (y .q) (common .second) .1, exact-by (add o (x .p) (y .p)) (divides-path K (sym (series-add M (x .p) (y .p))) (common .sum)) .1)
 
     -- Q_1·Q_2 / S² is exact
-    pub Q-series : series M Q ≡ product-Q K s₁ s₂ common
-    Q-series = quo-exact M I (mul o (x .q) (y .q)) (mul o S S) (product-Q K s₁ s₂ common) (f .size) (let e = deg-size K M (mul o S S) square-deg in omega arith) (f .low) exact .0
+    Q-exact : (series M Q ≡ product-Q K s₁ s₂ common) × (rem o (mul o (x .q) (y .q)) (mul o S S) ≡ [])
+    Q-exact = quo-exact M I (mul o (x .q) (y .q)) (mul o S S) (product-Q K s₁ s₂ common) (f .size) (let e = deg-size K M (mul o S S) square-deg in omega arith) (f .low) exact
       where
         f : Finite K (product-Q K s₁ s₂ common)
         f = finite-mul K (finite-by K (common .first)) (finite-by K (common .second))
@@ -202,6 +208,16 @@ module _ {A B : Type 0} {o : Ops A} (K : Field B) (M : Model o (F K)) (I : Inver
 
         exact : series M (mul o (x .q) (y .q)) ≡ product-Q K s₁ s₂ common * series M (mul o S S)
         exact = series-mul M (x .q) (y .q) ∙ sym (product-square K s₁ s₂ common) ∙ ap (λ f. product-Q K s₁ s₂ common * f) (sym (series-mul M S S))
+
+    pub Q-series : series M Q ≡ product-Q K s₁ s₂ common
+    Q-series = Q-exact .0
+
+    pub S-square-divides : rem o (mul o (x .q) (y .q)) (mul o S S) ≡ []
+    S-square-divides = Q-exact .1
+
+    -- Q·S² = Q_1·Q_2
+    pub Q-product : mul o Q (mul o S S) ≡ mul o (x .q) (y .q)
+    Q-product = series-ext M _ _ (trim-mul M Q (mul o S S)) (trim-mul M (x .q) (y .q)) (oks-mul M Q (mul o S S)) (oks-mul M (x .q) (y .q)) (series-mul M Q (mul o S S) ∙ ap₂ _*_ Q-series (series-mul M S S) ∙ product-square K s₁ s₂ common ∙ sym (series-mul M (x .q) (y .q)))
 
     -- the degree of Q
     abbrev pub κ : ℕ

@@ -20,7 +20,7 @@ use Rattle.surd.specs.Step.{State}
 use Rattle.surd.specs.Step as states
 use Rattle.surd.specs.Ideal.{Follows, step-follows}
 use Rattle.ideals.specs.Reduction.{next-state}
-use Rattle.ideals.specs.Steps.{Steps, Above, above-more, turns-less, degree-falls, partial-deg, degree-sum, shift-most}
+use Rattle.ideals.specs.Steps.{Steps, Above, above-more, turns-less, degree-falls, height-more, partial-deg, degree-sum, shift-most}
 use Rattle.definitions.specs.Field.{Ops}
 use Rattle.definitions.specs.Polynomials.{trim, size, deg, add, mul, quo, rem}
 use Rattle.definitions.specs.Walk.{Ideal, partial, nextP, next, steps}
@@ -147,6 +147,9 @@ module _ {A B : Type 0} {o : Ops A} {K : Field B} {M : Model o (F K)} {g : ℕ} 
     -- ---- the degrees of a, past the first: it is not 0
     pub a-deg : (j : ℕ) → Deg K (series M (a-at (suc j))) (deg o (a-at (suc j)))
     a-deg j = let t = partial-deg K sequence j in subst (Deg K (series M (a-at (suc j)))) (let e = deg-size K M (a-at (suc j)) t in let e′ = deg-is K M (a-at (suc j)) in omega arith) t
+
+    pub a-size : (j : ℕ) → 1 < length (trim o (a-at (suc j)))
+    a-size j = let e = deg-size K M (a-at (suc j)) (partial-deg K sequence j) in let h = height-more K sequence j in omega arith
 
     pub degree-sum-is : (k : ℕ) → degreeSum o D d g x k ≡ degree-sum K sequence k
     unfolding degreeSum degree-sum

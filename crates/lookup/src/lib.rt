@@ -139,13 +139,14 @@ fn last_within(list: &[u32], n: usize, y: u64) -> usize
     0
 }
 
-// The empty part at the start of a list.
-fn empty_start<'a>(list: &'a [u32]) -> &'a [u32]
+// The empty part of a list before its word at.
+fn empty_part<'a>(list: &'a [u32], at: usize) -> &'a [u32]
+    requires { ⌜ at ≤ length (now list) ⌝ }
     ensures content { λ r. ⌜ now r ≡ [] ⌝ }
     ensures block { λ r. ⌜ r .ptr .0 ≡ list .entry .ptr .0 ⌝ }
-    ensures place { λ r. ⌜ r .ptr .1 ≡ list .entry .ptr .1 ⌝ }
+    ensures place { λ r. ⌜ r .ptr .1 ≡ list .entry .ptr .1 + 4 * at ⌝ }
 {
-    &list[..0]
+    &list[at..at]
 }
 
 // The record of the listing with the largest distance at most y, as a part of the list itself.
@@ -156,7 +157,7 @@ pub fn lookup<'a>(list: &'a [u32], n: u64, y: Distance) -> &'a [u32]
     ensures place { λ r. ⌜ r .ptr .1 ≡ list .entry .ptr .1 + 4 * placeOf (now (list .entry)) n (y .0) ⌝ }
 {
     if !listing_ok(list, n) {
-        return empty_start(list);
+        return empty_part(list, 0);
     }
     let degree = n as usize;
     let at = last_within(list, degree, y.0);

@@ -14,14 +14,14 @@ use Rattle.lookup.proofs.lookup.Tie as tie
 listing-ok-requires : tie.Need-listing-ok-requires
 listing-ok-requires c κs = search needs
 
-empty-start-requires : tie.Need-empty-start-requires
-empty-start-requires c κs = search needs
+empty-part-requires : tie.Need-empty-part-requires
+empty-part-requires c κs = search needs
 
 returns : tie.Need-returns
 returns c =
     let w = not-not _ (c .before .before .listing-ok .ensures) .0 (not-true _ (c .before .if1 .taken)) in
     let p = refused-place _ _ (c .before .before .before .before .args .y .0) 0 w in
-    let e = c .empty-start .ensures in
+    let e = c .empty-part .ensures in
     (e .0 ∙ sym (refused-words _ _ _ 0 w), (e .1 .0, (let f = e .1 .1 in omega arith)))
 
 last-within-requires : tie.Need-last-within-requires
@@ -65,7 +65,7 @@ lookup-spec =
     tie.close
     (tie.spec
     listing-ok-requires
-    empty-start-requires
+    empty-part-requires
     returns
     last-within-requires
     add-end
