@@ -8,3 +8,4 @@ pub mod Admitted
 pub mod Signs
 pub mod Norms
 pub mod Solutions
+pub mod State

@@ -4,3 +4,9 @@ pub mod Held
 pub mod Places
 pub mod Linear
 pub mod Result
+pub mod Row
+pub mod Product
+pub mod Divided
+pub mod Results
+pub mod Division
+pub mod Gcd

@@ -1,5 +1,8 @@
 // Polynomials over the field of q elements, as a record of 129 coefficients with its size.
+pub mod division;
+pub mod gcd;
 pub mod linear;
+pub mod product;
 
 // Coefficients below q, constant term first, zeros from `size` on; the place before it is not 0.
 pub struct Poly {

@@ -1,0 +1,4 @@
+pub mod Step
+pub mod Reciprocal
+pub mod Sizes
+pub mod Coefficients
