@@ -10,3 +10,4 @@ pub mod Divided
 pub mod Results
 pub mod Division
 pub mod Gcd
+pub mod Bezout

@@ -32,11 +32,15 @@ module _ (q : ℕ) (a : List ℕ) (m : ℕ) (held-a : Held q a m) (b : List ℕ)
   size-b = held-size q b n held-b
 
   module _ (c : List ℕ) (size : ℕ) where
-    pub held-mul : m + n ≤ 130 → Is q c size (mul (modulo q) (poly a m) (poly b n)) → Held q c size
-    held-mul h r =
-        let x = size-a in
-        let y = size-b in
-        is-held q c size _ r (length-mul (model q pos) (poly a m) (poly b n) 129 (omega arith)) (trim-mul (model q pos) (poly a m) (poly b n)) (oks-mul (model q pos) (poly a m) (poly b n))
+    module _ (h : m + n ≤ 130) (r : Is q c size (mul (modulo q) (poly a m) (poly b n))) where
+      mul-short : length (mul (modulo q) (poly a m) (poly b n)) ≤ 129
+      mul-short = let x = size-a in let y = size-b in length-mul (model q pos) (poly a m) (poly b n) 129 (omega arith)
+
+      pub held-mul : Held q c size
+      held-mul = is-held q c size _ r mul-short (trim-mul (model q pos) (poly a m) (poly b n)) (oks-mul (model q pos) (poly a m) (poly b n))
+
+      pub poly-mul : poly c size ≡ mul (modulo q) (poly a m) (poly b n)
+      poly-mul = is-poly q c size _ r mul-short
 
     pub held-sub : Is q c size (sub (modulo q) (poly a m) (poly b n)) → Held q c size
     held-sub r =
@@ -47,13 +51,20 @@ module _ (q : ℕ) (a : List ℕ) (m : ℕ) (held-a : Held q a m) (b : List ℕ)
         is-held q c size _ r (length-sub (model q pos) (poly a m) (poly b n) 129 (omega arith) (omega arith)) (trim-sub (model q pos) (poly a m) (poly b n)) (oks-sub (model q pos) (poly a m) (poly b n))
 
     -- by a polynomial that is not 0
-    pub held-quo : 0 < n → Is q c size (quo (modulo q) (poly a m) (poly b n)) → Held q c size
-    held-quo h r =
-        let x = size-a in
-        let y = size-b in
-        let s = held-a .short in
-        let l = quo-length (model q pos) (poly a m) (poly b n) in
-        is-held q c size _ r (omega arith) (trim-quo (model q pos) (poly a m) (poly b n)) (oks-quo (model q pos) (poly a m) (poly b n))
+    module _ (h : 0 < n) (r : Is q c size (quo (modulo q) (poly a m) (poly b n))) where
+      quo-short : length (quo (modulo q) (poly a m) (poly b n)) ≤ 129
+      quo-short =
+          let x = size-a in
+          let y = size-b in
+          let s = held-a .short in
+          let l = quo-length (model q pos) (poly a m) (poly b n) in
+          omega arith
+
+      pub held-quo : Held q c size
+      held-quo = is-held q c size _ r quo-short (trim-quo (model q pos) (poly a m) (poly b n)) (oks-quo (model q pos) (poly a m) (poly b n))
+
+      pub poly-quo : poly c size ≡ quo (modulo q) (poly a m) (poly b n)
+      poly-quo = is-poly q c size _ r quo-short
 
     pub size-quo : Is q c size (quo (modulo q) (poly a m) (poly b n)) → size ≤ m + 1 - n
     size-quo r =

@@ -1,4 +1,5 @@
--- The coefficients of one step, as loops form them: each is the residue of a sum t in which products stand with their sign. A number x with x % q the product's coefficient serves for it, and multiples of q do not count.
+-- The coefficients of one step, as loops form them: each is the residue of a sum t in which a number x serves for a product's coefficient if x % q is that, and multiples of q do not count.
+-- The remainder is s − r − a·b; the quotient's coefficient at k is what clears s − r − z·b there, where z has the coefficients above k.
 use Prim.Native.Nat.{ℕ, zero, suc, _+_, _*_, _-_, _%_, _<_, _≤_}
 use native.Mathlib.Nat.{mod-lt, mod-eq-of-lt, mul-mod-right, mul-mod-left}
 use native.Mathlib.Omega.{arith}
@@ -17,11 +18,11 @@ use Rattle.definitions.specs.Polynomials.{trim, add, sub, mul, quo, rem, lead}
 use Rattle.bridge.specs.Model.{Model, Inverts, series}
 use Rattle.bridge.specs.Prime.{Prime}
 use Rattle.bridge.specs.Residues.{model, inverts, to-path, to-add, to-mul, to-mod, to-sub}
-use Rattle.bridge.specs.Arithmetic.{at-add, at-sub, series-add, series-sub, series-mul, oks-add}
-use Rattle.bridge.specs.Division.{series-quo-rem, rem-below, oks-quo, oks-rem}
+use Rattle.bridge.specs.Arithmetic.{series-add, series-sub, series-mul, oks-add, oks-sub, mul-cong, sub-cong}
+use Rattle.bridge.specs.Division.{series-quo-rem, oks-quo, oks-rem}
 use Rattle.polynomial.specs.Places.{Within}
 use Rattle.walk.specs.Step.{stepQuo, nextRem, nextQ}
-use Rattle.walk.specs.Sizes.{rem-short}
+use Rattle.walk.specs.Sizes.{rem-past}
 
 module _ (q : ℕ) (pos : 0 < q) where
   abbrev F : CRing (Fq q)
@@ -36,6 +37,13 @@ module _ (q : ℕ) (pos : 0 < q) where
   abbrev product : List ℕ → List ℕ → ℕ → Fq q
   product a b k = conv F (series M a) (series M b) k
 
+  product-sub-series : (a z r : List ℕ) → conv F (series M a) (addS F (series M z) (negS F (series M r))) ≡ addS F (conv F (series M a) (series M z)) (negS F (conv F (series M a) (series M r)))
+  product-sub-series a z r = ring (Series F) (series M a ∷ series M z ∷ series M r ∷ []) (search quote depth 40 fits 9999) tt
+
+  product-sub : (a z r : List ℕ) (k : ℕ) → conv F (series M a) (addS F (series M z) (negS F (series M r))) k ≡ F .add (product a z k) (F .neg (product a r k))
+  unfolding addS negS
+  product-sub a z r k = ap (λ (f : S F). f k) (product-sub-series a z r)
+
   -- a multiple of q more on one side changes nothing
   to-differ : (t x u c : ℕ) → t + x ≡ u + c * q → φ t ≡ F .add (φ u) (F .neg (φ x))
   to-differ t x u c e =
@@ -43,36 +51,76 @@ module _ (q : ℕ) (pos : 0 < q) where
       (plus F (times F (F .one) (sym (to-add q pos t x) ∙ ap φ e ∙ to-add q pos u (c * q))) (times F (F .one) (to-path q pos (c * q) 0 (mul-mod-left c q ∙ sym (mod-eq-of-lt pos)))))
       (search quote depth 40 fits 9999) tt
 
-  -- the coefficient of s − r at k, as it is formed
-  sub-at : (s r : List ℕ) (k : ℕ) → getD r k 0 < q → φ (getD (sub (modulo q) s r) k 0) ≡ φ (getD s k 0 + (q - getD r k 0))
-  sub-at s r k h = ap φ (at-sub M s r k ∙ ap (λ (x : ℕ). (getD s k 0 + (q - x)) % q) (mod-eq-of-lt h)) ∙ to-mod q pos _
+  -- ---- sums and differences of coefficients
+  sub-at : (x y : List ℕ) (k : ℕ) → φ (getD (sub (modulo q) x y) k 0) ≡ F .add (φ (getD x k 0)) (F .neg (φ (getD y k 0)))
+  unfolding addS negS
+  sub-at x y k = ap (λ (f : S F). f k) (series-sub M x y)
 
+  add-at : (x y : List ℕ) (k : ℕ) → φ (getD (add (modulo q) x y) k 0) ≡ F .add (φ (getD x k 0)) (φ (getD y k 0))
+  unfolding addS
+  add-at x y k = ap (λ (f : S F). f k) (series-add M x y)
+
+  mul-at : (x y : List ℕ) (k : ℕ) → φ (getD (mul (modulo q) x y) k 0) ≡ product x y k
+  mul-at x y k = ap (λ (f : S F). f k) (series-mul M x y)
+
+  by-residue : (x v : ℕ) → x % q ≡ v → φ x ≡ φ v
+  by-residue x v e = sym (to-mod q pos x) ∙ ap φ e
+
+  -- x − y, as it is formed
+  pub difference : (x y : ℕ) → y < q → φ (x + (q - y)) ≡ F .add (φ x) (F .neg (φ y))
+  difference x y h = ap (λ (v : ℕ). φ (x + (q - v))) (sym (mod-eq-of-lt h)) ∙ to-sub q pos x y
+
+  -- the coefficient of s − r − x·b
+  pub rest-is : (s r x b : List ℕ) (k t p c : ℕ) → getD r k 0 < q → p % q ≡ getD (mul (modulo q) x b) k 0 → t + p ≡ getD s k 0 + (q - getD r k 0) + c * q → t % q ≡ getD (sub (modulo q) (sub (modulo q) s r) (mul (modulo q) x b)) k 0
+  rest-is s r x b k t p c h e f =
+      M .inj _ _ (mod-lt t pos) (oks-sub M (sub (modulo q) s r) (mul (modulo q) x b) k)
+      (to-mod q pos t ∙ to-differ t p (getD s k 0 + (q - getD r k 0)) c f
+      ∙ ap₂ (λ u v. F .add u (F .neg v)) (difference (getD s k 0) (getD r k 0) h ∙ sym (sub-at s r k)) (by-residue p _ e)
+      ∙ sym (sub-at (sub (modulo q) s r) (mul (modulo q) x b) k))
+
+  -- the coefficient of before + a·(z − r)
+  pub next-is : (before a z r : List ℕ) (k t x y c : ℕ) → x % q ≡ getD (mul (modulo q) a z) k 0 → y % q ≡ getD (mul (modulo q) a r) k 0 → t + y ≡ getD before k 0 + x + c * q → t % q ≡ getD (add (modulo q) before (mul (modulo q) a (sub (modulo q) z r))) k 0
+  next-is before a z r k t x y c e f h =
+      M .inj _ _ (mod-lt t pos) (oks-add M before (mul (modulo q) a (sub (modulo q) z r)) k)
+      (to-mod q pos t ∙ to-differ t y (getD before k 0 + x) c h
+      ∙ ap₂ (λ u v. F .add u (F .neg v)) (to-add q pos (getD before k 0) x ∙ ap (F .add (φ (getD before k 0))) (by-residue x _ e ∙ mul-at a z k)) (by-residue y _ f ∙ mul-at a r k)
+      ∙ F .add-assoc (φ (getD before k 0)) (product a z k) (F .neg (product a r k)) ∙ ap (F .add (φ (getD before k 0))) (sym change)
+      ∙ sym (add-at before (mul (modulo q) a (sub (modulo q) z r)) k))
+    where
+      change : φ (getD (mul (modulo q) a (sub (modulo q) z r)) k 0) ≡ F .add (product a z k) (F .neg (product a r k))
+      change = mul-at a (sub (modulo q) z r) k ∙ ap (λ (f : S F). conv F (series M a) f k) (series-sub M z r) ∙ product-sub a z r k
+
+  -- ---- the quotient so far, the remainder, the next Q
   -- lists with the same coefficients are the same polynomial
   pub series-at : (a l : List ℕ) → ((i : ℕ) → getD a i 0 ≡ getD l i 0) → series M a ≡ series M l
   series-at a l h = fun-ext (λ i. ap φ (h i))
 
-  mul-at : (a b : List ℕ) (k x : ℕ) → x % q ≡ getD (mul (modulo q) a b) k 0 → φ x ≡ product a b k
-  mul-at a b k x e = sym (to-mod q pos x) ∙ ap φ e ∙ ap (λ (f : S F). f k) (series-mul M a b)
-
-  split-at : (p b : List ℕ) (k : ℕ) → φ (getD p k 0) ≡ F .add (product (quo (modulo q) p b) b k) (φ (getD (rem (modulo q) p b) k 0))
-  unfolding addS
-  split-at p b k = ap (λ (f : S F). f k) (series-quo-rem M p b)
-
-  module _ (s b r : List ℕ) (reduced : (i : ℕ) → getD r i 0 < q) where
+  module _ (s b r : List ℕ) where
     -- s − r is a·b and the remainder
-    step-at : (k : ℕ) → φ (getD s k 0 + (q - getD r k 0)) ≡ F .add (product (stepQuo q s b r) b k) (φ (getD (nextRem q s b r) k 0))
-    unfolding nextRem stepQuo
-    step-at k = sym (sub-at s r k (reduced k)) ∙ split-at (sub (modulo q) s r) b k
+    step-at : (k : ℕ) → φ (getD (sub (modulo q) s r) k 0) ≡ F .add (product (stepQuo q s b r) b k) (φ (getD (nextRem q s b r) k 0))
+    unfolding nextRem stepQuo addS
+    step-at k = ap (λ (f : S F). f k) (series-quo-rem M (sub (modulo q) s r) b)
 
-    oks-next-rem : (k : ℕ) → getD (nextRem q s b r) k 0 < q
+    rem-reduced : (k : ℕ) → getD (nextRem q s b r) k 0 < q
     unfolding nextRem
-    oks-next-rem k = oks-rem M (sub (modulo q) s r) b k
+    rem-reduced k = oks-rem M (sub (modulo q) s r) b k
 
-    oks-step-quo : (k : ℕ) → getD (stepQuo q s b r) k 0 < q
+    quo-reduced : (k : ℕ) → getD (stepQuo q s b r) k 0 < q
     unfolding stepQuo
-    oks-step-quo k = oks-quo M (sub (modulo q) s r) b k
+    quo-reduced k = oks-quo M (sub (modulo q) s r) b k
 
-    -- ---- the quotient, from the top coefficient down: z has the coefficients above k
+    module _ (a : List ℕ) (is : (i : ℕ) → getD a i 0 ≡ getD (stepQuo q s b r) i 0) where
+      pub rem-at : (k : ℕ) → getD (sub (modulo q) (sub (modulo q) s r) (mul (modulo q) a b)) k 0 ≡ getD (nextRem q s b r) k 0
+      rem-at k =
+          M .inj _ _ (oks-sub M (sub (modulo q) s r) (mul (modulo q) a b) k) (rem-reduced k)
+          (sub-at (sub (modulo q) s r) (mul (modulo q) a b) k ∙ ap₂ (λ u v. F .add u (F .neg v)) (step-at k) (mul-at a b k ∙ ap (λ (f : S F). conv F f (series M b) k) (series-at a (stepQuo q s b r) is))
+          ∙ ring F (product (stepQuo q s b r) b k ∷ φ (getD (nextRem q s b r) k 0) ∷ []) (search quote depth 40 fits 9999) tt)
+
+      pub next-cong : (before z : List ℕ) → ((i : ℕ) → getD z i 0 ≡ getD (nextRem q s b r) i 0) → add (modulo q) before (mul (modulo q) a (sub (modulo q) z r)) ≡ nextQ q s before b r
+      unfolding nextQ
+      next-cong before z rest = ap (add (modulo q) before) (mul-cong M a (stepQuo q s b r) (sub (modulo q) z r) (sub (modulo q) (nextRem q s b r) r) (series-at a (stepQuo q s b r) is) (ap (series M) (sub-cong M z (nextRem q s b r) r r (series-at z (nextRem q s b r) rest) refl)))
+
+    -- z has the coefficients above k, zeros below
     module _ (p : Prime q) (m n : ℕ) (some : 0 < n) (sw : Within q s m) (rw : Within q r m) (bw : Within q b n) (top : getD b (n - 1) 0 ≡ 0 → ⊥) (z : List ℕ) (k : ℕ) (above : (i : ℕ) → k < i → getD z i 0 ≡ getD (stepQuo q s b r) i 0) (none : (i : ℕ) → i ≤ k → getD z i 0 ≡ 0) where
       abbrev missing : S F
       missing = addS F (series M (stepQuo q s b r)) (negS F (series M z))
@@ -93,70 +141,17 @@ module _ (q : ℕ) (pos : 0 < q) where
       unfolding addS
       top-term = ap (λ (f : S F). f (k + (n - 1))) missing-mul ∙ ap (F .add (product z b (k + (n - 1)))) (lead-conv F k (n - 1) missing (series M b) missing-below (λ i h. ap φ (bw .past i (omega arith))) ∙ ap (λ u. F .mul u (φ (getD b (n - 1) 0))) missing-at)
 
-      no-rem : (i : ℕ) → n - 1 ≤ i → getD (nextRem q s b r) i 0 ≡ 0
-      no-rem i h = List·getD-eq-default (nextRem q s b r) 0 {n = i} (let l = rem-short q p pos m n s b r sw rw bw top some in omega arith)
-
       unit-mul : F .mul (φ (inverse q (getD b (n - 1) 0))) (φ (getD b (n - 1) 0)) ≡ F .one
       unit-mul = inverts q pos p .inv-mul (getD b (n - 1) 0) (λ h. top (M .inj _ _ (bw .reduced (n - 1)) pos h))
 
-      pub quo-at : (at t x c : ℕ) → at ≡ k + (n - 1) → x % q ≡ getD (mul (modulo q) z b) at 0 → t + x ≡ getD s at 0 + (q - getD r at 0) + c * q → (t % q * inverse q (getD b (n - 1) 0)) % q ≡ getD (stepQuo q s b r) k 0
-      quo-at at t x c e f h =
-          M .inj _ _ (mod-lt _ pos) (oks-step-quo k)
-          (to-mod q pos _ ∙ to-mul q pos (t % q) unit ∙ ap (λ u. F .mul u (φ unit)) (to-mod q pos t)
-          ∙ ring-from F (φ t ∷ φ x ∷ φ unit ∷ φ last ∷ φ (getD s at 0 + (q - getD r at 0)) ∷ φ (getD (stepQuo q s b r) k 0) ∷ product (stepQuo q s b r) b at ∷ product z b at ∷ φ (getD (nextRem q s b r) at 0) ∷ [])
-          (plus F (plus F (plus F (times F (φ unit) (to-differ t x (getD s at 0 + (q - getD r at 0)) c h)) (times F (φ unit) (step-at at))) (plus F (times F (F .neg (φ unit)) (mul-at z b at x f)) (times F (φ unit) (ap φ (no-rem at (omega arith))))))
-          (plus F (times F (φ unit) (subst (λ (i : ℕ). product (stepQuo q s b r) b i ≡ F .add (product z b i) (F .mul (φ (getD (stepQuo q s b r) k 0)) (φ last))) (sym e) top-term)) (times F (φ (getD (stepQuo q s b r) k 0)) unit-mul)))
-          (search quote depth 40 fits 9999) tt)
-        where
-          last : ℕ
-          last = getD b (n - 1) 0
+      -- what is left at the top is a_k times the leading coefficient
+      left-at : φ (getD (sub (modulo q) (sub (modulo q) s r) (mul (modulo q) z b)) (k + (n - 1)) 0) ≡ F .mul (φ (getD (stepQuo q s b r) k 0)) (φ (getD b (n - 1) 0))
+      left-at =
+          sub-at (sub (modulo q) s r) (mul (modulo q) z b) (k + (n - 1)) ∙ ap₂ (λ u v. F .add u (F .neg v)) (step-at (k + (n - 1)) ∙ ap₂ (F .add) top-term (ap φ (rem-past q p pos m n s b r sw rw bw top some (k + (n - 1)) (omega arith)))) (mul-at z b (k + (n - 1)))
+          ∙ ring F (product z b (k + (n - 1)) ∷ φ (getD (stepQuo q s b r) k 0) ∷ φ (getD b (n - 1) 0) ∷ []) (search quote depth 40 fits 9999) tt
 
-          unit : ℕ
-          unit = inverse q last
-
-    -- ---- the remainder: what a·b leaves
-    module _ (a : List ℕ) (is : (i : ℕ) → getD a i 0 ≡ getD (stepQuo q s b r) i 0) where
-      as-quotient : series M a ≡ series M (stepQuo q s b r)
-      as-quotient = series-at a (stepQuo q s b r) is
-
-      quotient-at : (k x : ℕ) → x % q ≡ getD (mul (modulo q) a b) k 0 → φ x ≡ product (stepQuo q s b r) b k
-      quotient-at k x e = mul-at a b k x e ∙ ap (λ (f : S F). conv F f (series M b) k) as-quotient
-
-      pub rem-at : (k t x c : ℕ) → x % q ≡ getD (mul (modulo q) a b) k 0 → t + x ≡ getD s k 0 + (q - getD r k 0) + c * q → t % q ≡ getD (nextRem q s b r) k 0
-      rem-at k t x c e h =
-          M .inj _ _ (mod-lt t pos) (oks-next-rem k)
-          (to-mod q pos t ∙ to-differ t x (getD s k 0 + (q - getD r k 0)) c h
-          ∙ ring-from F (φ x ∷ φ (getD s k 0 + (q - getD r k 0)) ∷ φ (getD (nextRem q s b r) k 0) ∷ product (stepQuo q s b r) b k ∷ [])
-          (plus F (times F (F .one) (step-at k)) (times F (F .neg (F .one)) (quotient-at k x e)))
-          (search quote depth 40 fits 9999) tt)
-
-      -- ---- the next Q
-      module _ (before z : List ℕ) (rest : (i : ℕ) → getD z i 0 ≡ getD (nextRem q s b r) i 0) where
-        abbrev change : List ℕ
-        change = mul (modulo q) (stepQuo q s b r) (sub (modulo q) (nextRem q s b r) r)
-
-        change-is : series M change ≡ addS F (conv F (series M a) (series M z)) (negS F (conv F (series M a) (series M r)))
-        change-is =
-            series-mul M (stepQuo q s b r) (sub (modulo q) (nextRem q s b r) r)
-            ∙ ap₂ (conv F) (sym as-quotient) (series-sub M (nextRem q s b r) r ∙ ap (λ f. addS F f (negS F (series M r))) (sym (series-at z (nextRem q s b r) rest)))
-            ∙ ring (Series F) (series M a ∷ series M z ∷ series M r ∷ []) (search quote depth 40 fits 9999) tt
-
-        change-at : (k : ℕ) → φ (getD change k 0) ≡ F .add (product a z k) (F .neg (product a r k))
-        unfolding addS negS
-        change-at k = ap (λ (f : S F). f k) change-is
-
-        next-split : (k : ℕ) → φ (getD (nextQ q s before b r) k 0) ≡ F .add (φ (getD before k 0)) (φ (getD change k 0))
-        unfolding nextQ addS
-        next-split k = ap (λ (f : S F). f k) (series-add M before change)
-
-        oks-next : (k : ℕ) → getD (nextQ q s before b r) k 0 < q
-        unfolding nextQ
-        oks-next k = oks-add M before change k
-
-        pub next-at : (k t x y c : ℕ) → x % q ≡ getD (mul (modulo q) a z) k 0 → y % q ≡ getD (mul (modulo q) a r) k 0 → t + y ≡ getD before k 0 + x + c * q → t % q ≡ getD (nextQ q s before b r) k 0
-        next-at k t x y c e f h =
-            M .inj _ _ (mod-lt t pos) (oks-next k)
-            (to-mod q pos t ∙ to-differ t y (getD before k 0 + x) c h ∙ ap (λ u. F .add u (F .neg (φ y))) (to-add q pos (getD before k 0) x)
-            ∙ ring-from F (φ (getD before k 0) ∷ φ x ∷ φ y ∷ φ (getD (nextQ q s before b r) k 0) ∷ product a z k ∷ product a r k ∷ φ (getD change k 0) ∷ [])
-            (plus F (plus F (times F (F .neg (F .one)) (next-split k)) (times F (F .neg (F .one)) (change-at k))) (plus F (times F (F .one) (mul-at a z k x e)) (times F (F .neg (F .one)) (mul-at a r k y f))))
-            (search quote depth 40 fits 9999) tt)
+      pub quo-at : (at v : ℕ) → at ≡ k + (n - 1) → v ≡ getD (sub (modulo q) (sub (modulo q) s r) (mul (modulo q) z b)) at 0 → (v * inverse q (getD b (n - 1) 0)) % q ≡ getD (stepQuo q s b r) k 0
+      quo-at at v e f =
+          M .inj _ _ (mod-lt _ pos) (quo-reduced k)
+          (to-mod q pos _ ∙ to-mul q pos v (inverse q (getD b (n - 1) 0)) ∙ ap (λ u. F .mul u (φ (inverse q (getD b (n - 1) 0)))) (ap φ (f ∙ ap (λ (i : ℕ). getD (sub (modulo q) (sub (modulo q) s r) (mul (modulo q) z b)) i 0) e) ∙ left-at)
+          ∙ ring-from F (φ (getD (stepQuo q s b r) k 0) ∷ φ (getD b (n - 1) 0) ∷ φ (inverse q (getD b (n - 1) 0)) ∷ []) (times F (φ (getD (stepQuo q s b r) k 0)) unit-mul) (search quote depth 40 fits 9999) tt)

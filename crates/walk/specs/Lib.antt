@@ -1,4 +1,6 @@
 pub mod Step
 pub mod Reciprocal
+pub mod Down
 pub mod Sizes
 pub mod Coefficients
+pub mod Terms

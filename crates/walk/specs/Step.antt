@@ -20,6 +20,13 @@ module _ (q : ℕ) where
   unfoldable pub nextQ : List ℕ → List ℕ → List ℕ → List ℕ → List ℕ
   nextQ s before b r = add (modulo q) before (mul (modulo q) (stepQuo s b r) (sub (modulo q) (nextRem s b r) r))
 
+  -- s − r, of at most m coefficients, by b of n, the coefficient before n not 0
+  pub record Division (m n : ℕ) (s b r : List ℕ) : Type 0 where
+    pub s-within : Within q s m
+    pub r-within : Within q r m
+    pub b-within : Within q b n
+    pub b-top : getD b (n - 1) 0 ≡ 0 → ⊥
+
   -- s and r of at most m coefficients, b of n, the coefficient before n not 0; the next Q has at most m
   pub record Ready (m n : ℕ) (s before b r : List ℕ) : Type 0 where
     pub s-within : Within q s m
