@@ -1,2 +1,5 @@
 pub mod Table
 pub mod Root
+pub mod State
+pub mod Start
+pub mod Outcome

@@ -5,7 +5,13 @@ ghost use lib.ListN.{getD};
 ghost use Rattle.definitions.specs.Field.{modulo, inverse};
 ghost use Rattle.definitions.specs.Polynomials.{pad, mul as mulOf, root as rootOf};
 ghost use Rattle.polynomial.specs.Places.{Within};
+ghost use Rattle.definitions.specs.Ticket.{genus};
+ghost use Rattle.laws.specs.Admitted.{Admitted};
+ghost use Rattle.polynomial.specs.Record.{poly, Held};
+ghost use Rattle.run.specs.Start.{Prepared};
 use field::Field;
+use polynomial::Poly;
+use polynomial::linear::add_places;
 use polynomial::product::dot;
 
 // table[a] becomes the inverse of a, for each a below q: 1/a is −(q div a) times 1/(q mod a), which stands in the table already.
@@ -48,4 +54,23 @@ pub fn root(f: Field, h: usize, big: &[u32; 129], z: &mut [u32; 129])
         e -= 1;
         z[e] = coefficient(f, h, e, big, z);
     }
+}
+
+// Fills the table of inverses, d and s = 2d. D is `big`, of degree n.
+pub fn prepare(
+    f: Field,
+    n: usize,
+    big: Poly,
+    table: &mut [u32; 4096],
+    d: &mut [u32; 129],
+    s: &mut [u32; 129],
+)
+    requires { ⌜ Admitted (f .q) (genus n) (poly (big .c) (big .size)) ⌝ }
+    requires { ⌜ Held (f .q) (big .c) (big .size) × (2 ≤ n) ⌝ }
+    ensures { λ _. ⌜ Prepared (f .q) (genus n) (poly (big .c) (big .size)) (now (table .exit)) (now (d .exit)) (now (s .exit)) ⌝ }
+{
+    let h = n / 2;
+    inverses(f, table);
+    root(f, h, &big.c, d);
+    add_places(f, d, d, h + 1, s);
 }

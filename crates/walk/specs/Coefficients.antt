@@ -101,7 +101,7 @@ module _ (q : ℕ) (pos : 0 < q) where
     unfolding nextRem stepQuo addS
     step-at k = ap (λ (f : S F). f k) (series-quo-rem M (sub (modulo q) s r) b)
 
-    rem-reduced : (k : ℕ) → getD (nextRem q s b r) k 0 < q
+    pub rem-reduced : (k : ℕ) → getD (nextRem q s b r) k 0 < q
     unfolding nextRem
     rem-reduced k = oks-rem M (sub (modulo q) s r) b k
 

@@ -4,3 +4,4 @@ pub mod Down
 pub mod Sizes
 pub mod Coefficients
 pub mod Terms
+pub mod Result

@@ -5,7 +5,7 @@ use Prim.Native.Nat.{ℕ, _-_, _<_, _≤_}
 use lib.ListN.{length, getD}
 use Rattle.definitions.specs.Field.{modulo}
 use Rattle.definitions.specs.Polynomials.{add, sub, mul, quo, rem, pad}
-use Rattle.polynomial.specs.Places.{Within}
+use Rattle.polynomial.specs.Places.{Places, Within}
 
 module _ (q : ℕ) where
   -- the quotient a of P + d by b = Q
@@ -35,6 +35,11 @@ module _ (q : ℕ) where
     pub b-top : getD b (n - 1) 0 ≡ 0 → ⊥
     pub before-reduced : (i : ℕ) → getD before i 0 < q
     pub short : length (nextQ s before b r) ≤ m
+
+  -- z is the next r, w the next Q, place by place
+  pub record Moved (s before b r z w : List ℕ) : Type 0 where
+    pub rem-places : Places z (λ i. getD (nextRem s b r) i 0)
+    pub q-places : Places w (λ i. getD (nextQ s before b r) i 0)
 
   -- z is the next r, w the next Q, of k coefficients
   pub record Stepped (s before b r z w : List ℕ) (k : ℕ) : Type 0 where

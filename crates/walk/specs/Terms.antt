@@ -1,15 +1,13 @@
 -- A sum of products that serves for a product's coefficient: it is not reduced, and at most 128·q², so that it can be taken from that multiple of q.
-use Prim.Native.Nat.{ℕ, suc, _+_, _*_, _-_, _%_, _<_, _≤_}
+use Prim.Native.Nat.{ℕ, _+_, _*_, _-_, _%_, _<_, _≤_}
 use native.Mathlib.Nat.{mul-assoc, mul-le-mul, mul-le-mul-right}
 use native.Mathlib.Omega.{arith}
-use mathlib.Core.Path.{_≡_, ap, _∙_}
-use mathlib.Core.Logic.{⊎-elim}
+use mathlib.Core.Path.{_≡_}
 use mathlib.Core.List.{List}
 use lib.ListN.{getD}
 use Rattle.definitions.specs.Field.{modulo}
 use Rattle.definitions.specs.Polynomials.{mul}
-use Rattle.ring.specs.Order.{le-or-lt}
-use Rattle.bridge.specs.Product.{dots, dots-bound, dots-none, dots-mul, dots-mul-short}
+use Rattle.bridge.specs.Product.{dots, dots-bound}
 use Rattle.polynomial.specs.Places.{Within}
 
 pub record Terms (q : ℕ) (x y : List ℕ) (k r : ℕ) : Type 0 where
@@ -33,14 +31,3 @@ pub record Full (q : ℕ) : Type 0 where
 
 pub full : (q : ℕ) → q < 4096 → Full q
 full q h = let e : 128 * q * q ≡ 128 * (q * q) = mul-assoc 128 q q in let s = square-small q h in record { is = e; small = omega arith }
-
--- TEMPORARY: polynomial/specs/Product
-pub dots-before : (a b : List ℕ) (k n : ℕ) → ((i : ℕ) → n ≤ i → getD b i 0 ≡ 0) → dots a b k (k + 1 - n) ≡ 0
-unfolding dots
-dots-before a b k n e = ⊎-elim (λ h. dots-none a b k n (k + 1 - n) e (omega arith)) (λ h. ap (dots a b k) (let w : k + 1 - n ≡ 0 = omega arith in w)) (le-or-lt n (k + 1))
-
-module _ (q : ℕ) (pos : 0 < q) (a b : List ℕ) where
-  -- a has m places: the terms up to min (k + 1) m are all
-  pub dots-all : (k m i : ℕ) → ((i : ℕ) → m ≤ i → getD a i 0 ≡ 0) → k + 1 - (k + 1 - m) ≤ i → i ≤ k + 1 → dots a b k i % q ≡ getD (mul (modulo q) a b) k 0
-  dots-all k m i e h l =
-      ⊎-elim (λ w. dots-mul-short q pos a b k i (λ j v. e j (omega arith)) (omega arith)) (λ w. ap (λ (j : ℕ). dots a b k j % q) (let v : i ≡ suc k = omega arith in v) ∙ dots-mul q pos a b k) (le-or-lt m i)

@@ -9,10 +9,11 @@ ghost use Rattle.definitions.specs.Polynomials.{add, sub, mul};
 ghost use Rattle.bridge.specs.Prime.{Prime};
 ghost use Rattle.polynomial.specs.Places.{Places, Within};
 ghost use Rattle.polynomial.specs.Row.{Bounded};
-ghost use Rattle.walk.specs.Step.{stepQuo, nextRem, nextQ, Division, Ready, Stepped};
+ghost use Rattle.walk.specs.Step.{stepQuo, nextRem, nextQ, Division, Ready, Moved, Stepped};
 use crate::reduce::reduce;
 use crate::terms::terms;
 use field::Field;
+use polynomial::linear::top;
 
 // The coefficient at k of s − r − x·b, x of l places and b of n. The product is taken from 128·q², which is no less.
 fn rest_at(
@@ -140,4 +141,54 @@ fn next(
         w[k] = next_at(f, reciprocal, before, a, l, z, r, m, k);
         k += 1;
     }
+}
+
+// One step, for any quotient; `unit` is the inverse of the leading coefficient of b.
+fn general(
+    f: Field,
+    reciprocal: u32,
+    unit: u32,
+    s: &[u32; 129],
+    m: usize,
+    before: &[u32; 129],
+    b: &[u32; 129],
+    n: usize,
+    r: &[u32; 129],
+    z: &mut [u32; 129],
+    w: &mut [u32; 129],
+)
+    requires { ⌜ Prime (f .q) × (f .q < 4096) × (reciprocal ≡ 4294967295 / f .q) × (unit ≡ inverse (f .q) (getD (now b) (n - 1) 0)) ⌝ }
+    requires { ⌜ (0 < n) × (n ≤ m) × (m ≤ 128) ⌝ }
+    requires { ⌜ Ready (f .q) m n (now s) (now before) (now b) (now r) ⌝ }
+    ensures { λ _. ⌜ Moved (f .q) (now (s .entry)) (now (before .entry)) (now (b .entry)) (now (r .entry)) (now (z .exit)) (now (w .exit)) ⌝ }
+{
+    let mut a = [0u32; 129];
+    quotient(f, reciprocal, unit, s, r, m, b, n, &mut a);
+    remainder(f, reciprocal, s, r, &a, m, b, n, z);
+    next(f, reciprocal, before, &a, m + 1 - n, z, r, m, w);
+}
+
+// One step: z becomes the next r and w the next Q, whose size is returned.
+pub fn step(
+    f: Field,
+    reciprocal: u32,
+    inverses: &[u32; 4096],
+    s: &[u32; 129],
+    m: usize,
+    before: &[u32; 129],
+    b: &[u32; 129],
+    n: usize,
+    r: &[u32; 129],
+    z: &mut [u32; 129],
+    w: &mut [u32; 129],
+) -> usize
+    requires { ⌜ Prime (f .q) × (f .q < 4096) × (reciprocal ≡ 4294967295 / f .q) ⌝ }
+    requires { ⌜ (0 < n) × (n ≤ m) × (m ≤ 128) ⌝ }
+    requires { ⌜ ((a : ℕ) → a < f .q → getD (now inverses) a 0 ≡ inverse (f .q) a) ⌝ }
+    requires { ⌜ Ready (f .q) m n (now s) (now before) (now b) (now r) ⌝ }
+    ensures { λ k. ⌜ Stepped (f .q) (now (s .entry)) (now (before .entry)) (now (b .entry)) (now (r .entry)) (now (z .exit)) (now (w .exit)) k ⌝ }
+{
+    let unit = inverses[b[n - 1] as usize];
+    general(f, reciprocal, unit, s, m, before, b, n, r, z, w);
+    top(w, m)
 }

@@ -4,7 +4,8 @@ use Prim.Native.Nat.{ℕ, _≤_, _<_, _-_, _+_, _*_, _%_}
 use native.Mathlib.Omega.{arith}
 use lib.ListN.{getD}
 use Rattle.bridge.specs.Product.{dots, dots-more}
-use Rattle.walk.specs.Terms.{dots-small, square-small, dots-before, dots-all}
+use Rattle.polynomial.specs.Product.{dots-before, dots-all}
+use Rattle.walk.specs.Terms.{dots-small, square-small}
 use borrow.Author.Needs.{needs}
 use Rattle.walk.proofs.terms.terms.Statement.{statement}
 use Rattle.walk.proofs.terms.terms.Tie as tie
