@@ -2,9 +2,9 @@
 use Prim.Native.Nat.{ℕ, _+_, _-_, _<_, _≤_}
 use native.Mathlib.Omega.{arith}
 use mathlib.Core.Path.{_≡_, refl, sym, ap, _∙_}
-use mathlib.Core.Logic.{⊎-elim}
-use mathlib.Core.List.{List, _++_}
-use lib.ListN.{length, getD, set, drop, length-set, length-append, length-drop, List·getD-append}
+use mathlib.Core.Logic.{_⊎_, inl, inr, ⊎-elim}
+use mathlib.Core.List.{List, [], _∷_, _++_}
+use lib.ListN.{length, getD, set, drop, length-set, length-append, length-drop, List·getD-append, List·getD-eq-default}
 use lib.Seq.{getD-set-same, getD-set-other, getD-append-add, getD-drop, ext-getD}
 use borrow.Author.Count.{below-more}
 use Rattle.ring.specs.Order.{le-or-lt}
@@ -42,3 +42,19 @@ module _ (l old : List ℕ) where
       past i u =
           let e : length (pad (modulo q) k l) + (i - k) ≡ i = (let b : length (pad (modulo q) k l) ≡ k = length-pad (modulo q) k l in omega arith) in
           ap (λ (j : ℕ). getD (pad (modulo q) k l ++ drop k old) j 0) (sym e) ∙ getD-append-add (pad (modulo q) k l) (drop k old) (i - k) 0 ∙ getD-drop k old (i - k) 0 ∙ ap (λ (j : ℕ). getD old j 0) (let f : k + (i - k) ≡ i = omega arith in f)
+
+-- 1 at the first place
+pub written-one : (k : ℕ) (old list : List ℕ) → Written k [] old list → 0 < k → k ≤ length old → Written k (1 ∷ []) old (set list 0 1)
+written-one k old list w h s =
+    record {
+      long = length-set list 0 1 ∙ w .long;
+      low = λ i p. ⊎-elim (λ (e : i ≡ 0). ap (λ (j : ℕ). getD (set list 0 1) j 0) e ∙ getD-set-same list 0 1 0 (let n : length list ≡ length old = w .long in omega arith) ∙ sym (ap (λ (j : ℕ). getD (1 ∷ []) j 0) e)) (λ (l : 0 < i). getD-set-other list 0 i 1 0 (λ e. omega arith) ∙ w .low i p ∙ sym (List·getD-eq-default (1 ∷ []) 0 {n = i} (omega arith))) (zero-or i);
+      high = λ i p. getD-set-other list 0 i 1 0 (λ e. omega arith) ∙ w .high i p;
+    }
+  where
+    zero-or : (i : ℕ) → (i ≡ 0) ⊎ (0 < i)
+    zero-or i = ⊎-elim (λ (l : 1 ≤ i). inr l) (λ (l : i < 1). inl (omega arith)) (le-or-lt 1 i)
+
+-- the same places once more
+pub written-again : (k : ℕ) (l m old list new : List ℕ) → Written k l old list → Written k m list new → Written k m old new
+written-again k l m old list new w v = record { long = v .long ∙ w .long; low = v .low; high = λ i p. v .high i p ∙ w .high i p }
