@@ -3,3 +3,5 @@ pub mod Root
 pub mod State
 pub mod Start
 pub mod Outcome
+pub mod Walked
+pub mod Seek

@@ -1,15 +1,15 @@
 -- What an outcome means, and how the walk's index, degree and constant make the definitions' outcome of a ticket.
-use Prim.Native.Nat.{ℕ, suc, _+_, _*_, _-_, _%_, _≤_, _<_}
-use native.Mathlib.Omega.{arith}
-use mathlib.Core.Path.{_≡_, refl, sym, ap, ap₂, _∙_, subst}
-use mathlib.Core.Bool.{true, false}
+use Prim.Native.Nat.{ℕ, _%_}
+use mathlib.Core.Path.{_≡_, refl, ap}
+use mathlib.Core.Bool.{Bool, true, false}
 use mathlib.Core.List.{List}
 use mathlib.Core.Option.{Option, none, some}
 use lib.Dec.{eqb}
-use lib.ListN.{length, getD}
+use lib.ListN.{getD}
+use borrow.Author.Tests.{eqb-true, eqb-false}
 use Rattle.definitions.specs.Field.{modulo}
 use Rattle.definitions.specs.Ticket.{Ticket, genus}
-use Rattle.definitions.specs.Walk.{Q, quasiPeriod, degreeBefore, constantOf}
+use Rattle.definitions.specs.Walk.{Q, degreeBefore, constantOf}
 use Rattle.definitions.specs.Answers.{found, spent, refused, rootOf, outcomeOf}
 use Rattle.definitions.specs.Answers as answers
 use Rattle.laws.specs.Admitted.{Admitted, surd-of}
@@ -26,6 +26,22 @@ meaning (Refused j) = refused j
 -- (−1)^m·c modulo q
 unfoldable pub signed : ℕ → ℕ → ℕ → ℕ
 signed q m c = elim (eqb (m % 2) 0) [ true ↦ c | false ↦ modulo q .sub 0 c ]
+
+pub signed-even : (q m c : ℕ) → m % 2 ≡ 0 → signed q m c ≡ c
+unfolding signed
+signed-even q m c e = go (eqb (m % 2) 0) refl
+  where
+    go : (t : Bool) → eqb (m % 2) 0 ≡ t → (elim t [ true ↦ c | false ↦ modulo q .sub 0 c ]) ≡ c
+    go true k = refl
+    go false k = absurd (eqb-false (m % 2) 0 k e)
+
+pub signed-odd : (q m c : ℕ) → (m % 2 ≡ 0 → ⊥) → signed q m c ≡ modulo q .sub 0 c
+unfolding signed
+signed-odd q m c n = go (eqb (m % 2) 0) refl
+  where
+    go : (t : Bool) → eqb (m % 2) 0 ≡ t → (elim t [ true ↦ c | false ↦ modulo q .sub 0 c ]) ≡ modulo q .sub 0 c
+    go true k = absurd (n (eqb-true (m % 2) 0 k))
+    go false k = refl
 
 -- the ticket of the parts
 abbrev pub ticket : ℕ → ℕ → List ℕ → ℕ → Ticket
