@@ -77,6 +77,6 @@ module _ (t k : ℕ) (u v old-p old-x p x : List ℕ) where
             (subst (Written k u old-p) (sym (d .even e .0)) (w .even e .0), written-sum q pos a f same k n h u v old-p old-x p x new-x short-v short (w .even e .0) (w .even e .1) (d .even e .1));
       }
 
--- ---- the end: the last one is in the first list
-pub pair-last : (k : ℕ) (u v old-p old-x p x : List ℕ) → Pair 0 k u v old-p old-x p x → Written k u old-p p × Written k v old-x x
-pair-last k u v old-p old-x p x w = w .even refl
+  -- ---- the end: the last one is in the first list
+  pub pair-last : Pair t k u v old-p old-x p x → t ≡ 0 → Written k u old-p p × Written k v old-x x
+  pair-last w e = w .even (ap (λ (n : ℕ). n % 2) e)

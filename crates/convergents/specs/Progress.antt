@@ -1,18 +1,24 @@
--- The two pairs of lists at index i, with t steps to go: p_{i−1} with p_{i−2}, s_{i−1} with s_{i−2}, and the degree of p_{i−1}. One step of the walk takes them to the next index.
-use Prim.Native.Nat.{ℕ, suc, _+_, _-_, _%_, _≤_, _<_}
+-- The two pairs of lists at index i, with t steps to go: p_{i−1} with p_{i−2} and s_{i−1} with s_{i−2}. One step of the walk takes them to the next index.
+use Prim.Native.Nat.{ℕ, suc, _+_, _-_, _/_, _%_, _≤_, _<_}
 use native.Mathlib.Nat.{mod-eq-of-lt, eq-or-lt-of-le}
 use native.Mathlib.Numerals.{add-one}
 use native.Mathlib.Omega.{arith}
-use mathlib.Core.Path.{_≡_, sym, ap, ap₂, _∙_, subst, subst₂}
+use mathlib.Core.Path.{_≡_, sym, ap, _∙_, subst, subst₂}
 use mathlib.Core.Logic.{⊎-elim}
 use mathlib.Core.List.{List, [], _∷_}
 use lib.ListN.{length, getD}
 use Rattle.definitions.specs.Field.{modulo}
+use Rattle.definitions.specs.Ticket.{genus}
 use Rattle.definitions.specs.Walk.{pBefore, sBefore, degreeBefore, a}
 use Rattle.bridge.specs.Residues.{pos}
 use Rattle.laws.specs.Admitted.{Admitted, surd-of}
-use Rattle.laws.specs.Convergents.{p-zero, s-zero, p-oks, s-oks, p-length, degree-zero, degree-suc, degree-rise}
-use Rattle.run.specs.State.{rootD, State}
+use Rattle.laws.specs.Convergents.{p-zero, s-zero, p-oks, s-oks, p-length, degree-rise}
+use Rattle.laws.specs.State.{a-next}
+use Rattle.walk.specs.Step.{stepQuo, Division}
+use Rattle.run.specs.State.{rootD, quo-next}
+use Rattle.run.specs.Start.{Prepared, half-degree}
+use Rattle.run.specs.Walked.{Walked, degree-next}
+use Rattle.run.specs.Seek.{turn-ready}
 use Rattle.convergents.specs.Written.{Written}
 use Rattle.convergents.specs.Sum.{BelowTo}
 use Rattle.convergents.specs.Pair.{Pair, Folded, pair-long, pair-below, pair-back, pair-next, pair-last}
@@ -38,8 +44,7 @@ pub record Advanced (q t n : ℕ) (a p s x y new-p new-s new-x new-y : List ℕ)
   pub s-folded : Folded q t n a s y new-s new-y
 
 module _ (q g : ℕ) (D : List ℕ) (k : ℕ) where
-  pub record Progress (t i degree : ℕ) (old-p old-s old-x old-y p s x y : List ℕ) : Type 0 where
-    pub degree-is : degree ≡ degreeBefore (modulo q) D (rootD q g D) i
+  pub record Progress (t i : ℕ) (old-p old-s old-x old-y p s x y : List ℕ) : Type 0 where
     pub p-pair : Pair t k (pBefore (modulo q) D (rootD q g D) i) (pOlder (modulo q) D (rootD q g D) i) old-p old-x p x
     pub s-pair : Pair t k (sBefore (modulo q) D (rootD q g D) i) (sOlder (modulo q) D (rootD q g D) i) old-s old-y s y
 
@@ -50,61 +55,75 @@ module _ (q g : ℕ) (D : List ℕ) (k : ℕ) where
     pub x-is : Written k (pOlder (modulo q) D (rootD q g D) m) old-x x
     pub y-is : Written k (sOlder (modulo q) D (rootD q g D) m) old-y y
 
-module _ (q g : ℕ) (D : List ℕ) (h : Admitted q g D) (k : ℕ) (old-p old-s old-x old-y p s x y : List ℕ) where
-  abbrev d : List ℕ
-  d = rootD q g D
+one : (q : ℕ) → 2 < q → 1 ∷ [] ≡ 1 % q ∷ []
+one q l = ap (λ (n : ℕ). n ∷ []) (sym (mod-eq-of-lt (let w : 1 < q = omega arith in w)))
 
-  one : 1 ∷ [] ≡ 1 % q ∷ []
-  one = ap (λ (n : ℕ). n ∷ []) (sym (mod-eq-of-lt (let l : 2 < q = h .odd in omega arith)))
-
-  pub progress-first : (m : ℕ) → Pair m k (1 ∷ []) [] old-p old-x p x → Pair (m + 1) k (1 ∷ []) [] old-s old-y s y → Progress q g D k m 0 0 old-p old-s old-x old-y p s x y
+module _ {q g : ℕ} {D : List ℕ} (h : Admitted q g D) {k : ℕ} {old-p old-s old-x old-y p s x y : List ℕ} where
+  pub progress-first : (m : ℕ) → Pair m k (1 ∷ []) [] old-p old-x p x → Pair (m + 1) k (1 ∷ []) [] old-s old-y s y → Progress q g D k m 0 old-p old-s old-x old-y p s x y
   progress-first m u v =
       record {
-        degree-is = sym (degree-zero (surd-of h));
-        p-pair = subst₂ (λ (l n : List ℕ). Pair m k l n old-p old-x p x) (one ∙ sym (p-zero (surd-of h))) (sym (p-older-zero (surd-of h))) u;
-        s-pair = subst₂ (λ (l n : List ℕ). Pair m k l n old-s old-y s y) (sym (s-zero (surd-of h))) (one ∙ sym (s-older-zero (surd-of h))) (pair-back m k [] (1 ∷ []) old-s old-y s y (subst (λ (n : ℕ). Pair n k (1 ∷ []) [] old-s old-y s y) (add-one m) v));
+        p-pair = subst₂ (λ (l n : List ℕ). Pair m k l n old-p old-x p x) (one q (h .odd) ∙ sym (p-zero (surd-of h))) (sym (p-older-zero (surd-of h))) u;
+        s-pair = subst₂ (λ (l n : List ℕ). Pair m k l n old-s old-y s y) (sym (s-zero (surd-of h))) (one q (h .odd) ∙ sym (s-older-zero (surd-of h))) (pair-back m k [] (1 ∷ []) old-s old-y s y (subst (λ (n : ℕ). Pair n k (1 ∷ []) [] old-s old-y s y) (add-one m) v));
       }
 
-  pub progress-last : (m degree : ℕ) → Progress q g D k 0 m degree old-p old-s old-x old-y p s x y → Ended q g D k m old-p old-s old-x old-y p s x y
-  progress-last m degree w =
-      let a = pair-last k _ _ old-p old-x p x (w .p-pair) in
-      let b = pair-last k _ _ old-s old-y s y (w .s-pair) in
-      record { p-is = a .0; s-is = b .0; x-is = a .1; y-is = b .1 }
+  module _ {t i : ℕ} (w : Progress q g D k t i old-p old-s old-x old-y p s x y) where
+    -- the lists are as long as they were
+    pub progress-long : ((length p ≡ length old-p) × (length x ≡ length old-x)) × ((length s ≡ length old-s) × (length y ≡ length old-y))
+    progress-long = (pair-long t k _ _ old-p old-x p x (w .p-pair), pair-long t k _ _ old-s old-y s y (w .s-pair))
 
-  module _ (t i degree : ℕ) (w : Progress q g D k t i degree old-p old-s old-x old-y p s x y) where
-    pub p-long : (length p ≡ length old-p) × (length x ≡ length old-x)
-    p-long = pair-long t k _ _ old-p old-x p x (w .p-pair)
+    pub progress-room : (n : ℕ) → n ≤ k → Room k old-p old-s old-x old-y → Room n p s x y
+    progress-room n l r =
+        let e = progress-long in
+        record { p-room = omega arith; s-room = omega arith; x-room = omega arith; y-room = omega arith }
 
-    pub s-long : (length s ≡ length old-s) × (length y ≡ length old-y)
-    s-long = pair-long t k _ _ old-s old-y s y (w .s-pair)
+    pub progress-reduced : (n : ℕ) → n ≤ k → Reduced q n p s x y
+    progress-reduced n l =
+        let a = pair-below t k _ _ old-p old-x p x q n (w .p-pair) (p-oks (surd-of h) i) (p-older-oks (surd-of h) i) l in
+        let b = pair-below t k _ _ old-s old-y s y q n (w .s-pair) (s-oks (surd-of h) i) (s-older-oks (surd-of h) i) l in
+        record { p-below = a .0; s-below = b .0; x-below = a .1; y-below = b .1 }
 
-    pub p-below : (n : ℕ) → n ≤ k → BelowTo q p n × BelowTo q x n
-    p-below n l = pair-below t k _ _ old-p old-x p x q n (w .p-pair) (p-oks (surd-of h) i) (p-older-oks (surd-of h) i) l
+    -- none to go
+    pub progress-last : t ≡ 0 → Ended q g D k i old-p old-s old-x old-y p s x y
+    progress-last e =
+        let a = pair-last t k _ _ old-p old-x p x (w .p-pair) e in
+        let b = pair-last t k _ _ old-s old-y s y (w .s-pair) e in
+        record { p-is = a .0; s-is = b .0; x-is = a .1; y-is = b .1 }
 
-    pub s-below : (n : ℕ) → n ≤ k → BelowTo q s n × BelowTo q y n
-    s-below n l = pair-below t k _ _ old-s old-y s y q n (w .s-pair) (s-oks (surd-of h) i) (s-older-oks (surd-of h) i) l
+-- ---- one step of the walk, with n/2 + 1 = g + 2
+module _ {q : ℕ} (n : ℕ) {D : List ℕ} (h : Admitted q (genus n) D) (two : 2 ≤ n) {i : ℕ} {c b r : List ℕ} {size degree : ℕ} (state : Walked q (genus n) D i c b r size degree) where
+  degree-suc : degree + (n / 2 + 1 - size) ≡ degreeBefore (modulo q) D (rootD q (genus n) D) (suc i)
+  degree-suc = ap (λ (m : ℕ). degree + (m - size)) (let e = half-degree n two in let s : n / 2 + 1 ≡ suc (suc (genus n)) = omega arith in s) ∙ degree-next q (genus n) D h i c b r size degree state
 
-    module _ (before b r : List ℕ) (size : ℕ) (state : State q g D i before b r size) where
-      degree-next : degree + (suc (suc g) - size) ≡ degreeBefore (modulo q) D d (suc i)
-      degree-next = sym (degree-suc (surd-of h) i ∙ ap₂ (λ (e l : ℕ). e + (suc (suc g) - l)) (sym (w .degree-is)) (sym (state .size-is)))
+  -- the next convergents have room
+  pub degree-room : (m k : ℕ) → i < m → degreeBefore (modulo q) D (rootD q (genus n) D) m + 1 ≡ k → degree + (n / 2 + 1 - size) + 1 ≤ k
+  degree-room m k l e =
+      let s = degree-suc in
+      ⊎-elim (λ (v : suc i ≡ m). let u : degreeBefore (modulo q) D (rootD q (genus n) D) (suc i) ≡ degreeBefore (modulo q) D (rootD q (genus n) D) m = ap (degreeBefore (modulo q) D (rootD q (genus n) D)) v in omega arith) (λ (v : suc i < m). let u = degree-rise (surd-of h) (suc i) m v in omega arith) (eq-or-lt-of-le l)
 
-      -- the next convergents have room
-      pub degree-room : (m : ℕ) → i < m → degreeBefore (modulo q) D d m + 1 ≡ k → degree + (suc (suc g) - size) + 1 ≤ k
-      degree-room m l e =
-          let n = degree-next in
-          ⊎-elim (λ (v : suc i ≡ m). let u : degreeBefore (modulo q) D d (suc i) ≡ degreeBefore (modulo q) D d m = ap (degreeBefore (modulo q) D d) v in omega arith) (λ (v : suc i < m). let u = degree-rise (surd-of h) (suc i) m v in omega arith) (eq-or-lt-of-le l)
+  module _ {table d twice : List ℕ} (start : Prepared q (genus n) D table d twice) where
+    pub turn-division : Division q (n / 2 + 1) size twice b r
+    turn-division = let w = turn-ready n h two state start in record { s-within = w .s-within; r-within = w .r-within; b-within = w .b-within; b-top = w .b-top }
 
-module _ (q g : ℕ) (D : List ℕ) (h : Admitted q g D) (k : ℕ) (old-p old-s old-x old-y p s x y : List ℕ) (t i degree : ℕ) (w : Progress q g D k (suc t) i degree old-p old-s old-x old-y p s x y) (before b r : List ℕ) (size : ℕ) (state : State q g D i before b r size) where
-  pub progress-next : (f : List ℕ) → ((j : ℕ) → getD f j 0 ≡ getD (a (modulo q) D (rootD q g D) i) j 0) → (n : ℕ) → n ≡ degree + (suc (suc g) - size) + 1 → n ≤ k → (new-p new-s new-x new-y : List ℕ)
-      → Folded q (suc t) n f p x new-p new-x → Folded q (suc t) n f s y new-s new-y → Progress q g D k t (suc i) (degree + (suc (suc g) - size)) old-p old-s old-x old-y new-p new-s new-x new-y
-  progress-next f same n e l new-p new-s new-x new-y u v =
-      record {
-        degree-is = next;
-        p-pair = subst₂ (λ (a b : List ℕ). Pair t k a b old-p old-x new-p new-x) (sym (p-next (surd-of h) i)) (sym (p-older-suc (surd-of h) i))
-            (pair-next t k _ _ old-p old-x p x q (pos q (h .prime)) f _ same n l (let c = p-older-short (surd-of h) i in omega arith) (subst (λ (z : List ℕ). length z ≤ n) (p-next (surd-of h) i) (let c = p-length (surd-of h) (suc i) in omega (arith, next))) new-p new-x (w .p-pair) u);
-        s-pair = subst₂ (λ (a b : List ℕ). Pair t k a b old-s old-y new-s new-y) (sym (s-next (surd-of h) i)) (sym (s-older-suc (surd-of h) i))
-            (pair-next t k _ _ old-s old-y s y q (pos q (h .prime)) f _ same n l (let c = s-older-short (surd-of h) i in omega arith) (subst (λ (z : List ℕ). length z ≤ n) (s-next (surd-of h) i) (let c = s-short (surd-of h) (suc i) in omega (arith, next))) new-s new-y (w .s-pair) v);
-      }
-    where
-      next : degree + (suc (suc g) - size) ≡ degreeBefore (modulo q) D (rootD q g D) (suc i)
-      next = degree-next q g D h k old-p old-s old-x old-y p s x y (suc t) i degree w before b r size state
+    quotient-is : stepQuo q twice b r ≡ a (modulo q) D (rootD q (genus n) D) i
+    quotient-is = quo-next q (genus n) D h twice (start .twice-is) i c b r size (state .state) ∙ sym (a-next (surd-of h) i)
+
+    module _ {k : ℕ} {old-p old-s old-x old-y p s x y new-p new-s new-x new-y : List ℕ} (l : degree + (n / 2 + 1 - size) + 1 ≤ k) where
+      after : (t : ℕ) → Progress q (genus n) D k (suc t) i old-p old-s old-x old-y p s x y → Advanced q (suc t) (degree + (n / 2 + 1 - size) + 1) (stepQuo q twice b r) p s x y new-p new-s new-x new-y → Progress q (genus n) D k t (suc i) old-p old-s old-x old-y new-p new-s new-x new-y
+      after t w u =
+          let e = degree-suc in
+          let f = state .degree-is in
+          record {
+            p-pair = subst₂ (λ (v z : List ℕ). Pair t k v z old-p old-x new-p new-x) (sym (p-next (surd-of h) i)) (sym (p-older-suc (surd-of h) i))
+                (pair-next t k _ _ old-p old-x p x q (pos q (h .prime)) (stepQuo q twice b r) _ same _ l (let m = p-older-short (surd-of h) i in omega arith) (subst (λ (v : List ℕ). length v ≤ degree + (n / 2 + 1 - size) + 1) (p-next (surd-of h) i) (let m = p-length (surd-of h) (suc i) in omega arith)) new-p new-x (w .p-pair) (u .p-folded));
+            s-pair = subst₂ (λ (v z : List ℕ). Pair t k v z old-s old-y new-s new-y) (sym (s-next (surd-of h) i)) (sym (s-older-suc (surd-of h) i))
+                (pair-next t k _ _ old-s old-y s y q (pos q (h .prime)) (stepQuo q twice b r) _ same _ l (let m = s-older-short (surd-of h) i in omega arith) (subst (λ (v : List ℕ). length v ≤ degree + (n / 2 + 1 - size) + 1) (s-next (surd-of h) i) (let m = s-short (surd-of h) (suc i) in omega arith)) new-s new-y (w .s-pair) (u .s-folded));
+          }
+        where
+          same : (j : ℕ) → getD (stepQuo q twice b r) j 0 ≡ getD (a (modulo q) D (rootD q (genus n) D) i) j 0
+          same j = ap (λ (v : List ℕ). getD v j 0) quotient-is
+
+      pub progress-next : (m : ℕ) → i < m → Progress q (genus n) D k (m - i) i old-p old-s old-x old-y p s x y → Advanced q (m - i) (degree + (n / 2 + 1 - size) + 1) (stepQuo q twice b r) p s x y new-p new-s new-x new-y → Progress q (genus n) D k (m - (i + 1)) (i + 1) old-p old-s old-x old-y new-p new-s new-x new-y
+      progress-next m v w u =
+          let e : m - i ≡ suc (m - (i + 1)) = omega arith in
+          subst (λ (j : ℕ). Progress q (genus n) D k (m - (i + 1)) j old-p old-s old-x old-y new-p new-s new-x new-y) (sym (add-one i))
+          (after (m - (i + 1)) (subst (λ (t : ℕ). Progress q (genus n) D k t i old-p old-s old-x old-y p s x y) e w) (subst (λ (t : ℕ). Advanced q t (degree + (n / 2 + 1 - size) + 1) (stepQuo q twice b r) p s x y new-p new-s new-x new-y) e u))

@@ -15,7 +15,7 @@ ghost use Rattle.run.specs.Start.{Prepared};
 ghost use Rattle.walk.specs.Step.{stepQuo, Division};
 ghost use Rattle.convergents.specs.Sum.{BelowTo};
 ghost use Rattle.convergents.specs.Pair.{Pair, Folded};
-ghost use Rattle.convergents.specs.Progress.{Room, Reduced, Advanced};
+ghost use Rattle.convergents.specs.Progress.{Room, Reduced, Advanced, Progress, Ended};
 use crate::combine::clear;
 use crate::combine::combine;
 use field::Field;
@@ -112,4 +112,70 @@ fn advance(
     let l = top + 1 - size;
     fold(f, reciprocal, &a, l, left, p, x, end);
     fold(f, reciprocal, &a, l, left, s, y, end);
+}
+
+// The steps from index 0 to m, by the walk of √D. D is the first `length` places of big, and 2d stands in `twice`.
+fn steps(
+    f: Field,
+    n: usize,
+    big: &[u32; 129],
+    length: usize,
+    table: &[u32; 4096],
+    d: &[u32; 129],
+    twice: &[u32; 129],
+    m: u64,
+    count: usize,
+    p: &mut [u32],
+    s: &mut [u32],
+    x: &mut [u32],
+    y: &mut [u32],
+)
+    requires { ⌜ Admitted (f .q) (genus n) (poly (now big) length) ⌝ }
+    requires { ⌜ Held (f .q) (now big) length × (2 ≤ n) ⌝ }
+    requires { ⌜ Prepared (f .q) (genus n) (poly (now big) length) (now table) (now d) (now twice) ⌝ }
+    requires { ⌜ degreeBefore (modulo (f .q)) (poly (now big) length) (rootD (f .q) (genus n) (poly (now big) length)) m + 1 ≡ count ⌝ }
+    requires { ⌜ Room count (now p) (now s) (now x) (now y) ⌝ }
+    requires { ⌜ Progress (f .q) (genus n) (poly (now big) length) count m 0 (now p) (now s) (now x) (now y) (now p) (now s) (now x) (now y) ⌝ }
+    ensures { λ _. ⌜ Ended (f .q) (genus n) (poly (now (big .entry)) length) count m (now (p .entry)) (now (s .entry)) (now (x .entry)) (now (y .entry)) (now (p .exit)) (now (s .exit)) (now (x .exit)) (now (y .exit)) ⌝ }
+{
+    let top = n / 2 + 1;
+    let reciprocal = 4294967295 / f.q;
+    let mut before = *big;
+    let mut b = [0u32; 129];
+    b[0] = 1;
+    let mut r = *d;
+    let mut size: usize = 1;
+    let mut degree: usize = 0;
+    let mut i: u64 = 0;
+    while i < m {
+        degree += top - size;
+        advance(
+            f,
+            reciprocal,
+            table,
+            twice,
+            top,
+            &b,
+            size,
+            &r,
+            m - i,
+            degree + 1,
+            p,
+            s,
+            x,
+            y,
+        );
+        size = turn(
+            f,
+            reciprocal,
+            table,
+            twice,
+            top,
+            &mut before,
+            &mut b,
+            size,
+            &mut r,
+        );
+        i += 1;
+    }
 }
