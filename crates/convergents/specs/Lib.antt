@@ -3,3 +3,4 @@ pub mod Sum
 pub mod Pair
 pub mod Recurrence
 pub mod Progress
+pub mod Lists

@@ -6,19 +6,24 @@ ghost use lib.ListN.{length, getD};
 ghost use Rattle.definitions.specs.Field.{modulo, inverse};
 ghost use Rattle.definitions.specs.Ticket.{genus};
 ghost use Rattle.definitions.specs.Walk.{degreeBefore};
+ghost use Rattle.definitions.specs.Units.{unitLists};
 ghost use Rattle.bridge.specs.Prime.{Prime};
 ghost use Rattle.polynomial.specs.Places.{Places, Within};
 ghost use Rattle.polynomial.specs.Record.{poly, Held};
 ghost use Rattle.laws.specs.Admitted.{Admitted};
 ghost use Rattle.run.specs.State.{rootD};
+ghost use Rattle.run.specs.Outcome.{ticket};
 ghost use Rattle.run.specs.Start.{Prepared};
 ghost use Rattle.walk.specs.Step.{stepQuo, Division};
 ghost use Rattle.convergents.specs.Sum.{BelowTo};
 ghost use Rattle.convergents.specs.Pair.{Pair, Folded};
+ghost use Rattle.convergents.specs.Lists.{lists};
 ghost use Rattle.convergents.specs.Progress.{Room, Reduced, Advanced, Progress, Ended};
 use crate::combine::clear;
 use crate::combine::combine;
 use field::Field;
+use polynomial::Poly;
+use run::start::prepare;
 use run::turn::turn;
 use walk::step::quotient;
 
@@ -178,4 +183,48 @@ fn steps(
         );
         i += 1;
     }
+}
+
+// The unit, of index m − 1 and degree r: p and s receive its coefficients in their places 0 to r, where x and y end as zero. Later places are as they were. D is `big`, of degree n.
+pub fn write_unit(
+    f: Field,
+    n: usize,
+    big: Poly,
+    m: u64,
+    r: u64,
+    p: &mut [u32],
+    s: &mut [u32],
+    x: &mut [u32],
+    y: &mut [u32],
+)
+    requires { ⌜ Admitted (f .q) (genus n) (poly (big .c) (big .size)) ⌝ }
+    requires { ⌜ Held (f .q) (big .c) (big .size) × (2 ≤ n) ⌝ }
+    requires { ⌜ r ≡ degreeBefore (modulo (f .q)) (poly (big .c) (big .size)) (rootD (f .q) (genus n) (poly (big .c) (big .size))) m ⌝ }
+    requires { ⌜ Room (r + 1) (now p) (now s) (now x) (now y) ⌝ }
+    ensures { λ _. ⌜ ((b : ℕ) → lists (now (p .exit)) (now (s .exit)) (now (x .exit)) (now (y .exit)) ≡ unitLists (ticket (f .q) n (poly (big .c) (big .size)) b) r m (lists (now (p .entry)) (now (s .entry)) (now (x .entry)) (now (y .entry)))) ⌝ }
+{
+    let count = r as usize + 1;
+    start(m, p, x, count);
+    start(m + 1, s, y, count);
+    let mut table = [0u32; 4096];
+    let mut d = [0u32; 129];
+    let mut twice = [0u32; 129];
+    prepare(f, n, big, &mut table, &mut d, &mut twice);
+    steps(
+        f,
+        n,
+        &big.c,
+        big.size,
+        &table,
+        &d,
+        &twice,
+        m,
+        count,
+        p,
+        s,
+        x,
+        y,
+    );
+    clear(x, count);
+    clear(y, count);
 }
