@@ -64,7 +64,7 @@ fn next_at(
 }
 
 // z becomes the quotient of s − r by b, whose leading coefficient has the inverse `unit`: from the top coefficient down, each clears what is left at its top place.
-fn quotient(
+pub fn quotient(
     f: Field,
     reciprocal: u32,
     unit: u32,
