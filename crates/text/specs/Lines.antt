@@ -1,13 +1,16 @@
 -- Lines of numbers: numbers after spaces, one more at the end, and how long a record's line can be.
-use Prim.Native.Nat.{ℕ, _+_, _*_, _<_, _≤_}
+use Prim.Native.Nat.{ℕ, _+_, _<_, _≤_}
 use native.Mathlib.Numerals.{add-one}
 use native.Mathlib.Omega.{arith}
 use mathlib.Core.Path.{_≡_, refl, sym, ap, _∙_}
-use mathlib.Core.List.{List, [], _∷_, _++_, map, map-append, append-assoc, append-nil}
-use lib.ListN.{length, getD, take, length-append}
+use mathlib.Core.List.{List, [], _∷_, _++_, map, append-assoc, append-nil}
+use lib.ListN.{length, getD, take, drop, length-append, List·getD-map}
 use lib.Seq.{take-suc}
+use borrow.Author.Tests.{ne-eqb}
 use Rattle.definitions.specs.Words.{value, joined}
-use Rattle.definitions.specs.Text.{decimal, spaced}
+use Rattle.definitions.specs.Text.{ascii, decimal, spaced, line}
+use Rattle.definitions.specs.Answers.{said, refused}
+use Rattle.definitions.specs.Program.{firstLine, recordLine}
 use Rattle.text.specs.Decimal.{digits, power}
 
 pub spaced-append : (a b : List ℕ) → spaced (a ++ b) ≡ spaced a ++ spaced b
@@ -32,19 +35,40 @@ pub digits-64 : (x : ℕ) → x < 18446744073709551616 → length (decimal x) �
 unfolding power
 digits-64 x h = digits 19 x (omega arith)
 
-pub length-spaced-values : (l : List ℕ) → length (spaced (map value l)) ≤ 10 * length l
-unfolding spaced
-length-spaced-values [] = omega arith
-length-spaced-values (w ∷ l) =
-    let e : length (decimal (value w) ++ spaced (map value l)) ≡ length (decimal (value w)) + length (spaced (map value l)) = length-append (decimal (value w)) (spaced (map value l)) in
-    let d : length (decimal (value w)) ≤ 9 = digits-value w in
-    let r : length (spaced (map value l)) ≤ 10 * length l = length-spaced-values l in
-    omega arith
+-- one number more of a list
+pub numbers-more : (l : List ℕ) (i : ℕ) → i < length l → spaced (take i l) ++ (32 ∷ decimal (getD l i 0)) ≡ spaced (take (i + 1) l)
+numbers-more l i h = sym (ap (λ (k : ℕ). spaced (take k l)) (add-one i) ∙ ap spaced (take-suc l i 0 h) ∙ spaced-more (take i l) (getD l i 0))
 
--- one value more of a list of words
-pub values-more : (l : List ℕ) (i : ℕ) → i < length l → spaced (map value (take i l)) ++ (32 ∷ decimal (value (getD l i 0))) ≡ spaced (map value (take (i + 1) l))
-values-more l i h =
-    sym (ap (λ (k : ℕ). spaced (map value (take k l))) (add-one i)
-    ∙ ap (λ (t : List ℕ). spaced (map value t)) (take-suc l i 0 h)
-    ∙ ap spaced (map-append value (take i l) (getD l i 0 ∷ []))
-    ∙ spaced-more (map value (take i l)) (value (getD l i 0)))
+pub at-values : (l : List ℕ) (i : ℕ) → getD (map value l) i 0 ≡ value (getD l i 0)
+unfolding value
+at-values l i = List·getD-map value l i 0
+
+-- the number in the two words from `at` on
+unfoldable pub joinedAt : List ℕ → ℕ → ℕ
+joinedAt l at = joined (value (getD l at 0)) (value (getD l (at + 1) 0))
+
+-- the bytes of a record's line before its coefficients
+unfoldable pub headBytes : List ℕ → List ℕ
+headBytes r = (decimal (value (getD r 0 0)) ++ (32 ∷ decimal (joinedAt r 1))) ++ (32 ∷ decimal (joinedAt r 3))
+
+pub length-head : (r : List ℕ) → length (headBytes r) ≤ 45
+unfolding headBytes joinedAt
+length-head r =
+    let a : length (decimal (value (getD r 0 0))) ≤ 9 = digits-value (getD r 0 0) in
+    let b : length (decimal (joinedAt r 1)) ≤ 17 = digits-joined (getD r 1 0) (getD r 2 0) in
+    let c : length (decimal (joinedAt r 3)) ≤ 17 = digits-joined (getD r 3 0) (getD r 4 0) in
+    simp length-append (omega arith)
+
+pub record-line : (r : List ℕ) → (headBytes r ++ spaced (map value (drop 5 r))) ++ (10 ∷ []) ≡ recordLine r
+unfolding headBytes joinedAt recordLine line spaced
+record-line r = simp append-assoc
+
+-- the digits of the number in two words
+pub digits-joinedAt : (l : List ℕ) (at : ℕ) → length (decimal (joinedAt l at)) ≤ 17
+unfolding joinedAt
+digits-joinedAt l at = digits-joined (getD l at 0) (getD l (at + 1) 0)
+
+-- the first line of a refusal: its number is neither that of an answer found nor that of one spent
+pub first-refused : (j : ℕ) → (j ≡ 0 → ⊥) → (j ≡ 11 → ⊥) → line (ascii "refused") (j ∷ []) ≡ firstLine (said (refused j))
+unfolding firstLine said
+first-refused j z e = sym (simp (firstLine, ne-eqb j 0 z, ne-eqb j 11 e))

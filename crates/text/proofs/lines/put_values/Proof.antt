@@ -1,20 +1,20 @@
 -- The invariant: the values of the words passed are written; each takes at most ten bytes.
 use Prim.Native.Nat.{_+_, _*_, _-_, _%_, _≤_}
 use native.Mathlib.Omega.{arith}
-use mathlib.Core.Path.{_≡_, refl, ap, _∙_}
+use mathlib.Core.Path.{_≡_, refl, sym, ap, _∙_}
 use mathlib.Core.List.{_∷_, map}
-use lib.ListN.{length, getD, take}
+use lib.ListN.{length, getD, take, length-map}
 use lib.Seq.{take-all}
 use borrow.Author.Needs.{needs}
 use Rattle.definitions.specs.Words.{value}
 use Rattle.definitions.specs.Text.{decimal, spaced}
-use Rattle.text.specs.Lines.{digits-value, values-more}
+use Rattle.text.specs.Lines.{digits-value, numbers-more, at-values}
 use Rattle.text.specs.Writing.{Put, put-none, put-then, put-same, put-length}
 use Rattle.text.proofs.lines.put_values.Statement.{statement}
 use Rattle.text.proofs.lines.put_values.Tie as tie
 
 abbrev Inv-loop : tie.InvT-loop
-Inv-loop out₀ at words next₀ i₀ out next i = (i ≤ length words) × (length out ≡ length out₀) × (next ≤ at + 10 * i) × Put out₀ out at next (spaced (map value (take i words)))
+Inv-loop out₀ at words next₀ i₀ out next i = (i ≤ length words) × (length out ≡ length out₀) × (next ≤ at + 10 * i) × Put out₀ out at next (spaced (take i (map value words)))
 
 abbrev μ-loop : tie.MeasureT-loop
 μ-loop out₀ at words next₀ i₀ out next i = length words - i
@@ -53,7 +53,7 @@ loop-again c =
     let w = getD (s .words .now) (l .i) 0 in
     let d : length (decimal (w % 268435456)) ≤ 9 = digits-value w in
     let p : Put (l .out) (c .before .before .put-spaced .last .0) (l .next) (c .before .before .put-spaced .result) (32 ∷ decimal (w % 268435456)) = c .before .before .put-spaced .ensures in
-    (search needs, put-length p ∙ l .inv .1, omega arith, put-same (values-more (s .words .now) (l .i) (omega arith)) (put-then (l .inv .3) p))
+    (search needs, put-length p ∙ l .inv .1, omega arith, put-same (numbers-more (map value (s .words .now)) (l .i) (let k : length (map value (s .words .now)) ≡ length (s .words .now) = length-map (s .words .now) value in omega arith)) (put-then (l .inv .3) (put-same (ap (λ x. 32 ∷ decimal x) (sym (at-values (s .words .now) (l .i)))) p)))
 
 same-length : tie.Need-same-length Inv-loop μ-loop
 same-length c = c .before .loop .inv .1
@@ -61,7 +61,8 @@ same-length c = c .before .loop .inv .1
 returns : tie.Need-returns Inv-loop μ-loop
 returns c =
     let s = c .before .before .before .before .args in
-    put-same (ap (λ t. spaced (map value t)) (take-all (c .before .loop .i) (s .words .now) (omega arith))) (c .before .loop .inv .3)
+    let k : length (map value (s .words .now)) ≡ length (s .words .now) = length-map (s .words .now) value in
+    (put-same (ap spaced (take-all (c .before .loop .i) (map value (s .words .now)) (omega arith))) (c .before .loop .inv .3), omega arith)
 
 pub put-values-spec : {M : Type 1} → statement M
 put-values-spec =
