@@ -53,9 +53,16 @@ put-length {a} {b} {i} {j} {x} p = ap length (p .written) ∙ length-sets a i x
 pub line-put : {a b : List ℕ} {j : ℕ} {x : List ℕ} → Put a b 0 j x → j ≤ length a → Line a b j x
 line-put {a} {b} {j} {x} p h = let e : j ≡ length x = p .end ∙ zero-add (length x) in record { content = p .written ∙ sets-start a x (omega arith); size = e }
 
--- and how a line is read: it is the part of the buffer before the count
+-- how a line is read: it is the part of the buffer before the count
 pub line-part : {a b : List ℕ} {j : ℕ} {x : List ℕ} → Line a b j x → take j b ≡ x
 line-part {a} {b} {j} {x} h = ap₂ take (h .size) (h .content) ∙ take-at x (drop (length x) a) (length x) refl
 
 pub put-at : {a b : List ℕ} {i j k : ℕ} {x : List ℕ} → j ≡ k → Put a b i j x → Put a b i k x
 put-at {a} {b} {i} {j} {k} {x} e p = subst (λ (m : ℕ). Put a b i m x) e p
+
+pub line-fits : {a b : List ℕ} {j : ℕ} {x : List ℕ} → Line a b j x → j ≤ length b
+line-fits {a} {b} {j} {x} h =
+    let e : length (x ++ drop (length x) a) ≡ length x + length (drop (length x) a) = length-append x (drop (length x) a) in
+    let f : length b ≡ length (x ++ drop (length x) a) = ap length (h .content) in
+    let g : j ≡ length x = h .size in
+    omega arith
