@@ -9,3 +9,10 @@ pub struct Poly {
     pub c: [u32; 129],
     pub size: usize,
 }
+
+// A greatest common divisor with its factors: gcd is u times the first polynomial and v times the second.
+pub struct Bezout {
+    pub gcd: Poly,
+    pub u: Poly,
+    pub v: Poly,
+}

@@ -15,7 +15,7 @@ use Rattle.bridge.specs.Derivative.{trim-derivative, oks-derivative, length-der
 use Rattle.bridge.specs.Bezout.{trim-gcd}
 use Rattle.polynomial.specs.Record.{poly, Held, Is}
 use Rattle.polynomial.specs.Held.{held-positive, is-held, is-poly}
-use Rattle.polynomial.specs.Results.{held-size}
+use Rattle.polynomial.specs.Result.{held-size}
 
 module _ (q : ℕ) (a : List ℕ) (m : ℕ) (held-a : Held q a m) (c : List ℕ) (n : ℕ) (is : Is q c n (derivative (modulo q) (poly a m))) where
   pos : 0 < q
