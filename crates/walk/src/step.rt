@@ -1,0 +1,221 @@
+// One step of the walk by the recurrences (2-7) of source 000. With s = 2d and r the remainder of the step before, the dividend P + d is s − r;
+// its quotient by Q is a, its remainder the next r, and the next Q is the Q before and a·(next r − r): one division and one short product.
+// Arrays of 129 places by reference, loops to the sizes that the caller keeps, one reduction a coefficient.
+ghost use mathlib.Core.Path.{_≡_};
+ghost use Prim.Native.Nat.{ℕ, _+_, _-_, _/_, _<_, _≤_};
+ghost use lib.ListN.{length, getD};
+ghost use Rattle.definitions.specs.Field.{modulo, inverse};
+ghost use Rattle.definitions.specs.Polynomials.{add, sub, mul};
+ghost use Rattle.bridge.specs.Prime.{Prime};
+ghost use Rattle.polynomial.specs.Places.{Places, Within};
+ghost use Rattle.polynomial.specs.Row.{Bounded};
+ghost use Rattle.walk.specs.Step.{stepQuo, nextRem, nextQ, Division, Ready, Moved, Stepped};
+use crate::linear::linear;
+use crate::reduce::reduce;
+use crate::terms::terms;
+use field::Field;
+use polynomial::linear::top;
+
+// The coefficient at k of s − r − x·b, x of l places and b of n. The product is taken from 128·q², which is no less.
+fn rest_at(
+    f: Field,
+    reciprocal: u32,
+    s: &[u32; 129],
+    r: &[u32; 129],
+    x: &[u32; 129],
+    l: usize,
+    b: &[u32; 129],
+    n: usize,
+    k: usize,
+) -> u32
+    requires { ⌜ (f .q < 4096) × (reciprocal ≡ 4294967295 / f .q) × (l ≤ 128) × (k < 128) ⌝ }
+    requires { ⌜ Bounded (f .q) (now s) × Bounded (f .q) (now r) ⌝ }
+    requires { ⌜ Within (f .q) (now x) l ⌝ }
+    requires { ⌜ Within (f .q) (now b) n ⌝ }
+    ensures { λ v. ⌜ v ≡ getD (sub (modulo (f .q)) (sub (modulo (f .q)) (now (s .entry)) (now (r .entry))) (mul (modulo (f .q)) (now (x .entry)) (now (b .entry)))) k 0 ⌝ }
+{
+    let q = f.q;
+    let t = s[k] + (q - r[k]) + (128 * q * q - terms(f, x, b, k, l, n));
+    reduce(f, reciprocal, t)
+}
+
+// The coefficient at k of before + a·(z − r), a of l places, z and r of m.
+fn next_at(
+    f: Field,
+    reciprocal: u32,
+    before: &[u32; 129],
+    a: &[u32; 129],
+    l: usize,
+    z: &[u32; 129],
+    r: &[u32; 129],
+    m: usize,
+    k: usize,
+) -> u32
+    requires { ⌜ (f .q < 4096) × (reciprocal ≡ 4294967295 / f .q) × (l ≤ 128) × (k < 128) ⌝ }
+    requires { ⌜ Bounded (f .q) (now before) ⌝ }
+    requires { ⌜ Within (f .q) (now a) l ⌝ }
+    requires { ⌜ Within (f .q) (now z) m ⌝ }
+    requires { ⌜ Within (f .q) (now r) m ⌝ }
+    ensures { λ v. ⌜ v ≡ getD (add (modulo (f .q)) (now (before .entry)) (mul (modulo (f .q)) (now (a .entry)) (sub (modulo (f .q)) (now (z .entry)) (now (r .entry))))) k 0 ⌝ }
+{
+    let q = f.q;
+    let t = before[k] + terms(f, a, z, k, l, m) + (128 * q * q - terms(f, a, r, k, l, m));
+    reduce(f, reciprocal, t)
+}
+
+// z becomes the quotient of s − r by b, whose leading coefficient has the inverse `unit`: from the top coefficient down, each clears what is left at its top place.
+fn quotient(
+    f: Field,
+    reciprocal: u32,
+    unit: u32,
+    s: &[u32; 129],
+    r: &[u32; 129],
+    m: usize,
+    b: &[u32; 129],
+    n: usize,
+    z: &mut [u32; 129],
+)
+    requires { ⌜ Prime (f .q) × (f .q < 4096) × (reciprocal ≡ 4294967295 / f .q) × (unit ≡ inverse (f .q) (getD (now b) (n - 1) 0)) ⌝ }
+    requires { ⌜ (0 < n) × (n ≤ m) × (m ≤ 128) ⌝ }
+    requires { ⌜ Division (f .q) m n (now s) (now b) (now r) ⌝ }
+    ensures { λ _. ⌜ Places (now (z .exit)) (λ i. getD (stepQuo (f .q) (now (s .entry)) (now (b .entry)) (now (r .entry))) i 0) ⌝ }
+{
+    *z = [0u32; 129];
+    let l = m + 1 - n;
+    let mut k = l;
+    while 0 < k {
+        k -= 1;
+        let v = rest_at(f, reciprocal, s, r, z, l, b, n, k + n - 1);
+        z[k] = reduce(f, reciprocal, v * unit);
+    }
+}
+
+// z becomes the remainder of s − r by b, whose quotient is a.
+fn remainder(
+    f: Field,
+    reciprocal: u32,
+    s: &[u32; 129],
+    r: &[u32; 129],
+    a: &[u32; 129],
+    m: usize,
+    b: &[u32; 129],
+    n: usize,
+    z: &mut [u32; 129],
+)
+    requires { ⌜ Prime (f .q) × (f .q < 4096) × (reciprocal ≡ 4294967295 / f .q) ⌝ }
+    requires { ⌜ (0 < n) × (n ≤ m) × (m ≤ 128) ⌝ }
+    requires { ⌜ Division (f .q) m n (now s) (now b) (now r) ⌝ }
+    requires { ⌜ Places (now a) (λ i. getD (stepQuo (f .q) (now s) (now b) (now r)) i 0) ⌝ }
+    ensures { λ _. ⌜ Places (now (z .exit)) (λ i. getD (nextRem (f .q) (now (s .entry)) (now (b .entry)) (now (r .entry))) i 0) ⌝ }
+{
+    *z = [0u32; 129];
+    let l = m + 1 - n;
+    let mut k: usize = 0;
+    while k < n - 1 {
+        z[k] = rest_at(f, reciprocal, s, r, a, l, b, n, k);
+        k += 1;
+    }
+}
+
+// w becomes before + a·(z − r), of m coefficients at most.
+fn next(
+    f: Field,
+    reciprocal: u32,
+    before: &[u32; 129],
+    a: &[u32; 129],
+    l: usize,
+    z: &[u32; 129],
+    r: &[u32; 129],
+    m: usize,
+    w: &mut [u32; 129],
+)
+    requires { ⌜ (f .q < 4096) × (reciprocal ≡ 4294967295 / f .q) × (l ≤ 128) × (m ≤ 128) ⌝ }
+    requires { ⌜ Bounded (f .q) (now before) ⌝ }
+    requires { ⌜ Within (f .q) (now a) l ⌝ }
+    requires { ⌜ Within (f .q) (now z) m × Within (f .q) (now r) m ⌝ }
+    requires { ⌜ length (add (modulo (f .q)) (now before) (mul (modulo (f .q)) (now a) (sub (modulo (f .q)) (now z) (now r)))) ≤ m ⌝ }
+    ensures { λ _. ⌜ Places (now (w .exit)) (λ i. getD (add (modulo (f .q)) (now (before .entry)) (mul (modulo (f .q)) (now (a .entry)) (sub (modulo (f .q)) (now (z .entry)) (now (r .entry))))) i 0) ⌝ }
+{
+    *w = [0u32; 129];
+    let mut k: usize = 0;
+    while k < m {
+        w[k] = next_at(f, reciprocal, before, a, l, z, r, m, k);
+        k += 1;
+    }
+}
+
+// One step, for any quotient; `unit` is the inverse of the leading coefficient of b.
+fn general(
+    f: Field,
+    reciprocal: u32,
+    unit: u32,
+    s: &[u32; 129],
+    m: usize,
+    before: &[u32; 129],
+    b: &[u32; 129],
+    n: usize,
+    r: &[u32; 129],
+    z: &mut [u32; 129],
+    w: &mut [u32; 129],
+)
+    requires { ⌜ Prime (f .q) × (f .q < 4096) × (reciprocal ≡ 4294967295 / f .q) × (unit ≡ inverse (f .q) (getD (now b) (n - 1) 0)) ⌝ }
+    requires { ⌜ (0 < n) × (n ≤ m) × (m ≤ 128) ⌝ }
+    requires { ⌜ Ready (f .q) m n (now s) (now before) (now b) (now r) ⌝ }
+    ensures { λ _. ⌜ Moved (f .q) (now (s .entry)) (now (before .entry)) (now (b .entry)) (now (r .entry)) (now (z .exit)) (now (w .exit)) ⌝ }
+{
+    let mut a = [0u32; 129];
+    quotient(f, reciprocal, unit, s, r, m, b, n, &mut a);
+    remainder(f, reciprocal, s, r, &a, m, b, n, z);
+    next(f, reciprocal, before, &a, m + 1 - n, z, r, m, w);
+}
+
+// One step, by the shorter way where the quotient has degree 1.
+fn fill(
+    f: Field,
+    reciprocal: u32,
+    unit: u32,
+    s: &[u32; 129],
+    m: usize,
+    before: &[u32; 129],
+    b: &[u32; 129],
+    n: usize,
+    r: &[u32; 129],
+    z: &mut [u32; 129],
+    w: &mut [u32; 129],
+)
+    requires { ⌜ Prime (f .q) × (f .q < 4096) × (reciprocal ≡ 4294967295 / f .q) × (unit ≡ inverse (f .q) (getD (now b) (n - 1) 0)) ⌝ }
+    requires { ⌜ (0 < n) × (n ≤ m) × (m ≤ 128) ⌝ }
+    requires { ⌜ Ready (f .q) m n (now s) (now before) (now b) (now r) ⌝ }
+    ensures { λ _. ⌜ Moved (f .q) (now (s .entry)) (now (before .entry)) (now (b .entry)) (now (r .entry)) (now (z .exit)) (now (w .exit)) ⌝ }
+{
+    if m == n + 1 {
+        linear(f, reciprocal, unit, s, before, b, n, r, z, w);
+    } else {
+        general(f, reciprocal, unit, s, m, before, b, n, r, z, w);
+    }
+}
+
+// One step: z becomes the next r and w the next Q, whose size is returned.
+pub fn step(
+    f: Field,
+    reciprocal: u32,
+    inverses: &[u32; 4096],
+    s: &[u32; 129],
+    m: usize,
+    before: &[u32; 129],
+    b: &[u32; 129],
+    n: usize,
+    r: &[u32; 129],
+    z: &mut [u32; 129],
+    w: &mut [u32; 129],
+) -> usize
+    requires { ⌜ Prime (f .q) × (f .q < 4096) × (reciprocal ≡ 4294967295 / f .q) ⌝ }
+    requires { ⌜ (0 < n) × (n ≤ m) × (m ≤ 128) ⌝ }
+    requires { ⌜ ((a : ℕ) → a < f .q → getD (now inverses) a 0 ≡ inverse (f .q) a) ⌝ }
+    requires { ⌜ Ready (f .q) m n (now s) (now before) (now b) (now r) ⌝ }
+    ensures { λ k. ⌜ Stepped (f .q) (now (s .entry)) (now (before .entry)) (now (b .entry)) (now (r .entry)) (now (z .exit)) (now (w .exit)) k ⌝ }
+{
+    let unit = inverses[b[n - 1] as usize];
+    fill(f, reciprocal, unit, s, m, before, b, n, r, z, w);
+    top(w, m)
+}
