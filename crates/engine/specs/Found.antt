@@ -37,11 +37,11 @@ module _ {q n : ℕ} {D : List ℕ} {b R m c : ℕ} (f : Found q n D b R m c) wh
 
   -- m is the quasi-period, within the budget
   pub found-quasi : Quasi (modulo q) D d b m
-  found-quasi = quasi-some (surd-of (f .admitted)) b m (read _ says .0)
+  found-quasi = quasi-some (surd-of (f .admitted)) b m (read (quasiPeriod (modulo q) D d b) says .0)
 
   -- R is the degree of p at the index m − 1
   pub found-degree : R ≡ degreeBefore (modulo q) D d m
-  found-degree = read _ says .1
+  found-degree = read (quasiPeriod (modulo q) D d b) says .1
 
   pub found-index : m < 268435456
   found-index = let h = found-quasi .within in let k = f .budget in omega arith

@@ -44,11 +44,14 @@ module _ (t : Ticket) (R m c : ℕ) (l : List ℕ) where
       go false k = record { says = refl; list = refl }
 
 -- an outcome that is not found is the answer, and the list keeps every word
-pub not-found : (t : Ticket) (x : Outcome) (l : List ℕ) → ((R m c : ℕ) → x ≡ found R m c → ⊥) → Answers (listingFrom t x l) x l
+pub kept : (t : Ticket) (x : Outcome) (l : List ℕ) → ((R m c : ℕ) → x ≡ found R m c → ⊥) → Answers (listingFrom t x l) x l
 unfolding listingFrom
-not-found t (found R m c) l h = absurd (h R m c refl)
-not-found t (spent k e) l h = record { says = refl; list = refl }
-not-found t (refused j) l h = record { says = refl; list = refl }
+kept t (found R m c) l h = absurd (h R m c refl)
+kept t (spent k e) l h = record { says = refl; list = refl }
+kept t (refused j) l h = record { says = refl; list = refl }
+
+pub kept-refused : (t : Ticket) (j : ℕ) (l : List ℕ) → Answers (listingFrom t (refused j) l) (refused j) l
+kept-refused t j l = kept t (refused j) l (λ R m c e. let v : _≡_ {A = ℕ} 0 1 = cc in omega arith)
 
 module _ (w l : List ℕ) where
   pub words-answer : (t : Ticket) (x y : Outcome) (out : List ℕ) → ticketOf w ≡ t → x ≡ wordsOutcome w → Answers (listingFrom t x l) y out → Answers (listingAnswer w l) y out

@@ -1,7 +1,7 @@
 // The call `listing`: the outcome first, then the records into the lent list where it is long enough.
 ghost use mathlib.Core.Path.{_≡_};
 ghost use lib.ListN.{length};
-ghost use Rattle.definitions.specs.Answers.{found};
+ghost use Rattle.definitions.specs.Answers.{found, said};
 ghost use Rattle.definitions.specs.Listing.{listingFrom, listingAnswer};
 ghost use Rattle.polynomial.specs.Record.{poly, Held};
 ghost use Rattle.run.specs.Outcome.{meaning, ticket};
@@ -33,7 +33,8 @@ fn list_found(t: Ticket, r: Distance, m: Index, c: u32, out: &mut [u32]) -> Outc
 // The listing of a ticket of any words and any length, in a lent list of any length.
 pub fn listing(ticket: &[u32], out: &mut [u32]) -> Answer
     ensures words { λ r. ⌜ r .words ≡ length (now (ticket .entry)) ⌝ }
-    ensures answers { λ r. ⌜ Answers (listingAnswer (now (ticket .entry)) (now (out .entry))) (meaning (r .outcome)) (now (out .exit)) ⌝ }
+    ensures says { λ r. ⌜ said (meaning (r .outcome)) ≡ listingAnswer (now (ticket .entry)) (now (out .entry)) .says ⌝ }
+    ensures list { λ r. ⌜ now (out .exit) ≡ listingAnswer (now (ticket .entry)) (now (out .entry)) .list ⌝ }
 {
     let words = ticket.len() as u64;
     let t = read_ticket(ticket);

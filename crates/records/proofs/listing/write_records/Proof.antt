@@ -30,7 +30,7 @@ array-write-b c = search needs
 loop-holds : tie.Need-loop-holds Inv-loop μ-loop
 loop-holds c =
     let s = c .before .before .before .before in
-    (omega arith, listed-first (s .pre .0) (walk-starts _ _ _ _ _ _ _ (s .pre .0 .admitted) (s .pre .1 .0) (s .pre .1 .1) .state))
+    (omega arith, listed-first (s .pre .0) (walk-starts _ _ (s .pre .0 .admitted) (s .pre .1 .0) (s .pre .1 .1) .state))
 
 add-degree : tie.Need-add-degree Inv-loop μ-loop
 add-degree c = search needs
