@@ -1,5 +1,5 @@
 -- A sum of products that serves for a product's coefficient: it is not reduced, and at most 128·q², so that it can be taken from that multiple of q.
-use Prim.Native.Nat.{ℕ, _+_, _*_, _-_, _%_, _<_, _≤_}
+use Prim.Native.Nat.{ℕ, _*_, _%_, _<_, _≤_}
 use native.Mathlib.Nat.{mul-assoc, mul-le-mul, mul-le-mul-right}
 use native.Mathlib.Omega.{arith}
 use mathlib.Core.Path.{_≡_}

@@ -1,6 +1,6 @@
 -- No sum overflows: s − r is at most 2·4,095, and 128·q² below 2³¹.
-use mathlib.Core.Path.{_≡_, sym, ap, _∙_}
-use Prim.Native.Nat.{ℕ, _≤_, _<_, _-_, _+_, _*_, _%_}
+use mathlib.Core.Path.{_∙_}
+use Prim.Native.Nat.{_*_}
 use native.Mathlib.Omega.{arith}
 use Rattle.walk.specs.Terms.{full}
 use Rattle.walk.specs.Coefficients.{rest-is}

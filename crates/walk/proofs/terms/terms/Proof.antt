@@ -1,6 +1,6 @@
 -- The sum's invariant: it is the first i terms of the coefficient, at most 128·q². The terms left out at both ends are 0.
 use mathlib.Core.Path.{_≡_, sym, ap, _∙_}
-use Prim.Native.Nat.{ℕ, _≤_, _<_, _-_, _+_, _*_, _%_}
+use Prim.Native.Nat.{ℕ, _≤_, _-_, _+_, _*_, _%_}
 use native.Mathlib.Omega.{arith}
 use lib.ListN.{getD}
 use Rattle.bridge.specs.Product.{dots, dots-more}
@@ -9,9 +9,6 @@ use Rattle.walk.specs.Terms.{dots-small, square-small}
 use borrow.Author.Needs.{needs}
 use Rattle.walk.proofs.terms.terms.Statement.{statement}
 use Rattle.walk.proofs.terms.terms.Tie as tie
-use Rattle.walk.proofs.terms.terms.Reads as reads
-use Rattle.walk.proofs.terms.terms.Lts as lts
-use Rattle.polynomial.proofs.product.excess.Reads as excess-reads
 
 abbrev Inv-loop : tie.InvT-loop
 Inv-loop x y k m n end sum₀ i₀ sum i = (i ≤ k + 1) × (sum ≡ dots x y k i)
@@ -32,76 +29,58 @@ next c =
     let e = dots-more (s .args .x .now) (s .args .y .now) (s .args .k) i in
     omega arith
 
--- src/terms.rt:15:15
 add-end : tie.Need-add-end Inv-loop μ-loop
 add-end c = search needs
 
--- src/terms.rt:15:30
 add-excess : tie.Need-add-excess Inv-loop μ-loop
 add-excess c = search needs
 
--- src/terms.rt:15:23
 excess-requires : tie.Need-excess-requires Inv-loop μ-loop
 excess-requires c κs = search needs
 
--- src/terms.rt:15:15
 sub-end : tie.Need-sub-end Inv-loop μ-loop
 sub-end c = search needs
 
--- src/terms.rt:17:31
 add-excess-2 : tie.Need-add-excess-2 Inv-loop μ-loop
 add-excess-2 c = search needs
 
--- src/terms.rt:17:9
 excess-requires-2 : tie.Need-excess-requires-2 Inv-loop μ-loop
 excess-requires-2 c κs = search needs
 
--- src/terms.rt:18:5
 loop-holds : tie.Need-loop-holds Inv-loop μ-loop
 loop-holds c =
     let s = c .before .before in (omega arith, sym (ap (dots (s .args .x .now) (s .args .y .now) (s .args .k)) (c .excess2 .ensures) ∙ dots-before _ _ _ (s .args .n) (s .pre .1 .1 .past)))
 
--- src/terms.rt:19:16
 mul-sum : tie.Need-mul-sum Inv-loop μ-loop
 mul-sum c = search needs
 
--- src/terms.rt:19:16
 element-copy-out-sum : tie.Need-element-copy-out-sum Inv-loop μ-loop
 element-copy-out-sum c = search needs
 
--- src/terms.rt:19:25
 sub-sum : tie.Need-sub-sum Inv-loop μ-loop
 sub-sum c = search needs
 
--- src/terms.rt:19:23
 mul-sum-2 : tie.Need-mul-sum-2 Inv-loop μ-loop
 mul-sum-2 c = search needs
 
--- src/terms.rt:19:23
 element-copy-out-sum-2 : tie.Need-element-copy-out-sum-2 Inv-loop μ-loop
 element-copy-out-sum-2 c = search needs
 
--- src/terms.rt:19:16
 mul-sum-3 : tie.Need-mul-sum-3 Inv-loop μ-loop
 mul-sum-3 c = omega (arith, next c)
 
--- src/terms.rt:19:9
 add-sum : tie.Need-add-sum Inv-loop μ-loop
 add-sum c = omega (arith, next c)
 
--- src/terms.rt:20:9
 add-i : tie.Need-add-i Inv-loop μ-loop
 add-i c = search needs
 
--- src/terms.rt:18:5
 loop-less : tie.Need-loop-less Inv-loop μ-loop
 loop-less c = search needs
 
--- src/terms.rt:18:5
 loop-again : tie.Need-loop-again Inv-loop μ-loop
 loop-again c = (omega arith, rw (dots-more, ← c .before .before .before .loop .inv .1))
 
--- src/terms.rt:9:1
 returns : tie.Need-returns Inv-loop μ-loop
 returns c =
     let s = c .before .before .before .before in
