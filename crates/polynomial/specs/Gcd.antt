@@ -12,7 +12,7 @@ use Rattle.bridge.specs.Prime.{Prime}
 use Rattle.bridge.specs.Residues.{model, inverts}
 use Rattle.polynomial.specs.Record.{poly, Held}
 use Rattle.polynomial.specs.Held.{held-positive}
-use Rattle.polynomial.specs.Results.{held-size}
+use Rattle.polynomial.specs.Result.{held-size}
 
 module _ (q : ℕ) (p : Prime q) (a : List ℕ) (m : ℕ) (b : List ℕ) (n : ℕ) (held-b : Held q b n) where
   pos : 0 < q

@@ -18,7 +18,7 @@ pub fn excess(a: usize, b: usize) -> usize
 }
 
 // The coefficient at k of x, of m places, times y, of n places. 129·4,095² is below 2³².
-fn dot(f: Field, x: &[u32; 129], y: &[u32; 129], k: usize, m: usize, n: usize) -> u32
+pub fn dot(f: Field, x: &[u32; 129], y: &[u32; 129], k: usize, m: usize, n: usize) -> u32
     requires { ⌜ (f .q < 4096) × (k < 129) × (m ≤ 129) ⌝ }
     requires { ⌜ Within (f .q) (now x) m ⌝ }
     requires { ⌜ Within (f .q) (now y) n ⌝ }

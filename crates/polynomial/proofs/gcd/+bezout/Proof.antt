@@ -6,8 +6,8 @@ use borrow.Author.Needs.{needs}
 use Rattle.definitions.specs.Field.{modulo}
 use Rattle.definitions.specs.Polynomials.{sub, mul, quo}
 use Rattle.polynomial.specs.Record.{poly, Held, Is}
-use Rattle.polynomial.specs.Results.{held-quo, held-rem, size-rem}
-use Rattle.polynomial.specs.Bezout.{none-gcd, none-u, none-v, turn-gcd, turn-u, turn-v, turn-held-u, turn-held-v, turn-held-product, turn-fits}
+use Rattle.polynomial.specs.Result.{result-quo, result-rem, size-rem}
+use Rattle.polynomial.specs.Bezout.{none-gcd, none-u, none-v, turn-gcd, turn-u, turn-v, turn-last-u, turn-last-v, turn-product, turn-fits}
 use Prim.Native.Nat.{ℕ, _<_}
 use borrow.Fn.Kinds.{In}
 use borrow.Fn.PlainCycle.{Measures, is, falls, and}
@@ -80,7 +80,7 @@ bezout-bezout-requires t c κs =
     let b = s .pre .1 .1 .1 in
     let r = c .before .div-by .ensures .1 in
     let less = size-rem _ _ _ a _ _ b _ _ p (omega arith) r in
-    (omega arith, (s .pre .1 .0, (b, held-rem _ _ _ a _ _ b _ _ p r)))
+    (omega arith, (s .pre .1 .0, (b, result-rem _ _ _ a _ _ b _ _ p r .held)))
 
 -- src/gcd.rt:75:13
 bezout-mul-requires : (t : ℕ) → bezout-lts.Need-mul-requires (
@@ -103,7 +103,7 @@ bezout-mul-requires t c κs =
     let d = c .before .before .before .before .before .div-by .ensures in
     let e = c .before .before .before .bezout .ensures in
     let some : 0 < s .args .b .size = omega arith in
-    ((search needs, turn-fits _ p _ _ a _ _ b some _ _ (d .0) _ _ (d .1) _ _ (e .1 .0) _ _ (e .1 .1)), (held-quo _ _ _ a _ _ b _ _ some (d .0), turn-held-v _ p _ _ a _ _ b some _ _ (d .0) _ _ (d .1) _ _ (e .1 .0) _ _ (e .1 .1)))
+    ((search needs, turn-fits _ p _ _ a _ _ b some _ _ (d .0) _ _ (d .1) _ _ (e .1 .0) _ _ (e .1 .1)), (result-quo _ _ _ a _ _ b _ _ some (d .0) .held, turn-last-v _ p _ _ a _ _ b some _ _ (d .0) _ _ (d .1) _ _ (e .1 .0) _ _ (e .1 .1) .held))
 
 -- src/gcd.rt:77:13
 bezout-sub-requires : (t : ℕ) → bezout-lts.Need-sub-requires (
@@ -126,7 +126,7 @@ bezout-sub-requires t c κs =
     let d = c .before .before .before .before .before .before .before .div-by .ensures in
     let e = c .before .before .before .before .before .bezout .ensures in
     let some : 0 < s .args .b .size = omega arith in
-    (search needs, (turn-held-u _ p _ _ a _ _ b some _ _ (d .0) _ _ (d .1) _ _ (e .1 .0) _ _ (e .1 .1), turn-held-product _ p _ _ a _ _ b some _ _ (d .0) _ _ (d .1) _ _ (e .1 .0) _ _ (e .1 .1) _ _ (c .before .mul .ensures)))
+    (search needs, (turn-last-u _ p _ _ a _ _ b some _ _ (d .0) _ _ (d .1) _ _ (e .1 .0) _ _ (e .1 .1) .held, turn-product _ p _ _ a _ _ b some _ _ (d .0) _ _ (d .1) _ _ (e .1 .0) _ _ (e .1 .1) _ _ (c .before .mul .ensures) .held))
 
 -- src/gcd.rt:58:1
 bezout-returns : (t : ℕ) → bezout-lts.Need-returns (

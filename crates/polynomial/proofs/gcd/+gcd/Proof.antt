@@ -6,7 +6,7 @@ use borrow.Author.Needs.{needs}
 use Rattle.definitions.specs.Field.{modulo}
 use Rattle.definitions.specs.Polynomials.{rem, gcd as gcdOf}
 use Rattle.polynomial.specs.Record.{poly, Held, Is}
-use Rattle.polynomial.specs.Results.{held-rem, poly-rem, size-rem}
+use Rattle.polynomial.specs.Result.{result-rem, size-rem}
 use Rattle.polynomial.specs.Gcd.{gcd-none, gcd-some}
 use Prim.Native.Nat.{ℕ, _<_}
 use borrow.Fn.Kinds.{In}
@@ -66,7 +66,7 @@ gcd-gcd-requires t c κs =
     let b = s .pre .1 .1 .1 in
     let r = c .before .div-by .ensures .1 in
     let less = size-rem _ _ _ a _ _ b _ _ p (omega arith) r in
-    (omega arith, (s .pre .1 .0, (b, held-rem _ _ _ a _ _ b _ _ p r)))
+    (omega arith, (s .pre .1 .0, (b, result-rem _ _ _ a _ _ b _ _ p r .held)))
 
 -- src/gcd.rt:17:1
 gcd-returns : (t : ℕ) → gcd-lts.Need-returns (
@@ -94,7 +94,7 @@ gcd-returns-2 t c =
     let s = c .before .before .before .before .before in
     let p = s .pre .1 .0 .0 in
     let b = poly (s .args .b .c) (s .args .b .size) in
-    let same = poly-rem _ _ _ (s .pre .1 .1 .0) _ _ (s .pre .1 .1 .1) _ _ p (c .before .before .div-by .ensures .1) in
+    let same = result-rem _ _ _ (s .pre .1 .1 .0) _ _ (s .pre .1 .1 .1) _ _ p (c .before .before .div-by .ensures .1) .is in
     subst (λ (l : List ℕ). Is (s .args .f .q) (c .gcd .result .c) (c .gcd .result .size) l) (ap (gcdOf (modulo (s .args .f .q)) b) same ∙ sym (gcd-some _ p (s .args .a .c) (s .args .a .size) _ _ (s .pre .1 .1 .1) (omega arith))) (c .gcd .ensures)
 
 pub +gcd-spec : {M : Type 1} → statement M

@@ -1,0 +1,7 @@
+pub mod Table
+pub mod Root
+pub mod State
+pub mod Start
+pub mod Outcome
+pub mod Walked
+pub mod Seek
