@@ -1,5 +1,5 @@
 // The coefficients of a product as sums that are not reduced yet.
-ghost use Prim.Native.Nat.{ℕ, _<_, _≤_};
+ghost use Prim.Native.Nat.{_<_, _≤_};
 ghost use Rattle.polynomial.specs.Places.{Within};
 ghost use Rattle.walk.specs.Terms.{Terms};
 use field::Field;

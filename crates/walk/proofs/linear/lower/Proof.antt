@@ -72,7 +72,6 @@ returns c =
     let s = c .before .before .before .before .before .before in
     let p = s .pre .0 .0 in
     let d = s .pre .1 .0 .2 in
-    let pos = positive p d in
     let v = c .before .rest-of .result in
     c .reduce .ensures ∙ ap (λ (u : ℕ). (v * u) % s .args .f .q) (s .pre .0 .3) ∙ lower-at p d (s .args .a1) (s .pre .1 .1) v (c .before .before .before .before .before .below .result) (c .before .before .before .before .before .below .ensures) (c .before .rest-of .ensures)
 

@@ -47,7 +47,6 @@ add-x c =
     let p = s .pre .0 .0 in
     let g = s .pre .1 .0 .2 in
     let d = division g in
-    let pos = positive p d in
     let l = c .before .before .before .loop in
     let hz : getD (s .args .z .now) (l .k) 0 < s .args .f .q = rw (s .pre .1 .1 .1 .at (l .k)) (rem-reduced p d (l .k)) in
     omega arith
@@ -72,7 +71,7 @@ next-of-requires c κs =
     let hz = wz (l .k) in
     let hy = shifted-less (s .args .f .q) pos (s .args .z .now) wz (l .k) in
     let hr = shifted-less (s .args .f .q) pos (s .args .r .now) (d .r-within .reduced) (l .k) in
-    ((s .pre .0 .1, s .pre .0 .2), (g .before-reduced (l .k), h0, h1, omega arith, omega arith))
+    ((s .pre .0 .1, s .pre .0 .2), (g .before-reduced (l .k), omega arith, omega arith, omega arith, omega arith))
 
 mul-w : tie.Need-mul-w Inv-loop μ-loop
 mul-w c = search needs
@@ -92,7 +91,6 @@ loop-again c =
     let p = s .pre .0 .0 in
     let g = s .pre .1 .0 .2 in
     let d = division g in
-    let pos = positive p d in
     let l = c .before .before .before .before .before .loop in
     (omega arith, rw (shifted-next, shifted-next), filled-more _ (l .w) (l .k) _ (l .inv .2) (omega arith) (next-of-is p d (s .args .a0) (s .args .a1) (s .pre .1 .1 .0 .0) (s .pre .1 .1 .0 .1) (s .args .before .now) (s .args .z .now) (s .pre .1 .1 .1 .at) (l .k) _ (l .y) (l .inv .1) (c .next-of .ensures)))
 

@@ -72,7 +72,6 @@ loop-again c =
     let s = c .before .before .before .before .before .before .before in
     let p = s .pre .0 .0 in
     let d = s .pre .1 .0 .2 in
-    let pos = positive p d in
     let l = c .before .before .before .before .before .loop in
     (omega arith, sym (shifted-next (s .args .b .now) (l .k)), filled-more _ (l .z) (l .k) _ (l .inv .2) (omega arith) (rest-of-is p d (s .args .a0) (s .args .a1) (s .pre .1 .1 .0) (s .pre .1 .1 .1) (l .k) _ (l .y) (l .inv .1) (c .rest-of .ensures)))
 
@@ -81,7 +80,6 @@ returns c =
     let s = c .before .before .before in
     let p = s .pre .0 .0 in
     let d = s .pre .1 .0 .2 in
-    let pos = positive p d in
     let l = c .before .loop in
     filled-all _ (l .z) (l .k) (l .inv .2) (λ i h. rem-past p d i (omega arith))
 

@@ -64,7 +64,6 @@ returns c =
     let s = c .before .before .before .before .before .before in
     let p = s .pre .0 .0 in
     let d = s .pre .1 .2 in
-    let pos = positive p d in
     let v = c .before .rest-of .result in
     c .reduce .ensures ∙ ap (λ (u : ℕ). (v * u) % s .args .f .q) (s .pre .0 .3) ∙ upper-at p d v (c .before .rest-of .ensures)
 

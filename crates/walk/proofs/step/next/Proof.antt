@@ -36,7 +36,6 @@ loop-less c = search needs
 
 loop-again : tie.Need-loop-again Inv-loop μ-loop
 loop-again c =
-    let s = c .before .before .before .before in
     let l = c .before .before .loop in
     (omega arith, filled-more _ (l .w) (l .k) _ (l .inv .1) (omega arith) (c .next-at .ensures))
 

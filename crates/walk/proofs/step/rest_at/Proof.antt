@@ -21,10 +21,10 @@ element-copy-out-t-2 : tie.Need-element-copy-out-t-2
 element-copy-out-t-2 c = search needs
 
 sub-t : tie.Need-sub-t
-sub-t c = let s = c .before .before in omega (arith, s .pre .1 .0 .1 (s .args .k))
+sub-t c = let s = c .before .before in omega (arith, s .pre .1 .0 .0 (s .args .k), s .pre .1 .0 .1 (s .args .k))
 
 add-t : tie.Need-add-t
-add-t c = let s = c .before .before in omega (arith, s .pre .1 .0 .0 (s .args .k))
+add-t c = let s = c .before .before in omega (arith, s .pre .1 .0 .0 (s .args .k), s .pre .1 .0 .1 (s .args .k))
 
 mul-t-3 : tie.Need-mul-t-3
 mul-t-3 c = search needs
@@ -42,7 +42,7 @@ add-t-2 : tie.Need-add-t-2
 add-t-2 c =
     let s = c .before .before .before in
     let w = full (s .args .f .q) (s .pre .0 .0) .small in
-    omega (arith, s .pre .1 .0 .0 (s .args .k))
+    omega (arith, s .pre .1 .0 .0 (s .args .k), s .pre .1 .0 .1 (s .args .k))
 
 reduce-requires : tie.Need-reduce-requires
 reduce-requires c κs = let s = c .before .before .before in (omega (arith, s .pre .1 .0 .0 0), s .pre .0 .0, s .pre .0 .1)
