@@ -1,6 +1,6 @@
 pub mod Step
 pub mod Reciprocal
-pub mod Terms
+pub mod Full
 pub mod Down
 pub mod Sizes
 pub mod Coefficients

@@ -2,7 +2,7 @@
 use mathlib.Core.Path.{_∙_}
 use Prim.Native.Nat.{_*_}
 use native.Mathlib.Omega.{arith}
-use Rattle.walk.specs.Terms.{full}
+use Rattle.walk.specs.Full.{full}
 use Rattle.walk.specs.Coefficients.{rest-is}
 use borrow.Author.Needs.{needs}
 use Rattle.walk.proofs.step.rest_at.Statement.{statement}
@@ -30,18 +30,22 @@ mul-t-3 : tie.Need-mul-t-3
 mul-t-3 c = search needs
 
 mul-t-4 : tie.Need-mul-t-4
-mul-t-4 c = let w = full (c .before .before .args .f .q) (c .before .before .pre .0 .0) .small in omega arith
+mul-t-4 c = let w = full (c .before .before .args .f .q) (c .before .before .args .k) (c .before .before .pre .0 .0) (c .before .before .pre .0 .3) .small in omega arith
 
 terms-requires : tie.Need-terms-requires
 terms-requires c κs = search needs
 
 sub-t-2 : tie.Need-sub-t-2
-sub-t-2 c = search needs
+sub-t-2 c =
+    let s = c .before .before .before in
+    let w = full (s .args .f .q) (s .args .k) (s .pre .0 .0) (s .pre .0 .3) in
+    let l = c .terms .ensures .small in
+    omega arith
 
 add-t-2 : tie.Need-add-t-2
 add-t-2 c =
     let s = c .before .before .before in
-    let w = full (s .args .f .q) (s .pre .0 .0) .small in
+    let w = full (s .args .f .q) (s .args .k) (s .pre .0 .0) (s .pre .0 .3) .small in
     omega (arith, s .pre .1 .0 .0 (s .args .k), s .pre .1 .0 .1 (s .args .k))
 
 reduce-requires : tie.Need-reduce-requires
@@ -52,7 +56,7 @@ returns c =
     let s = c .before .before .before .before in
     let q = s .args .f .q in
     let h = s .pre .1 .0 .1 (s .args .k) in
-    let w = full q (s .pre .0 .0) in
+    let w = full q (s .args .k) (s .pre .0 .0) (s .pre .0 .3) in
     let l = c .before .terms .ensures .small in
     c .reduce .ensures ∙ rest-is q (omega arith) (s .args .s .now) (s .args .r .now) (s .args .x .now) (s .args .b .now) (s .args .k) _ (c .before .terms .result) (128 * q) h (c .before .terms .ensures .residue) (omega arith)
 

@@ -1,14 +1,14 @@
--- The sum's invariant: it is the first i terms of the coefficient, at most 128·q². The terms left out at both ends are 0.
+-- The sum's invariant: it is the first i terms of the coefficient, at most q² each. The terms left out at both ends are 0.
 use mathlib.Core.Path.{_≡_, sym, ap, _∙_}
 use Prim.Native.Nat.{ℕ, _≤_, _-_, _+_, _*_, _%_}
 use native.Mathlib.Omega.{arith}
 use lib.ListN.{getD}
 use Rattle.bridge.specs.Product.{dots, dots-more}
 use Rattle.polynomial.specs.Product.{dots-before, dots-all}
-use Rattle.walk.specs.Terms.{dots-small, square-small}
+use Rattle.polynomial.specs.Terms.{dots-small, terms-fit}
 use borrow.Author.Needs.{needs}
-use Rattle.walk.proofs.terms.terms.Statement.{statement}
-use Rattle.walk.proofs.terms.terms.Tie as tie
+use Rattle.polynomial.proofs.product.terms.Statement.{statement}
+use Rattle.polynomial.proofs.product.terms.Tie as tie
 
 abbrev Inv-loop : tie.InvT-loop
 Inv-loop x y k m n end sum₀ i₀ sum i = (i ≤ k + 1) × (sum ≡ dots x y k i)
@@ -16,16 +16,16 @@ Inv-loop x y k m n end sum₀ i₀ sum i = (i ≤ k + 1) × (sum ≡ dots x y k 
 abbrev μ-loop : tie.MeasureT-loop
 μ-loop x y k m n end sum₀ i₀ sum i = k + 1 - i
 
--- one term more stays small
+-- one term more fits
 next : (c : tie.After-sum2 Inv-loop μ-loop)
     → dots (c .before .before .before .before .before .before .args .x .now) (c .before .before .before .before .before .before .args .y .now) (c .before .before .before .before .before .before .args .k) (c .before .before .before .loop .i)
     + getD (c .before .before .before .before .before .before .args .x .now) (c .before .before .before .loop .i) 0
-    * getD (c .before .before .before .before .before .before .args .y .now) (c .before .before .before .before .before .before .args .k - c .before .before .before .loop .i) 0 ≤ 2146435200
+    * getD (c .before .before .before .before .before .before .args .y .now) (c .before .before .before .before .before .before .args .k - c .before .before .before .loop .i) 0 ≤ 2163204225
 next c =
     let s = c .before .before .before .before .before .before in
     let i = c .before .before .before .loop .i in
-    let d : dots (s .args .x .now) (s .args .y .now) (s .args .k) (i + 1) ≤ 128 * (s .args .f .q * s .args .f .q) = dots-small (s .args .f .q) (s .args .x .now) (s .args .y .now) (s .args .m) (s .args .n) (s .pre .1 .0) (s .pre .1 .1) (s .args .k) (i + 1) (omega arith) in
-    let w = square-small (s .args .f .q) (s .pre .0 .0) in
+    let d = dots-small (s .pre .1 .0) (s .pre .1 .1) (s .args .k) (i + 1) (omega arith) in
+    let w = terms-fit (s .args .f .q) (s .args .k) (s .pre .0 .0) (s .pre .0 .1) in
     let e = dots-more (s .args .x .now) (s .args .y .now) (s .args .k) i in
     omega arith
 
@@ -88,7 +88,7 @@ returns c =
     let h = s .pre .1 .0 .reduced 0 in
     record {
       residue = ap (λ (v : ℕ). v % s .args .f .q) (l .inv .1) ∙ dots-all (s .args .f .q) (omega arith) (s .args .x .now) (s .args .y .now) (s .args .k) (s .args .m) (l .i) (s .pre .1 .0 .past) (omega arith) (omega arith);
-      small = rw (l .inv .1) (dots-small (s .args .f .q) (s .args .x .now) (s .args .y .now) (s .args .m) (s .args .n) (s .pre .1 .0) (s .pre .1 .1) (s .args .k) (l .i) (omega arith));
+      small = rw (l .inv .1) (dots-small (s .pre .1 .0) (s .pre .1 .1) (s .args .k) (l .i) (omega arith));
     }
 
 pub terms-spec : {M : Type 1} → statement M
