@@ -1,4 +1,4 @@
--- What holds at each turn of the run: the state at index i, the degree of p_{i−1}, and no constant Q at an index from 1 to i.
+-- What holds at each turn of the run: the state at index i and the degree of p_{i−1}. Whether a constant Q was met is told by the sizes.
 use Prim.Native.Nat.{ℕ, suc, _+_, _*_, _-_, _≤_, _<_}
 use native.Mathlib.Nat.{eq-or-lt-of-le, mul-le-mul}
 use native.Mathlib.Numerals.{add-one}
@@ -17,14 +17,13 @@ use Rattle.run.specs.State.{rootD, State}
 pub record Walked (q g : ℕ) (D : List ℕ) (i : ℕ) (c b r : List ℕ) (size degree : ℕ) : Type 0 where
   pub state : State q g D i c b r size
   pub degree-is : degree ≡ degreeBefore (modulo q) D (rootD q g D) i
-  pub none : NoQuasi (modulo q) D (rootD q g D) i
 
 module _ (q g : ℕ) (D : List ℕ) (h : Admitted q g D) where
   abbrev d : List ℕ
   d = rootD q g D
 
   pub walked-first : (c b r : List ℕ) → State q g D 0 c b r 1 → Walked q g D 0 c b r 1 0
-  walked-first c b r t = record { state = t; degree-is = sym (degree-zero (surd-of h)); none = λ j k l. absurd (omega arith) }
+  walked-first c b r t = record { state = t; degree-is = sym (degree-zero (surd-of h)) }
 
   module _ (i : ℕ) (c b r : List ℕ) (size degree : ℕ) (t : Walked q g D i c b r size degree) where
     -- the degree after one step more, and that it fits
@@ -35,10 +34,17 @@ module _ (q g : ℕ) (D : List ℕ) (h : Admitted q g D) where
     degree-fits k = let m = degree-most (surd-of h) i in let e = t .degree-is in let x : i ≤ 268435456 = omega arith in let y : suc g ≤ 32 = (let l = h .genus-most in omega arith) in let w : i * suc g ≤ 268435456 * 32 = mul-le-mul x y in omega arith
 
     module _ (x y z : List ℕ) (k : ℕ) (u : State q g D (suc i) x y z k) where
-      -- the next Q is not constant
-      pub walked-more : (k ≡ 1 → ⊥) → Walked q g D (i + 1) x y z k (degree + (suc (suc g) - size))
-      walked-more n = subst (λ (j : ℕ). Walked q g D j x y z k (degree + (suc (suc g) - size))) (sym (add-one i)) (record { state = u; degree-is = degree-next; none = λ j p l. ⊎-elim (λ e. λ s. n (u .size-is ∙ ap (λ (m : ℕ). length (Q (modulo q) D d m)) (sym e) ∙ s)) (λ e. t .none j p (omega arith)) (eq-or-lt-of-le l) })
+      pub walked-more : Walked q g D (i + 1) x y z k (degree + (suc (suc g) - size))
+      walked-more = subst (λ (j : ℕ). Walked q g D j x y z k (degree + (suc (suc g) - size))) (sym (add-one i)) (record { state = u; degree-is = degree-next })
 
-      -- the next Q is constant
-      pub walked-found : (m : ℕ) → i < m → k ≡ 1 → Quasi (modulo q) D d m (i + 1)
-      walked-found m l e = subst (Quasi (modulo q) D d m) (sym (add-one i)) (record { positive = omega arith; within = l; constant = sym (u .size-is) ∙ e; least = λ j p n. t .none j p (omega arith) })
+  pub none-first : NoQuasi (modulo q) D d 0
+  none-first j k l = absurd (omega arith)
+
+  module _ (i : ℕ) (none : NoQuasi (modulo q) D d i) (x y z : List ℕ) (k : ℕ) (u : State q g D (suc i) x y z k) where
+    -- the next Q is not constant
+    pub none-more : (k ≡ 1 → ⊥) → NoQuasi (modulo q) D d (i + 1)
+    none-more n j p l = ⊎-elim (λ e. λ s. n (u .size-is ∙ ap (λ (m : ℕ). length (Q (modulo q) D d m)) (sym (e ∙ add-one i)) ∙ s)) (λ e. none j p (omega arith)) (eq-or-lt-of-le l)
+
+    -- the next Q is constant
+    pub none-found : (m : ℕ) → i < m → k ≡ 1 → Quasi (modulo q) D d m (i + 1)
+    none-found m l e = subst (Quasi (modulo q) D d m) (sym (add-one i)) (record { positive = omega arith; within = l; constant = sym (u .size-is) ∙ e; least = λ j p n. none j p (omega arith) })

@@ -5,3 +5,4 @@ pub mod Sizes
 pub mod Coefficients
 pub mod Terms
 pub mod Result
+pub mod Linear

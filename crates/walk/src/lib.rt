@@ -1,4 +1,5 @@
 // The walk of the continued fraction of √D: one step by the recurrences of source 000, and the run to the first constant Q within a budget.
+pub mod linear;
 pub mod reduce;
 pub mod step;
 pub mod terms;

@@ -10,6 +10,7 @@ ghost use Rattle.bridge.specs.Prime.{Prime};
 ghost use Rattle.polynomial.specs.Places.{Places, Within};
 ghost use Rattle.polynomial.specs.Row.{Bounded};
 ghost use Rattle.walk.specs.Step.{stepQuo, nextRem, nextQ, Division, Ready, Moved, Stepped};
+use crate::linear::linear;
 use crate::reduce::reduce;
 use crate::terms::terms;
 use field::Field;
@@ -168,6 +169,32 @@ fn general(
     next(f, reciprocal, before, &a, m + 1 - n, z, r, m, w);
 }
 
+// One step, by the shorter way where the quotient has degree 1.
+fn fill(
+    f: Field,
+    reciprocal: u32,
+    unit: u32,
+    s: &[u32; 129],
+    m: usize,
+    before: &[u32; 129],
+    b: &[u32; 129],
+    n: usize,
+    r: &[u32; 129],
+    z: &mut [u32; 129],
+    w: &mut [u32; 129],
+)
+    requires { ⌜ Prime (f .q) × (f .q < 4096) × (reciprocal ≡ 4294967295 / f .q) × (unit ≡ inverse (f .q) (getD (now b) (n - 1) 0)) ⌝ }
+    requires { ⌜ (0 < n) × (n ≤ m) × (m ≤ 128) ⌝ }
+    requires { ⌜ Ready (f .q) m n (now s) (now before) (now b) (now r) ⌝ }
+    ensures { λ _. ⌜ Moved (f .q) (now (s .entry)) (now (before .entry)) (now (b .entry)) (now (r .entry)) (now (z .exit)) (now (w .exit)) ⌝ }
+{
+    if m == n + 1 {
+        linear(f, reciprocal, unit, s, before, b, n, r, z, w);
+    } else {
+        general(f, reciprocal, unit, s, m, before, b, n, r, z, w);
+    }
+}
+
 // One step: z becomes the next r and w the next Q, whose size is returned.
 pub fn step(
     f: Field,
@@ -189,6 +216,6 @@ pub fn step(
     ensures { λ k. ⌜ Stepped (f .q) (now (s .entry)) (now (before .entry)) (now (b .entry)) (now (r .entry)) (now (z .exit)) (now (w .exit)) k ⌝ }
 {
     let unit = inverses[b[n - 1] as usize];
-    general(f, reciprocal, unit, s, m, before, b, n, r, z, w);
+    fill(f, reciprocal, unit, s, m, before, b, n, r, z, w);
     top(w, m)
 }

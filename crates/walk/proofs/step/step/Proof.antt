@@ -24,20 +24,20 @@ mul-unit-2 c = let s = c .before in omega (arith, s .pre .1 .1 .1 .b-within .red
 element-copy-out-unit-2 : tie.Need-element-copy-out-unit-2
 element-copy-out-unit-2 c = let s = c .before in omega (arith, s .pre .1 .1 .1 .b-within .reduced (s .args .n - 1))
 
-general-requires : tie.Need-general-requires
-general-requires c κs =
+fill-requires : tie.Need-fill-requires
+fill-requires c κs =
     let s = c .before .before .before .before in
     ((s .pre .0 .0, s .pre .0 .1, s .pre .0 .2, s .pre .1 .1 .0 _ (s .pre .1 .1 .1 .b-within .reduced (s .args .n - 1))), (s .pre .1 .0, s .pre .1 .1 .1))
 
 top-requires : tie.Need-top-requires
 top-requires c κs =
     let s = c .before .before .before .before .before .before in
-    (omega arith, next-past (s .args .f .q) (s .pre .0 .0) (s .args .m) (s .args .n) (s .pre .1 .0 .0) (s .pre .1 .0 .1) (s .pre .1 .0 .2) (s .args .s .now) (s .args .before .now) (s .args .b .now) (s .args .r .now) (s .pre .1 .1 .1) _ _ (c .before .general .ensures))
+    (omega arith, next-past (s .args .f .q) (s .pre .0 .0) (s .args .m) (s .args .n) (s .pre .1 .0 .0) (s .pre .1 .0 .1) (s .pre .1 .0 .2) (s .args .s .now) (s .args .before .now) (s .args .b .now) (s .args .r .now) (s .pre .1 .1 .1) _ _ (c .before .fill .ensures))
 
 returns : tie.Need-returns
 returns c =
     let s = c .before .before .before .before .before .before .before in
-    stepped (s .args .f .q) (s .pre .0 .0) (s .args .m) (s .args .n) (s .pre .1 .0 .0) (s .pre .1 .0 .1) (s .pre .1 .0 .2) (s .args .s .now) (s .args .before .now) (s .args .b .now) (s .args .r .now) (s .pre .1 .1 .1) _ _ (c .before .before .general .ensures) _ (c .top .ensures)
+    stepped (s .args .f .q) (s .pre .0 .0) (s .args .m) (s .args .n) (s .pre .1 .0 .0) (s .pre .1 .0 .1) (s .pre .1 .0 .2) (s .args .s .now) (s .args .before .now) (s .args .b .now) (s .args .r .now) (s .pre .1 .1 .1) _ _ (c .before .before .fill .ensures) _ (c .top .ensures)
 
 pub step-spec : {M : Type 1} → statement M
 step-spec =
@@ -49,6 +49,6 @@ step-spec =
     cast-unit
     mul-unit-2
     element-copy-out-unit-2
-    general-requires
+    fill-requires
     top-requires
     returns)

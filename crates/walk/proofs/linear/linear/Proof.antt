@@ -1,0 +1,29 @@
+-- The two coefficients, then the two passes.
+use Rattle.walk.specs.Step.{Division}
+use borrow.Author.Needs.{needs}
+use Rattle.walk.proofs.linear.linear.Statement.{statement}
+use Rattle.walk.proofs.linear.linear.Tie as tie
+
+upper-requires : tie.Need-upper-requires
+upper-requires c κs = search needs
+
+lower-requires : tie.Need-lower-requires
+lower-requires c κs = search needs
+
+remainder-requires : tie.Need-remainder-requires
+remainder-requires c κs =
+    let s = c .before .before .before in
+    let g = s .pre .1 .2 in
+    ((s .pre .0 .0, s .pre .0 .1, s .pre .0 .2), ((s .pre .1 .0, s .pre .1 .1, record { s-within = g .s-within; r-within = g .r-within; b-within = g .b-within; b-top = g .b-top }), (c .before .lower .ensures, c .before .before .upper .ensures)))
+
+next-requires : tie.Need-next-requires
+next-requires c κs =
+    let s = c .before .before .before .before .before .before in
+    ((s .pre .0 .0, s .pre .0 .1, s .pre .0 .2), (s .pre .1, ((c .before .before .before .before .lower .ensures, c .before .before .before .before .before .upper .ensures), c .before .before .remainder .ensures)))
+
+returns : tie.Need-returns
+returns c = record { rem-places = c .before .before .before .remainder .ensures; q-places = c .next .ensures }
+
+pub linear-spec : {M : Type 1} → statement M
+linear-spec =
+    tie.close (tie.spec upper-requires lower-requires remainder-requires next-requires returns)
