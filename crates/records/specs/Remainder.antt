@@ -17,8 +17,7 @@ use Rattle.polynomial.specs.Record.{poly, Held, Is}
 use Rattle.polynomial.specs.Held.{held-positive, is-held}
 use Rattle.polynomial.specs.Linear.{is-result, sub-zeros}
 use Rattle.polynomial.specs.Places.{Places, Within, Top}
-use Rattle.polynomial.specs.Result.{Result, result, result-monic}
-use Rattle.polynomial.specs.Result.{held-size}
+use Rattle.polynomial.specs.Result.{Result, result, result-monic, held-size}
 
 module _ (q : ℕ) (pos : 0 < q) (x y z : List ℕ) (k : ℕ) where
   -- the difference of places that are 0 from k on

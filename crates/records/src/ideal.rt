@@ -35,8 +35,10 @@ pub fn ideal_of(
     let mut z = [0u32; 129];
     sub_places(f, d, r, m, &mut z);
     let k = top(&z, m);
-    let q = monic(f, Poly { c: *b, size: size });
-    let s = div_by(f, Poly { c: z, size: k }, q);
+    let x = Poly { c: *b, size: size };
+    let q = monic(f, x);
+    let y = Poly { c: z, size: k };
+    let s = div_by(f, y, q);
     let p = s.rem;
     Ideal { q: q, p: p }
 }
