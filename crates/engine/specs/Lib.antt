@@ -2,4 +2,3 @@ pub mod Accepted
 pub mod Regulator
 pub mod Found
 pub mod Listing
-pub mod Unit

@@ -1,6 +1,0 @@
-pub mod Written
-pub mod Sum
-pub mod Pair
-pub mod Recurrence
-pub mod Progress
-pub mod Lists
