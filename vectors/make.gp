@@ -13,6 +13,9 @@ top = 2^28 - 1;
 \\ The words for q, the coefficients c of D (constant term first) and the budget b.
 ticket(q, c, b) = concat([[word(1, q), word(2, #c - 1)], [word(3, v) | v <- c], [word(4, b), word(15, #c + 3)]]);
 
+\\ No square of a polynomial of degree 1 or more divides D.
+nosquare(c, q) = vecmax(factormod(Pol(Vecrev(c)), q)[, 2]) == 1;
+
 \\ The first refusal of 1 to 7, or 0. Primality is PARI's own; a square factor is read off the factorization.
 refusal(w) =
 {
@@ -28,11 +31,11 @@ refusal(w) =
   c = [value(v) | v <- w[3 .. n + 3]];
   if (vecmax(c) >= q, return(5));
   if (c[n + 1] != 1, return(6));
-  if (vecmax(factormod(Pol(Vecrev(c)), q)[, 2]) > 1, return(7));
+  if (!nosquare(c, q), return(7));
   0;
 };
 
-\\ Expansions already made, longest last: several budgets share one D.
+\\ Expansions already made, by D: several budgets share one.
 known = Map();
 expand(D, most) =
 {
@@ -65,10 +68,9 @@ answer(w) =
 \\ ---- choices of D
 
 chance(c, q) = vector(c, i, random(q));
-issquarefree2(c, q) = vecmax(factormod(Pol(Vecrev(c)), q)[, 2]) == 1;
 
 \\ A random D without square factors, as coefficients.
-someD(q, n) = { my(c); until (issquarefree2(c, q), c = concat(chance(n, q), [1])); c };
+someD(q, n) = { my(c); until (nosquare(c, q), c = concat(chance(n, q), [1])); c };
 
 \\ A D of degree n whose expansion is [d; a_1, .., a_r, 2d, ..] with palindromic a of total degree at most n/2, so that the
 \\ quasi-period is at most r + 1 however large q is. D = d^2 + (2*d*t + u)/s with [s, t; t, u] the product of the [a_j, 1; 1, 0].
@@ -87,7 +89,7 @@ shortD(q, n, r) =
     d = monic(d);
     if ((2 * d * t + u) % s != 0, next);
     c = numbers(d^2 + (2 * d * t + u) / s);
-    if (#c == n + 1 && issquarefree2(c, q), return(c)));
+    if (#c == n + 1 && nosquare(c, q), return(c)));
 };
 
 \\ [q, n, number of D]: random D with quasi-periods of up to some thousands.
@@ -115,6 +117,8 @@ regulators() =
   setrand(1);
   about(3, [1, 1, 0, 0, 1]); about(3, [1, 0, 1]); about(5, [2, 0, 0, 0, 1]);
   for (i = 1, #small, [q, n, h] = small[i]; for (j = 1, h, about(q, someD(q, n))));
+  \\ quasi-periods 1,023 to 1,025 at n = 4, found by search: listings of 8,184, 8,192 and 8,200 words, about the program's 8,192
+  about(1999, [989, 1412, 0, 0, 1]); about(1999, [101, 1091, 0, 0, 1]); about(1999, [1808, 1993, 0, 0, 1]);
   \\ every degree with a short quasi-period, also where q is large
   forstep (n = 2, 64, 2, q = primes1[1 + random(10)]; about(q, shortD(q, n, random(n / 2))));
   for (r = 0, 12, about(4093, shortD(4093, 24, r)));
@@ -127,12 +131,12 @@ regulators() =
 \\ Each refusal beside tickets that just escape it.
 refusals() =
 {
-  my(c, w, v, q, good = ticket(3, [1, 1, 0, 0, 1], 6), least = ticket(5, [2, 0, 1], 1), long = ticket(4093, shortD(4093, 64, 5), 6));
+  my(c, w, v, q, good = ticket(3, [1, 1, 0, 0, 1], 6), seven = ticket(5, [2, 0, 1], 1), long = ticket(4093, shortD(4093, 64, 5), 6));
   \\ 1: counts, and the kinds of the first two words
-  for (k = 0, 7, job(least[1 .. k]));
-  foreach ([good, least], u, for (i = 1, #u, foreach ([0, 1, 2, 3, 4, 5, 14, 15], k, if (k != kind(u[i]), w = u; w[i] = word(k, value(u[i])); job(w)))));
+  for (k = 0, 7, job(seven[1 .. k]));
+  foreach ([good, seven], u, for (i = 1, #u, foreach ([0, 1, 2, 3, 4, 5, 14, 15], k, if (k != kind(u[i]), w = u; w[i] = word(k, value(u[i])); job(w)))));
   \\ 4: counts and the end word; the longest ticket has 69 words
-  foreach ([good, least, long], u,
+  foreach ([good, seven, long], u,
     job(u); job(u[1 .. #u - 1]); job(concat(u, [u[#u]])); job(concat(u, [0]));
     foreach ([-1, 1], k, w = u; w[#w] += k; job(w);
       w = concat(u[1 .. #u - 1], [word(15, value(u[#u]) + k)]); if (k > 0, w = concat(w, [w[#w]])); job(w)));

@@ -14,14 +14,16 @@ pub fn add(f: Field, a: u32, b: u32) -> u32
     requires { ⌜ (f .q < 4096) × (a < f .q) × (b < f .q) ⌝ }
     ensures { λ r. ⌜ r ≡ modulo (f .q) .add a b ⌝ }
 {
-    (a + b) % f.q
+    let q = f.q;
+    let sum = a + b;
+    if sum < q { sum } else { sum - q }
 }
 
 pub fn sub(f: Field, a: u32, b: u32) -> u32
     requires { ⌜ (f .q < 4096) × (a < f .q) × (b < f .q) ⌝ }
     ensures { λ r. ⌜ r ≡ modulo (f .q) .sub a b ⌝ }
 {
-    (a + (f.q - b)) % f.q
+    if b <= a { a - b } else { a + (f.q - b) }
 }
 
 pub fn neg(f: Field, a: u32) -> u32

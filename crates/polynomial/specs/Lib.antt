@@ -3,10 +3,10 @@ pub mod Pad
 pub mod Held
 pub mod Places
 pub mod Linear
+pub mod Result
 pub mod Row
 pub mod Product
 pub mod Divided
-pub mod Results
 pub mod Division
 pub mod Gcd
 pub mod Bezout

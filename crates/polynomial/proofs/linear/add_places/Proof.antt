@@ -35,7 +35,9 @@ add-requires : tie.Need-add-requires Inv-loop μ-loop
 add-requires c κs =
     let s = c .before .before .before .before .before in
     let i = c .before .before .before .loop .i in
-    (search needs, s .pre .1 .0 .reduced i, s .pre .1 .1 .reduced i)
+    let x = s .pre .1 .0 .reduced i in
+    let y = s .pre .1 .1 .reduced i in
+    (search needs, omega arith, omega arith)
 
 mul-z : tie.Need-mul-z Inv-loop μ-loop
 mul-z c = search needs

@@ -1,0 +1,213 @@
+-- T2: the walk of a ticket past its refusals is the continued fraction of √D. d is the only monic polynomial of degree g + 1 with deg(D − d²) ≤ g; the walk's equations,
+-- the norms and the determinant hold at every index, with no bound; and the outcome is told by the least index whose Q is a nonzero constant.
+-- Polynomials are lists of coefficients, read modulo q. The proof reads the equations of the continued fraction off as equations of lists.
+use Prim.Native.Nat.{ℕ, zero, suc, _+_, _-_, _%_, _≤_, _<_}
+use native.Mathlib.Nat.{mod-eq-of-lt}
+use native.Mathlib.Omega.{arith}
+use mathlib.Core.Path.{_≡_, refl, sym, ap, _∙_, subst}
+use mathlib.Core.Logic.{_≢_}
+use mathlib.Core.List.{List, [], _∷_}
+use mathlib.Core.Option.{Option, none, some}
+use lib.ListN.{length, getD}
+use Rattle.algebra.specs.Field.{Field}
+use Rattle.algebra.specs.Polynomial.{F, Px, low-path}
+use Rattle.algebra.specs.Root.{IsRoot, root-unique}
+use Rattle.ring.specs.Series.{addS, negS, conv}
+use Rattle.ring.specs.Residues.{Fq}
+use Rattle.definitions.specs.Field.{modulo}
+use Rattle.definitions.specs.Polynomials.{size, deg, add, sub, mul, root}
+use Rattle.definitions.specs.Ticket.{Ticket, genus, ticketOf, refusalOf}
+use Rattle.definitions.specs.Walk.{quasiPeriod, degreeBefore, constantOf}
+use Rattle.definitions.specs.Walk as walk
+use Rattle.definitions.specs.Answers.{Outcome, found, spent, refused, opsOf, rootOf, outcomeOf, wordsOutcome}
+use Rattle.bridge.specs.Model.{Model, series}
+use Rattle.bridge.specs.Trim.{below-size, size-le, size-is}
+use Rattle.bridge.specs.Arithmetic.{series-sub, series-mul}
+use Rattle.bridge.specs.Residues.{pos, model, field, to-path, to-val}
+use Rattle.bridge.specs.Degree.{monic-size, deg-is}
+use Rattle.bridge.specs.Root as roots
+use Rattle.laws.specs.Surd.{Surd, Q-zero, Q-trim, a-trim}
+use Rattle.laws.specs.Fraction.{Q-some, Q-length}
+use Rattle.laws.specs.Walk.{a-length}
+use Rattle.laws.specs.Convergents.{degree-zero, degree-suc}
+use Rattle.laws.specs.Signs.{signed, normOf}
+use Rattle.laws.specs.Norms as norms
+use Rattle.laws.specs.QuasiPeriod.{Quasi, NoQuasi, Says, quasi-says}
+use Rattle.laws.specs.Admitted.{Admitted, surd-of, admitted}
+use Rattle.demands.specs.LeastDegree.{Same}
+
+-- f(1) + .. + f(i)
+unfoldable pub sumTo : (ℕ → ℕ) → ℕ → ℕ
+sumTo f zero = 0
+sumTo f (suc i) = sumTo f i + f (suc i)
+
+-- f is monic of degree g + 1, and D − f² has at most the degree g
+pub record RootOf (q g : ℕ) (D f : List ℕ) : Type 0 where
+  pub degree : size (modulo q) f ≡ suc (suc g)
+  pub monic : getD f (suc g) 0 % q ≡ 1
+  pub near : size (modulo q) (sub (modulo q) D (mul (modulo q) f f)) ≤ suc g
+
+module _ (q : ℕ) (D d : List ℕ) where
+  infixl 6 _⊕_ _⊖_
+  infixl 7 _⊗_
+  abbrev _⊕_ : List ℕ → List ℕ → List ℕ
+  f ⊕ h = add (modulo q) f h
+
+  abbrev _⊖_ : List ℕ → List ℕ → List ℕ
+  f ⊖ h = sub (modulo q) f h
+
+  abbrev _⊗_ : List ℕ → List ℕ → List ℕ
+  f ⊗ h = mul (modulo q) f h
+
+  abbrev Q : ℕ → List ℕ
+  Q = walk.Q (modulo q) D d
+
+  abbrev P : ℕ → List ℕ
+  P = walk.P (modulo q) D d
+
+  abbrev a : ℕ → List ℕ
+  a = walk.a (modulo q) D d
+
+  -- p_{i−1} and s_{i−1}
+  abbrev p : ℕ → List ℕ
+  p = walk.pBefore (modulo q) D d
+
+  abbrev s : ℕ → List ℕ
+  s = walk.sBefore (modulo q) D d
+
+  -- at every index i: `product` is Q_i·Q_{i+1} = D − P_{i+1}², `sum` is P_{i+1} + P_i = a_i·Q_i, `norm` is p_{i−1}² − D·s_{i−1}² = (−1)^i·Q_i,
+  -- `determinant` is p_i·s_{i−1} − p_{i−1}·s_i = (−1)^{i+1}, and `degree` is deg p_i = (g + 1) + deg a_1 + .. + deg a_i
+  pub record Continued (g : ℕ) : Type 0 where
+    pub root : RootOf q g D d
+    pub root-only : (f : List ℕ) → RootOf q g D f → Same q f d
+    pub Q-not-zero : (i : ℕ) → size (modulo q) (Q i) ≢ 0
+    pub product : (i : ℕ) → Q i ⊗ Q (suc i) ≡ D ⊖ P (suc i) ⊗ P (suc i)
+    pub sum : (i : ℕ) → P (suc i) ⊕ P i ≡ a i ⊗ Q i
+    pub norm : (i : ℕ) → p i ⊗ p i ⊖ D ⊗ (s i ⊗ s i) ≡ signed (modulo q) i (Q i)
+    pub determinant : (i : ℕ) → p (suc i) ⊗ s i ⊖ p i ⊗ s (suc i) ≡ signed (modulo q) (suc i) (1 ∷ [])
+    pub degree : (i : ℕ) → deg (modulo q) (p (suc i)) ≡ suc g + sumTo (λ j. deg (modulo q) (a j)) i
+
+  -- m is the least index from 1 to b whose Q is a nonzero constant, R is deg p_{m−1}, and c is (−1)^m·Q_m
+  pub record StopsAt (b R m c : ℕ) : Type 0 where
+    pub positive : 0 < m
+    pub within : m ≤ b
+    pub constant : size (modulo q) (Q m) ≡ 1
+    pub least : (j : ℕ) → 0 < j → j < m → size (modulo q) (Q j) ≢ 1
+    pub regulator : R ≡ deg (modulo q) (p m)
+    pub value : c ∷ [] ≡ signed (modulo q) m (Q m)
+
+  -- all b steps are made, no index from 1 to b has such a Q, and e is deg p_{b−1}
+  pub record Spends (b k e : ℕ) : Type 0 where
+    pub all : k ≡ b
+    pub none-constant : (j : ℕ) → 0 < j → j ≤ b → size (modulo q) (Q j) ≢ 1
+    pub reached : e ≡ deg (modulo q) (p b)
+
+  abbrev pub Ends : ℕ → Outcome → Type 0
+  Ends b (found R m c) = StopsAt b R m c
+  Ends b (spent k e) = Spends b k e
+  Ends b (refused j) = ⊥
+
+pub record Walks (t : Ticket) (x : Outcome) : Type 0 where
+  pub continued : Continued (t .q) (t .D) (rootOf t) (genus (t .n))
+  pub ends : Ends (t .q) (t .D) (rootOf t) (t .b) x
+
+abbrev pub T2 : Type 0
+T2 = (w : List ℕ) → refusalOf w ≡ 0 → Walks (ticketOf w) (wordsOutcome w)
+
+-- ---- the proof, for a D that is admitted
+module _ {q g : ℕ} {D : List ℕ} (h : Admitted q g D) where
+  abbrev K : Field (Fq q)
+  K = field q (h .prime) (h .odd)
+
+  abbrev M : Model (modulo q) (F K)
+  M = model q (pos q (h .prime))
+
+  abbrev d : List ℕ
+  d = root (modulo q) D (suc g)
+
+  abbrev z : Surd K M g D d
+  z = surd-of h
+
+  one-is : 1 % q ≡ 1
+  one-is = mod-eq-of-lt (let l = h .odd in omega arith)
+
+  -- ---- roots as lists and over the field
+  gap : (f : List ℕ) → series M (sub (modulo q) D (mul (modulo q) f f)) ≡ addS (F K) (series M D) (negS (F K) (conv (F K) (series M f) (series M f)))
+  gap f = series-sub M D (mul (modulo q) f f) ∙ ap (λ (u : Px K). addS (F K) (series M D) (negS (F K) u)) (series-mul M f f)
+
+  is-root : (f : List ℕ) → RootOf q g D f → IsRoot K (series M D) (series M f) (suc g)
+  is-root f r = record {
+    monic = record { low = λ i l. below-size M f i (let e = size-is M f in let k = r .degree in omega arith); top = to-path q (pos q (h .prime)) _ _ (r .monic ∙ sym one-is) };
+    low = low-path K (suc g) (gap f) (λ i l. below-size M (sub (modulo q) D (mul (modulo q) f f)) i (let e = size-is M (sub (modulo q) D (mul (modulo q) f f)) in let k = r .near in omega arith));
+  }
+
+  root-of : RootOf q g D d
+  root-of = record {
+    degree = size-is M d ∙ monic-size K M d (z .is-root .monic);
+    monic = to-val q (pos q (h .prime)) _ _ (z .is-root .monic .top) ∙ one-is;
+    near = let e = size-is M (sub (modulo q) D (mul (modulo q) d d)) in let k = size-le M (sub (modulo q) D (mul (modulo q) d d)) (suc g) (low-path K (suc g) (sym (gap d)) (z .is-root .low)) in omega arith;
+  }
+
+  only : (f : List ℕ) → RootOf q g D f → Same q f d
+  only f r i = to-val q (pos q (h .prime)) _ _ (ap (λ (u : Px K). u i) (root-unique K (is-root f r) (z .is-root)))
+
+  -- ---- sizes of Q, degrees of a
+  size-Q : (i : ℕ) → size (modulo q) (walk.Q (modulo q) D d i) ≡ length (walk.Q (modulo q) D d i)
+  size-Q i = size-is M _ ∙ ap length (Q-trim z i)
+
+  degrees : (i : ℕ) → degreeBefore (modulo q) D d (suc i) ≡ suc g + sumTo (λ j. deg (modulo q) (walk.a (modulo q) D d j)) i
+  unfolding sumTo
+  degrees zero = let e = degree-suc z 0 in let k = degree-zero z in let l : length (walk.Q (modulo q) D d 0) ≡ 1 = ap length (Q-zero z) in omega arith
+  degrees (suc i) =
+      let e = degrees i in
+      let k = degree-suc z (suc i) in
+      let l = deg-is K M (walk.a (modulo q) D d (suc i)) in
+      let t = ap length (a-trim z (suc i)) in
+      let u = a-length z (suc i) in
+      let v = Q-length z (suc i) in
+      let x = Q-some z (suc i) in
+      omega arith
+
+  continued : Continued q D d g
+  unfolding normOf degreeBefore
+  continued = record {
+    root = root-of;
+    root-only = only;
+    Q-not-zero = λ i e. let k = Q-some z i in let l = size-Q i in omega arith;
+    product = norms.Q-product z;
+    sum = norms.P-product z;
+    norm = norms.norm-is z;
+    determinant = λ i. norms.determinant-is z i ∙ ap (λ (c : ℕ). signed (modulo q) (suc i) (c ∷ [])) one-is;
+    degree = degrees;
+  }
+
+  -- ---- the outcomes
+  stops : (b m : ℕ) → Quasi (modulo q) D d b m → StopsAt q D d b (degreeBefore (modulo q) D d m) m (constantOf (modulo q) D d m)
+  unfolding degreeBefore
+  stops b m f = record {
+    positive = f .positive;
+    within = f .within;
+    constant = size-Q m ∙ f .constant;
+    least = λ j l u e. f .least j l u (sym (size-Q j) ∙ e);
+    regulator = refl;
+    value = sym (norms.constant-is z m (f .constant));
+  }
+
+  spends : (b : ℕ) → NoQuasi (modulo q) D d b → Spends q D d b b (degreeBefore (modulo q) D d b)
+  unfolding degreeBefore
+  spends b f = record { all = refl; none-constant = λ j l u e. f j l u (sym (size-Q j) ∙ e); reached = refl }
+
+walks : (t : Ticket) → Admitted (t .q) (genus (t .n)) (t .D) → Walks t (outcomeOf t)
+unfolding outcomeOf rootOf
+walks t h = record { continued = continued h; ends = go (quasiPeriod (opsOf t) (t .D) d′ (t .b)) (quasi-says (surd-of h) (t .b)) }
+  where
+    d′ : List ℕ
+    d′ = root (opsOf t) (t .D) (suc (genus (t .n)))
+
+    go : (x : Option ℕ) → Says (surd-of h) (t .b) x → Ends (t .q) (t .D) d′ (t .b) (elim x [ none ↦ spent (t .b) (degreeBefore (opsOf t) (t .D) d′ (t .b)) | some m ↦ found (degreeBefore (opsOf t) (t .D) d′ m) m (constantOf (opsOf t) (t .D) d′ m) ])
+    go none f = spends h (t .b) f
+    go (some m) f = stops h (t .b) m f
+
+pub t2 : T2
+unfolding wordsOutcome
+t2 w e = subst (λ (k : ℕ). Walks (ticketOf w) (elim k [ zero ↦ outcomeOf (ticketOf w) | suc k ↦ refused (suc k) ])) (sym e) (walks (ticketOf w) (admitted w e))

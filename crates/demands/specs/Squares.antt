@@ -1,0 +1,96 @@
+-- Sentence 7 over the field of q elements: the square of a polynomial of degree 1 or more divides D exactly where the gcd of D and D′ is not constant (F3 of the algebra).
+-- The square factor is carried from lists to polynomials and back.
+use Prim.Native.Nat.{ℕ, suc, _-_ as _-ₙ_, _≤_, _<_}
+use native.Mathlib.Omega.{arith}
+use mathlib.Core.Path.{_≡_, refl, sym, ap, ap₂, _∙_, subst}
+use mathlib.Core.Logic.{_≢_, ⊎-elim, Iff·trans}
+use mathlib.Core.List.{List}
+use lib.ListN.{length, getD}
+use Rattle.ring.specs.Order.{le-or-lt}
+use Rattle.ring.specs.Residues.{Fq, FqRing}
+use Rattle.ring.specs.Series.{conv}
+use Rattle.algebra.specs.Field.{Field}
+use Rattle.algebra.specs.Polynomial.{F, Deg, deg-path, deg-not-zero, monic-deg}
+use Rattle.algebra.specs.Gcd.{IsGcd, gcd-zero}
+use Rattle.algebra.specs.Derivative.{derivative as ∂}
+use Rattle.algebra.specs.Squarefree.{SquareFactor, square-gcd, gcd-square}
+use Rattle.algebra.specs.Fermat.{perfect-residues}
+use Rattle.definitions.specs.Field.{modulo}
+use Rattle.definitions.specs.Polynomials.{trim, size, mul, gcd, derivative}
+use Rattle.definitions.specs.Ticket.{notSquarefree}
+use Rattle.bridge.specs.Model.{Model, Oks, series}
+use Rattle.bridge.specs.Trim.{below-length, length-trim, size-is, series-trim, series-ext, trim-idem, oks-trim}
+use Rattle.bridge.specs.Arithmetic.{series-mul, trim-mul, oks-mul}
+use Rattle.bridge.specs.Degree.{series-deg, series-zero, series-monic-of, deg-size}
+use Rattle.bridge.specs.Coefficients.{coefficients, series-coefficients}
+use Rattle.bridge.specs.Derivative.{series-derivative}
+use Rattle.bridge.specs.Euclid.{gcd-is}
+use Rattle.bridge.specs.Prime.{Prime}
+use Rattle.bridge.specs.Residues.{pos, model, inverts, onto, field}
+use Rattle.demands.specs.Sentences.{SquareDivides}
+use Rattle.demands.specs.Tests.{Tests, tests-eq, tests-not}
+
+module _ (q : ℕ) (p : Prime q) (more : 2 < q) where
+  abbrev M : Model (modulo q) (FqRing q (pos q p))
+  M = model q (pos q p)
+
+  abbrev K : Field (Fq q)
+  K = field q p more
+
+  -- ---- a square that divides D, on lists and on polynomials
+  square-factor : (D : List ℕ) → SquareDivides q D → SquareFactor K (series M D)
+  square-factor D s = record {
+    factor = series M (s .h);
+    size = length (trim (modulo q) (s .h)) -ₙ 1;
+    some = omega (arith, size-is M (s .h), s .degree);
+    deg = series-deg K M (s .h) (omega (arith, size-is M (s .h), s .degree));
+    divides = record {
+      by = series M (s .e);
+      size = length (s .e);
+      low = below-length M (s .e);
+      is = sym (series-trim M D) ∙ ap (series M) (s .product) ∙ series-mul M (mul (modulo q) (s .h) (s .h)) (s .e) ∙ ap (λ f. conv (F K) f (series M (s .e))) (series-mul M (s .h) (s .h));
+    };
+  }
+
+  square-lists : (D : List ℕ) → Oks M D → SquareFactor K (series M D) → SquareDivides q D
+  square-lists D low s = record {
+    h = h;
+    e = e;
+    degree = omega (arith, s .some, size-is M h, deg-size K M h (deg-path K (s .size) (sym h-is) (s .deg)));
+    product = series-ext M _ _ (trim-idem M D) (trim-mul M (mul (modulo q) h h) e) (oks-trim M D low) (oks-mul M (mul (modulo q) h h) e) same;
+  }
+    where
+      h : List ℕ
+      h = coefficients M (onto q p) (s .factor) (suc (s .size))
+
+      e : List ℕ
+      e = coefficients M (onto q p) (s .divides .by) (s .divides .size)
+
+      h-is : series M h ≡ s .factor
+      h-is = series-coefficients M (onto q p) (s .factor) (suc (s .size)) (s .deg .low)
+
+      e-is : series M e ≡ s .divides .by
+      e-is = series-coefficients M (onto q p) (s .divides .by) (s .divides .size) (s .divides .low)
+
+      same : series M (trim (modulo q) D) ≡ series M (mul (modulo q) (mul (modulo q) h h) e)
+      same = series-trim M D ∙ s .divides .is ∙ sym (series-mul M (mul (modulo q) h h) e ∙ ap₂ (conv (F K)) (series-mul M h h ∙ ap (λ f. conv (F K) f f) h-is) e-is)
+
+  -- ---- the gcd of D and D′ is not constant
+  pub tests-square : (D : List ℕ) (n : ℕ) → length D ≤ suc n → getD D n 0 ≡ 1 → ((i : ℕ) → getD D i 0 < q) → Tests (notSquarefree q D) (SquareDivides q D)
+  unfolding notSquarefree
+  tests-square D n long lead low = Iff·trans (tests-not (tests-eq (size (modulo q) G) 1)) (λ h. square-lists D low (some h), λ s e. constant (square-gcd K d is (square-factor D s)) e)
+    where
+      d : Deg K (series M D) n
+      d = monic-deg K (series-monic-of K M D n (omega (arith, length-trim M D)) (ap (M .φ) lead))
+
+      G : List ℕ
+      G = gcd (modulo q) D (derivative (modulo q) D)
+
+      is : IsGcd K (series M D) (∂ (F K) (series M D)) (series M G)
+      is = subst (λ f. IsGcd K (series M D) f (series M G)) (series-derivative M D) (gcd-is K M (inverts q (pos q p) p) D (derivative (modulo q) D))
+
+      constant : (m : ℕ) × (1 ≤ m) × Deg K (series M G) m → size (modulo q) G ≡ 1 → ⊥
+      constant (m, l, t) e = omega (arith, size-is M G, deg-size K M G t)
+
+      some : size (modulo q) G ≢ 1 → SquareFactor K (series M D)
+      some h = ⊎-elim (λ l. gcd-square K (perfect-residues q (pos q p) p K refl) is (⊎-elim (λ k. omega arith) (λ k. absurd (h (size-is M G ∙ omega arith))) (le-or-lt 2 (length (trim (modulo q) G)))) (series-deg K M G l)) (λ l. absurd (deg-not-zero K d (gcd-zero K is (series-zero K M G (omega arith)) .0))) (le-or-lt 1 (length (trim (modulo q) G)))
