@@ -39,55 +39,38 @@ module _ {t k : ℕ} {u v old-p old-x p x : List ℕ} (w : Pair t k u v old-p ol
         | no n ↦ (written-again k v l old-p p new-p (w .odd n .0) a, written-again k u m old-x x new-x (w .odd n .1) b)
       ]
 
-module _ {q : ℕ} (n : ℕ) {D : List ℕ} (h : Admitted q (genus n) D) (m : ℕ) where
-  -- an index is at most the degree of its convergent
-  pub index-most : m ≤ degreeBefore (modulo q) D (rootD q (genus n) D) m
-  index-most = go m
-    where
-      go : (m : ℕ) → m ≤ degreeBefore (modulo q) D (rootD q (genus n) D) m
-      go zero = omega arith
-      go (suc i) = let l = degree-least (surd-of h) i in omega arith
+-- an index is at most the degree of its convergent
+pub index-most : {q g : ℕ} {D : List ℕ} → Admitted q g D → (m : ℕ) → m ≤ degreeBefore (modulo q) D (rootD q g D) m
+index-most h zero = omega arith
+index-most h (suc i) = let l = degree-least (surd-of h) i in omega arith
 
-  module _ {k : ℕ} {old-p old-s old-x old-y p s x y : List ℕ} (u : Pair m k (1 ∷ []) [] old-p old-x p x) (v : Pair (m + 1) k (1 ∷ []) [] old-s old-y s y) where
-    pub progress-start : Progress q (genus n) D k m 0 p s x y p s x y
-    progress-start = progress-first h m (pair-self u) (pair-self v)
+module _ {q g : ℕ} {D : List ℕ} (h : Admitted q g D) {m k : ℕ} {old-p old-s old-x old-y p s x y : List ℕ} (u : Pair m k (1 ∷ []) [] old-p old-x p x) (v : Pair (m + 1) k (1 ∷ []) [] old-s old-y s y) where
+  pub start-progress : Progress q g D k m 0 p s x y p s x y
+  start-progress = progress-first h m (pair-self u) (pair-self v)
 
-    pub start-room : Room k old-p old-s old-x old-y → Room k p s x y
-    start-room r =
-        let a = pair-long m k _ _ old-p old-x p x u in
-        let b = pair-long (m + 1) k _ _ old-s old-y s y v in
-        record { p-room = omega arith; s-room = omega arith; x-room = omega arith; y-room = omega arith }
+  pub start-long : ((length p ≡ length old-p) × (length x ≡ length old-x)) × ((length s ≡ length old-s) × (length y ≡ length old-y))
+  start-long = (pair-long m k _ _ old-p old-x p x u, pair-long (m + 1) k _ _ old-s old-y s y v)
 
-    module _ {last-p last-s last-x last-y : List ℕ} (w : Ended q (genus n) D k m p s x y last-p last-s last-x last-y) where
-      pub end-room : Room k old-p old-s old-x old-y → Room k last-p last-s last-x last-y
-      end-room r =
-          let t = start-room r in
-          let a = w .p-is .long in
-          let b = w .s-is .long in
-          let c = w .x-is .long in
-          let d = w .y-is .long in
-          record { p-room = omega arith; s-room = omega arith; x-room = omega arith; y-room = omega arith }
+  pub start-room : Room k old-p old-s old-x old-y → Room k p s x y
+  start-room r = let e = start-long in record { p-room = omega arith; s-room = omega arith; x-room = omega arith; y-room = omega arith }
 
-      -- the work lists are cleared
-      module _ {clear-x clear-y : List ℕ} (a : Written k [] last-x clear-x) (c : Written k [] last-y clear-y) where
-        first : Written k (pBefore (modulo q) D (rootD q (genus n) D) m) old-p last-p × Written k [] old-x clear-x
-        first = pair-again u _ _ _ _ (w .p-is) (written-again k _ [] x last-x clear-x (w .x-is) a)
+  -- the steps after the start
+  pub start-ended : {last-p last-s last-x last-y : List ℕ} → Ended q g D k m p s x y last-p last-s last-x last-y → Ended q g D k m old-p old-s old-x old-y last-p last-s last-x last-y
+  start-ended w =
+      let a = pair-again u _ _ _ _ (w .p-is) (w .x-is) in
+      let b = pair-again v _ _ _ _ (w .s-is) (w .y-is) in
+      record { p-is = a .0; s-is = b .0; x-is = a .1; y-is = b .1 }
 
-        second : Written k (sBefore (modulo q) D (rootD q (genus n) D) m) old-s last-s × Written k [] old-y clear-y
-        second = pair-again v _ _ _ _ (w .s-is) (written-again k _ [] y last-y clear-y (w .y-is) c)
-
-        pub unit-long : ((length last-p ≡ length old-p) × (length clear-x ≡ length old-x)) × ((length last-s ≡ length old-s) × (length clear-y ≡ length old-y))
-        unit-long = ((first .0 .long, first .1 .long), (second .0 .long, second .1 .long))
-
-        pub unit-lists : (R : ℕ) → R ≡ degreeBefore (modulo q) D (rootD q (genus n) D) m → k ≡ R + 1 → Room k old-p old-s old-x old-y → (b : ℕ) → lists last-p last-s clear-x clear-y ≡ unitLists (ticket q n D b) R m (lists old-p old-s old-x old-y)
-        unfolding unitLists written unitOf rootOf
-        unit-lists R e f room b j =
-            record {
-              first = full (pBefore (modulo q) D (rootD q (genus n) D) m) old-p last-p (room .p-room) (let l = p-length (surd-of h) m in omega arith) (first .0) j;
-              second = full (sBefore (modulo q) D (rootD q (genus n) D) m) old-s last-s (room .s-room) (let l = s-short (surd-of h) m in omega arith) (second .0) j;
-              third = full [] old-x clear-x (room .x-room) (omega arith) (first .1) j;
-              fourth = full [] old-y clear-y (room .y-room) (omega arith) (second .1) j;
-            }
-          where
-            full : (l old list : List ℕ) → k ≤ length old → length l ≤ k → Written k l old list → list ≡ pad (modulo q) (suc R) l ++ drop (suc R) old
-            full l old list r t z = written-is l old q k list z r t ∙ ap (λ (i : ℕ). pad (modulo q) i l ++ drop i old) (f ∙ add-one R)
+-- the work lists are cleared
+pub unit-lists : {q : ℕ} (n : ℕ) {D : List ℕ} → Admitted q (genus n) D → {k m : ℕ} {old-p old-s old-x old-y p s x y clear-x clear-y : List ℕ} → Ended q (genus n) D k m old-p old-s old-x old-y p s x y → Written k [] x clear-x → Written k [] y clear-y → Room k old-p old-s old-x old-y → (R : ℕ) → R ≡ degreeBefore (modulo q) D (rootD q (genus n) D) m → k ≡ R + 1 → (b : ℕ) → lists p s clear-x clear-y ≡ unitLists (ticket q n D b) R m (lists old-p old-s old-x old-y)
+unfolding unitLists written unitOf rootOf
+unit-lists {q} n {D} h {k} {m} {old-p} {old-s} {old-x} {old-y} {p} {s} {x} {y} {clear-x} {clear-y} w a c room R e f b j =
+    record {
+      first = full (pBefore (modulo q) D (rootD q (genus n) D) m) old-p p (room .p-room) (let l = p-length (surd-of h) m in omega arith) (w .p-is) j;
+      second = full (sBefore (modulo q) D (rootD q (genus n) D) m) old-s s (room .s-room) (let l = s-short (surd-of h) m in omega arith) (w .s-is) j;
+      third = full [] old-x clear-x (room .x-room) (omega arith) (written-again k _ [] old-x x clear-x (w .x-is) a) j;
+      fourth = full [] old-y clear-y (room .y-room) (omega arith) (written-again k _ [] old-y y clear-y (w .y-is) c) j;
+    }
+  where
+    full : (l old list : List ℕ) → k ≤ length old → length l ≤ k → Written k l old list → list ≡ pad (modulo q) (suc R) l ++ drop (suc R) old
+    full l old list r t z = written-is l old q k list z r t ∙ ap (λ (i : ℕ). pad (modulo q) i l ++ drop i old) (f ∙ add-one R)

@@ -41,13 +41,13 @@ fn start(t: u64, p: &mut [u32], x: &mut [u32], count: usize)
     }
 }
 
-// With t steps to go, a times the last convergent is added to the one before it; a has l places.
+// With `left` steps to go, a times the last convergent is added to the one before it; a has l places.
 fn fold(
     f: Field,
     reciprocal: u32,
     a: &[u32; 129],
     l: usize,
-    t: u64,
+    left: u64,
     p: &mut [u32],
     x: &mut [u32],
     count: usize,
@@ -56,9 +56,9 @@ fn fold(
     requires { ⌜ (count ≤ length (now p)) × (count ≤ length (now x)) ⌝ }
     requires { ⌜ Within (f .q) (now a) l ⌝ }
     requires { ⌜ BelowTo (f .q) (now p) count × BelowTo (f .q) (now x) count ⌝ }
-    ensures { λ _. ⌜ Folded (f .q) t count (now (a .entry)) (now (p .entry)) (now (x .entry)) (now (p .exit)) (now (x .exit)) ⌝ }
+    ensures { λ _. ⌜ Folded (f .q) left count (now (a .entry)) (now (p .entry)) (now (x .entry)) (now (p .exit)) (now (x .exit)) ⌝ }
 {
-    if t % 2 == 0 {
+    if left % 2 == 0 {
         combine(f, reciprocal, a, l, p, x, count);
     } else {
         combine(f, reciprocal, a, l, x, p, count);
@@ -185,6 +185,34 @@ fn steps(
     }
 }
 
+// The convergents of index m − 1 in p and s, those before them in x and y, each in the first `count` places.
+fn fill(
+    f: Field,
+    n: usize,
+    big: &[u32; 129],
+    length: usize,
+    table: &[u32; 4096],
+    d: &[u32; 129],
+    twice: &[u32; 129],
+    m: u64,
+    count: usize,
+    p: &mut [u32],
+    s: &mut [u32],
+    x: &mut [u32],
+    y: &mut [u32],
+)
+    requires { ⌜ Admitted (f .q) (genus n) (poly (now big) length) ⌝ }
+    requires { ⌜ Held (f .q) (now big) length × (2 ≤ n) ⌝ }
+    requires { ⌜ Prepared (f .q) (genus n) (poly (now big) length) (now table) (now d) (now twice) ⌝ }
+    requires { ⌜ degreeBefore (modulo (f .q)) (poly (now big) length) (rootD (f .q) (genus n) (poly (now big) length)) m + 1 ≡ count ⌝ }
+    requires { ⌜ Room count (now p) (now s) (now x) (now y) ⌝ }
+    ensures { λ _. ⌜ Ended (f .q) (genus n) (poly (now (big .entry)) length) count m (now (p .entry)) (now (s .entry)) (now (x .entry)) (now (y .entry)) (now (p .exit)) (now (s .exit)) (now (x .exit)) (now (y .exit)) ⌝ }
+{
+    start(m, p, x, count);
+    start(m + 1, s, y, count);
+    steps(f, n, big, length, table, d, twice, m, count, p, s, x, y);
+}
+
 // The unit, of index m − 1 and degree r: p and s receive its coefficients in their places 0 to r, where x and y end as zero. Later places are as they were. D is `big`, of degree n.
 pub fn write_unit(
     f: Field,
@@ -204,13 +232,11 @@ pub fn write_unit(
     ensures { λ _. ⌜ ((b : ℕ) → lists (now (p .exit)) (now (s .exit)) (now (x .exit)) (now (y .exit)) ≡ unitLists (ticket (f .q) n (poly (big .c) (big .size)) b) r m (lists (now (p .entry)) (now (s .entry)) (now (x .entry)) (now (y .entry)))) ⌝ }
 {
     let count = r as usize + 1;
-    start(m, p, x, count);
-    start(m + 1, s, y, count);
     let mut table = [0u32; 4096];
     let mut d = [0u32; 129];
     let mut twice = [0u32; 129];
     prepare(f, n, big, &mut table, &mut d, &mut twice);
-    steps(
+    fill(
         f,
         n,
         &big.c,

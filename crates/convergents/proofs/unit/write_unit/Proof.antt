@@ -1,8 +1,8 @@
--- The lists are started, walked to m, and the work lists cleared: each part by its law.
+-- The unit stands in p and s; the work lists are cleared in the places that it took.
 use Prim.Native.Nat.{ℕ, _+_}
 use native.Mathlib.Omega.{arith}
 use mathlib.Core.Path.{refl, sym, ap}
-use Rattle.convergents.specs.Lists.{index-most, progress-start, start-room, end-room, unit-long, unit-lists}
+use Rattle.convergents.specs.Lists.{unit-lists}
 use borrow.Author.Needs.{needs}
 use Rattle.convergents.proofs.unit.write_unit.Statement.{statement}
 use Rattle.convergents.proofs.unit.write_unit.Tie as tie
@@ -10,94 +10,44 @@ use Rattle.convergents.proofs.unit.write_unit.Tie as tie
 add-count : tie.Need-add-count
 add-count c = search needs
 
-start-requires : tie.Need-start-requires
-start-requires c κs = search needs
-
-add-start : tie.Need-add-start
-add-start c =
-    let s = c .before .before .before .before .before .before .before .before .before .before .before in
-    let l = index-most (s .args .n) (s .pre .0) (s .args .m) in
-    omega (arith, s .pre .1 .1 .1 .p-room)
-
-start-requires-2 : tie.Need-start-requires-2
-start-requires-2 c κs = search needs
-
 prepare-requires : tie.Need-prepare-requires
 prepare-requires c κs = search needs
 
-steps-requires : tie.Need-steps-requires
-steps-requires c κs =
-    let s = c .before .before .before .before .before .before .before .before .before .before .before .before .before .before .before .before .before .before .before .before .before .before .before .before .before .before .before .before .before .before .before in
-    let u = c .before .before .before .before .before .before .before .before .before .before .before .before .before .before .before .before .before .before .before .before .before .before .before .before .start .ensures in
-    let v = c .before .before .before .before .before .before .before .before .before .before .before .before .before .before .before .before .before .start2 .ensures in
-    (s .pre .0, ((s .pre .1 .0 .0, s .pre .1 .0 .1), (c .before .before .before .before .before .before .before .before .before .prepare .ensures, (ap (λ (e : ℕ). e + 1) (sym (s .pre .1 .1 .0)), (start-room (s .args .n) (s .pre .0) (s .args .m) u v (s .pre .1 .1 .1), progress-start (s .args .n) (s .pre .0) (s .args .m) u v)))))
+fill-requires : tie.Need-fill-requires
+fill-requires c κs =
+    let s = c .before .before .before .before .before .before .before .before .before .before .before .before .before .before .before .before .before in
+    (s .pre .0, (s .pre .1 .0, (c .before .before .before .before .before .before .before .before .before .prepare .ensures, (ap (λ (e : ℕ). e + 1) (sym (s .pre .1 .1 .0)), s .pre .1 .1 .1))))
 
 clear-requires : tie.Need-clear-requires
-clear-requires c κs =
-    let s = c .before .before .before .before .before .before .before .before .before .before .before .before .before .before .before .before .before .before .before .before .before .before .before .before .before .before .before .before .before .before .before .before .before .before .before .before .before .before .before .before .before in
-    let u = c .before .before .before .before .before .before .before .before .before .before .before .before .before .before .before .before .before .before .before .before .before .before .before .before .before .before .before .before .before .before .before .before .before .before .start .ensures in
-    let v = c .before .before .before .before .before .before .before .before .before .before .before .before .before .before .before .before .before .before .before .before .before .before .before .before .before .before .before .start2 .ensures in
-    let w = c .before .before .before .before .before .before .before .before .before .steps .ensures in
-    end-room (s .args .n) (s .pre .0) (s .args .m) u v w (s .pre .1 .1 .1) .x-room
+clear-requires c κs = omega (arith, c .before .before .before .before .before .before .before .before .before .before .before .before .before .before .before .before .before .before .before .before .before .before .before .before .before .before .before .pre .1 .1 .1 .x-room, c .before .before .before .before .before .before .before .before .before .fill .ensures .x-is .long)
 
 clear-requires-2 : tie.Need-clear-requires-2
-clear-requires-2 c κs =
-    let s = c .before .before .before .before .before .before .before .before .before .before .before .before .before .before .before .before .before .before .before .before .before .before .before .before .before .before .before .before .before .before .before .before .before .before .before .before .before .before .before .before .before .before .before .before .before in
-    let u = c .before .before .before .before .before .before .before .before .before .before .before .before .before .before .before .before .before .before .before .before .before .before .before .before .before .before .before .before .before .before .before .before .before .before .before .before .before .before .start .ensures in
-    let v = c .before .before .before .before .before .before .before .before .before .before .before .before .before .before .before .before .before .before .before .before .before .before .before .before .before .before .before .before .before .before .before .start2 .ensures in
-    let w = c .before .before .before .before .before .before .before .before .before .before .before .before .before .steps .ensures in
-    end-room (s .args .n) (s .pre .0) (s .args .m) u v w (s .pre .1 .1 .1) .y-room
+clear-requires-2 c κs = omega (arith, c .before .before .before .before .before .before .before .before .before .before .before .before .before .before .before .before .before .before .before .before .before .before .before .before .before .before .before .before .before .before .before .pre .1 .1 .1 .y-room, c .before .before .before .before .before .before .before .before .before .before .before .before .before .fill .ensures .y-is .long)
 
 same-length : tie.Need-same-length
-same-length c =
-    let s = c .before .before .before .before .before .before .before .before .before .before .before .before .before .before .before .before .before .before .before .before .before .before .before .before .before .before .before .before .before .before .before .before .before .before .before .before .before .before .before .before .before .before .before .before .before .before .before .before in
-    let u = c .before .before .before .before .before .before .before .before .before .before .before .before .before .before .before .before .before .before .before .before .before .before .before .before .before .before .before .before .before .before .before .before .before .before .before .before .before .before .before .before .before .start .ensures in
-    let v = c .before .before .before .before .before .before .before .before .before .before .before .before .before .before .before .before .before .before .before .before .before .before .before .before .before .before .before .before .before .before .before .before .before .before .start2 .ensures in
-    let w = c .before .before .before .before .before .before .before .before .before .before .before .before .before .before .before .before .steps .ensures in
-    unit-long (s .args .n) (s .pre .0) (s .args .m) u v w (c .before .before .before .before .before .before .clear .ensures) (c .before .before .clear2 .ensures) .0 .0
+same-length c = search needs
 
 same-length-2 : tie.Need-same-length-2
-same-length-2 c =
-    let s = c .before .before .before .before .before .before .before .before .before .before .before .before .before .before .before .before .before .before .before .before .before .before .before .before .before .before .before .before .before .before .before .before .before .before .before .before .before .before .before .before .before .before .before .before .before .before .before .before in
-    let u = c .before .before .before .before .before .before .before .before .before .before .before .before .before .before .before .before .before .before .before .before .before .before .before .before .before .before .before .before .before .before .before .before .before .before .before .before .before .before .before .before .before .start .ensures in
-    let v = c .before .before .before .before .before .before .before .before .before .before .before .before .before .before .before .before .before .before .before .before .before .before .before .before .before .before .before .before .before .before .before .before .before .before .start2 .ensures in
-    let w = c .before .before .before .before .before .before .before .before .before .before .before .before .before .before .before .before .steps .ensures in
-    unit-long (s .args .n) (s .pre .0) (s .args .m) u v w (c .before .before .before .before .before .before .clear .ensures) (c .before .before .clear2 .ensures) .1 .0
+same-length-2 c = search needs
 
 same-length-3 : tie.Need-same-length-3
-same-length-3 c =
-    let s = c .before .before .before .before .before .before .before .before .before .before .before .before .before .before .before .before .before .before .before .before .before .before .before .before .before .before .before .before .before .before .before .before .before .before .before .before .before .before .before .before .before .before .before .before .before .before .before .before in
-    let u = c .before .before .before .before .before .before .before .before .before .before .before .before .before .before .before .before .before .before .before .before .before .before .before .before .before .before .before .before .before .before .before .before .before .before .before .before .before .before .before .before .before .start .ensures in
-    let v = c .before .before .before .before .before .before .before .before .before .before .before .before .before .before .before .before .before .before .before .before .before .before .before .before .before .before .before .before .before .before .before .before .before .before .start2 .ensures in
-    let w = c .before .before .before .before .before .before .before .before .before .before .before .before .before .before .before .before .steps .ensures in
-    unit-long (s .args .n) (s .pre .0) (s .args .m) u v w (c .before .before .before .before .before .before .clear .ensures) (c .before .before .clear2 .ensures) .0 .1
+same-length-3 c = search needs
 
 same-length-4 : tie.Need-same-length-4
-same-length-4 c =
-    let s = c .before .before .before .before .before .before .before .before .before .before .before .before .before .before .before .before .before .before .before .before .before .before .before .before .before .before .before .before .before .before .before .before .before .before .before .before .before .before .before .before .before .before .before .before .before .before .before .before in
-    let u = c .before .before .before .before .before .before .before .before .before .before .before .before .before .before .before .before .before .before .before .before .before .before .before .before .before .before .before .before .before .before .before .before .before .before .before .before .before .before .before .before .before .start .ensures in
-    let v = c .before .before .before .before .before .before .before .before .before .before .before .before .before .before .before .before .before .before .before .before .before .before .before .before .before .before .before .before .before .before .before .before .before .before .start2 .ensures in
-    let w = c .before .before .before .before .before .before .before .before .before .before .before .before .before .before .before .before .steps .ensures in
-    unit-long (s .args .n) (s .pre .0) (s .args .m) u v w (c .before .before .before .before .before .before .clear .ensures) (c .before .before .clear2 .ensures) .1 .1
+same-length-4 c = search needs
 
 returns : tie.Need-returns
 returns c =
-    let s = c .before .before .before .before .before .before .before .before .before .before .before .before .before .before .before .before .before .before .before .before .before .before .before .before .before .before .before .before .before .before .before .before .before .before .before .before .before .before .before .before .before .before .before .before .before .before .before .before in
-    let u = c .before .before .before .before .before .before .before .before .before .before .before .before .before .before .before .before .before .before .before .before .before .before .before .before .before .before .before .before .before .before .before .before .before .before .before .before .before .before .before .before .before .start .ensures in
-    let v = c .before .before .before .before .before .before .before .before .before .before .before .before .before .before .before .before .before .before .before .before .before .before .before .before .before .before .before .before .before .before .before .before .before .before .start2 .ensures in
-    let w = c .before .before .before .before .before .before .before .before .before .before .before .before .before .before .before .before .steps .ensures in
-    unit-lists (s .args .n) (s .pre .0) (s .args .m) u v w (c .before .before .before .before .before .before .clear .ensures) (c .before .before .clear2 .ensures) (s .args .r) (s .pre .1 .1 .0) refl (s .pre .1 .1 .1)
+    let s = c .before .before .before .before .before .before .before .before .before .before .before .before .before .before .before .before .before .before .before .before .before .before .before .before .before .before .before .before .before .before .before .before .before .before in
+    unit-lists (s .args .n) (s .pre .0) (c .before .before .before .before .before .before .before .before .before .before .before .before .before .before .before .before .fill .ensures) (c .before .before .before .before .before .before .clear .ensures) (c .before .before .clear2 .ensures) (s .pre .1 .1 .1) (s .args .r) (s .pre .1 .1 .0) refl
 
 pub write-unit-spec : {M : Type 1} → statement M
 write-unit-spec =
     tie.close
     (tie.spec
     add-count
-    start-requires
-    add-start
-    start-requires-2
     prepare-requires
-    steps-requires
+    fill-requires
     clear-requires
     clear-requires-2
     same-length
