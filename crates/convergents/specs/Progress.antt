@@ -18,7 +18,7 @@ use Rattle.walk.specs.Step.{stepQuo, Division}
 use Rattle.run.specs.State.{rootD, quo-next}
 use Rattle.run.specs.Start.{Prepared, half-degree}
 use Rattle.run.specs.Walked.{Walked, degree-next}
-use Rattle.run.specs.Seek.{turn-ready}
+use Rattle.run.specs.Turn.{turn-ready}
 use Rattle.convergents.specs.Written.{Written}
 use Rattle.convergents.specs.Sum.{BelowTo}
 use Rattle.convergents.specs.Pair.{Pair, Folded, pair-long, pair-below, pair-back, pair-next, pair-last}

@@ -5,5 +5,6 @@ pub mod Squares
 pub mod FirstRefusal
 pub mod LeastDegree
 pub mod Continued
+pub mod Products
 pub mod Example
 pub mod Written

@@ -1,5 +1,5 @@
 -- Bezout's factors as records: they fit, by their lengths, and each turn of the recursion is a rule of the definition.
-use mathlib.Core.Path.{_≡_, sym, ap, ap₂, _∙_}
+use mathlib.Core.Path.{_≡_, sym, ap, ap₂, _∙_, subst}
 use mathlib.Core.Logic.{⊎-elim}
 use mathlib.Core.List.{List, [], _∷_}
 use Prim.Native.Nat.{ℕ, _+_, _<_, _≤_}
@@ -7,17 +7,17 @@ use native.Mathlib.Omega.{arith}
 use lib.ListN.{length}
 use Rattle.ring.specs.Order.{le-or-lt}
 use Rattle.definitions.specs.Field.{modulo}
-use Rattle.definitions.specs.Polynomials.{Bezout, trim, sub, mul, lead, quo, rem, monic, bezout}
+use Rattle.definitions.specs.Polynomials.{Bezout, trim, sub, mul, lead, quo, rem, monic, gcd, bezout}
 use Rattle.bridge.specs.Model.{Inverts}
 use Rattle.bridge.specs.Trim.{trim-nil}
-use Rattle.bridge.specs.Gcd.{bezoutNext, bezoutLast, bezout-zero, bezout-rule}
+use Rattle.bridge.specs.Gcd.{bezoutNext, bezoutLast, bezout-zero, bezout-rule, bezout-gcd}
 use Rattle.bridge.specs.Bezout.{trim-bezout-u, oks-bezout-u, trim-bezout-v, oks-bezout-v}
 use Rattle.bridge.specs.BezoutLength.{bezout-u-length, bezout-u-constant, bezout-v-length}
 use Rattle.bridge.specs.Prime.{Prime}
 use Rattle.bridge.specs.Residues.{model, inverts}
 use Rattle.polynomial.specs.Record.{poly, Held, Is}
-use Rattle.polynomial.specs.Held.{held-positive, is-held, is-poly}
-use Rattle.polynomial.specs.Results.{held-size, held-mul, poly-mul, held-quo, poly-quo, size-quo, held-rem, poly-rem}
+use Rattle.polynomial.specs.Held.{held-positive}
+use Rattle.polynomial.specs.Result.{Result, result, held-size, result-mul, result-quo, size-quo, result-rem, result-gcd}
 
 -- the definition's, of two records
 abbrev pub factors : ℕ → List ℕ → ℕ → List ℕ → ℕ → Bezout ℕ
@@ -44,17 +44,14 @@ module _ (q : ℕ) (p : Prime q) (a : List ℕ) (m : ℕ) (held-a : Held q a m) 
   v-short = let x = size-a in let s = held-a .short in bezout-v-length (model q pos) I (poly a m) (poly b n) 129 (omega arith) (omega arith)
 
   module _ (c : List ℕ) (size : ℕ) where
-    pub held-u : Is q c size (factors q a m b n .u) → Held q c size
-    held-u r = is-held q c size _ r u-short (trim-bezout-u (model q pos) I (poly a m) (poly b n)) (oks-bezout-u (model q pos) I (poly a m) (poly b n))
+    pub result-u : Is q c size (factors q a m b n .u) → Result q c size (factors q a m b n .u)
+    result-u r = result q c size _ r u-short (trim-bezout-u (model q pos) I (poly a m) (poly b n)) (oks-bezout-u (model q pos) I (poly a m) (poly b n))
 
-    pub poly-u : Is q c size (factors q a m b n .u) → poly c size ≡ factors q a m b n .u
-    poly-u r = is-poly q c size _ r u-short
+    pub result-v : Is q c size (factors q a m b n .v) → Result q c size (factors q a m b n .v)
+    result-v r = result q c size _ r v-short (trim-bezout-v (model q pos) I (poly a m) (poly b n)) (oks-bezout-v (model q pos) I (poly a m) (poly b n))
 
-    pub held-v : Is q c size (factors q a m b n .v) → Held q c size
-    held-v r = is-held q c size _ r v-short (trim-bezout-v (model q pos) I (poly a m) (poly b n)) (oks-bezout-v (model q pos) I (poly a m) (poly b n))
-
-    pub poly-v : Is q c size (factors q a m b n .v) → poly c size ≡ factors q a m b n .v
-    poly-v r = is-poly q c size _ r v-short
+    pub result-factor-gcd : Is q c size (factors q a m b n .gcd) → Result q c size (gcd (modulo q) (poly a m) (poly b n))
+    result-factor-gcd r = result-gcd q a m held-a b n held-b c size p (subst (λ (l : List ℕ). Is q c size l) (bezout-gcd (model q pos) I (poly a m) (poly b n)) r)
 
     pub size-v : 0 < m → Is q c size (factors q a m b n .v) → size ≤ m
     size-v h r =
@@ -102,43 +99,40 @@ module _ (q : ℕ) (p : Prime q) (a : List ℕ) (m : ℕ) (held-a : Held q a m) 
 -- one turn: from the records of quotient, remainder and of the factors of b and the remainder
 module _ (q : ℕ) (p : Prime q) (a : List ℕ) (m : ℕ) (held-a : Held q a m) (b : List ℕ) (n : ℕ) (held-b : Held q b n) (some : 0 < n) where
   module _ (w : List ℕ) (w-size : ℕ) (w-is : Is q w w-size (quo (modulo q) (poly a m) (poly b n))) (r : List ℕ) (r-size : ℕ) (r-is : Is q r r-size (rem (modulo q) (poly a m) (poly b n))) where
-    held-r : Held q r r-size
-    held-r = held-rem q a m held-a b n held-b r r-size p r-is
-
-    rest : poly r r-size ≡ rem (modulo q) (poly a m) (poly b n)
-    rest = poly-rem q a m held-a b n held-b r r-size p r-is
+    remainder : Result q r r-size (rem (modulo q) (poly a m) (poly b n))
+    remainder = result-rem q a m held-a b n held-b r r-size p r-is
 
     pub turn-gcd : factors q a m b n .gcd ≡ factors q b n r r-size .gcd
-    turn-gcd = some-gcd q p a m held-a b n held-b some (poly r r-size) rest
+    turn-gcd = some-gcd q p a m held-a b n held-b some (poly r r-size) (remainder .is)
 
     pub turn-u : factors q a m b n .u ≡ factors q b n r r-size .v
-    turn-u = some-u q p a m held-a b n held-b some (poly r r-size) rest
+    turn-u = some-u q p a m held-a b n held-b some (poly r r-size) (remainder .is)
 
     module _ (u : List ℕ) (u-size : ℕ) (u-is : Is q u u-size (factors q b n r r-size .u)) (v : List ℕ) (v-size : ℕ) (v-is : Is q v v-size (factors q b n r r-size .v)) where
-      pub turn-held-u : Held q u u-size
-      turn-held-u = held-u q p b n held-b r r-size held-r u u-size u-is
+      -- the factors of b and the remainder
+      pub turn-last-u : Result q u u-size (factors q b n r r-size .u)
+      turn-last-u = result-u q p b n held-b r r-size (remainder .held) u u-size u-is
 
-      pub turn-held-v : Held q v v-size
-      turn-held-v = held-v q p b n held-b r r-size held-r v v-size v-is
+      pub turn-last-v : Result q v v-size (factors q b n r r-size .v)
+      turn-last-v = result-v q p b n held-b r r-size (remainder .held) v v-size v-is
 
       -- quotient and factor together are no longer than a by more than 1
       pub turn-fits : w-size + v-size ≤ 130
       turn-fits =
           let x = size-quo q a m held-a b n held-b w w-size w-is in
-          let y = size-v q p b n held-b r r-size held-r v v-size some v-is in
+          let y = size-v q p b n held-b r r-size (remainder .held) v v-size some v-is in
           let s = held-a .short in
           let t = held-b .short in
           omega arith
 
       module _ (c : List ℕ) (c-size : ℕ) (c-is : Is q c c-size (mul (modulo q) (poly w w-size) (poly v v-size))) where
-        held-w : Held q w w-size
-        held-w = held-quo q a m held-a b n held-b w w-size some w-is
+        quotient : Result q w w-size (quo (modulo q) (poly a m) (poly b n))
+        quotient = result-quo q a m held-a b n held-b w w-size some w-is
 
-        pub turn-held-product : Held q c c-size
-        turn-held-product = held-mul q w w-size held-w v v-size turn-held-v c c-size turn-fits c-is
+        pub turn-product : Result q c c-size (mul (modulo q) (poly w w-size) (poly v v-size))
+        turn-product = result-mul q w w-size (quotient .held) v v-size (turn-last-v .held) c c-size turn-fits c-is
 
         pub turn-v : factors q a m b n .v ≡ sub (modulo q) (poly u u-size) (poly c c-size)
         turn-v =
-            some-v q p a m held-a b n held-b some (poly r r-size) rest
-            ∙ ap₂ (sub (modulo q)) (sym (poly-u q p b n held-b r r-size held-r u u-size u-is))
-            (ap₂ (mul (modulo q)) (sym (poly-quo q a m held-a b n held-b w w-size some w-is)) (sym (poly-v q p b n held-b r r-size held-r v v-size v-is)) ∙ sym (poly-mul q w w-size held-w v v-size turn-held-v c c-size turn-fits c-is))
+            some-v q p a m held-a b n held-b some (poly r r-size) (remainder .is)
+            ∙ ap₂ (sub (modulo q)) (sym (turn-last-u .is)) (ap₂ (mul (modulo q)) (sym (quotient .is)) (sym (turn-last-v .is)) ∙ sym (turn-product .is))

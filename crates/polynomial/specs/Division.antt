@@ -13,7 +13,7 @@ use Rattle.bridge.specs.Prime.{Prime}
 use Rattle.bridge.specs.Residues.{model, inverts}
 use Rattle.polynomial.specs.Record.{poly, Held, Is}
 use Rattle.polynomial.specs.Held.{held-positive, length-poly, at-poly}
-use Rattle.polynomial.specs.Results.{held-size}
+use Rattle.polynomial.specs.Result.{held-size}
 use Rattle.polynomial.specs.Places.{Places, Top}
 use Rattle.polynomial.specs.Linear.{is-result, lead-place}
 use Rattle.polynomial.specs.Divided.{Divided}

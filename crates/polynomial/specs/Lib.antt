@@ -7,7 +7,6 @@ pub mod Result
 pub mod Row
 pub mod Product
 pub mod Divided
-pub mod Results
 pub mod Division
 pub mod Gcd
 pub mod Bezout

@@ -6,7 +6,8 @@ use Rattle.definitions.specs.Ticket.{genus}
 use Rattle.polynomial.specs.Record.{poly}
 use Rattle.run.specs.Start.{half-degree}
 use Rattle.run.specs.Walked.{Walked}
-use Rattle.run.specs.Seek.{walk-starts, size-some, size-most, top-most, turn-ready, turn-again}
+use Rattle.run.specs.Stride.{on-first}
+use Rattle.run.specs.Turn.{size-some, size-most, top-most, turn-ready, turn-again}
 use Rattle.convergents.specs.Progress.{Progress, Ended, progress-long, progress-room, progress-reduced, progress-last, degree-room, turn-division, progress-next}
 use borrow.Author.Needs.{needs}
 use Rattle.convergents.proofs.unit.steps.Statement.{statement}
@@ -36,7 +37,7 @@ array-write-b c = search needs
 loop-holds : tie.Need-loop-holds Inv-loop μ-loop
 loop-holds c =
     let s = c .before .before .before .before .before .before .before in
-    (omega arith, walk-starts (s .args .big .now) (s .args .length) (s .pre .0) (s .pre .1 .0 .0) (s .pre .1 .1 .0), subst (λ (t : ℕ). Progress (s .args .f .q) (genus (s .args .n)) (poly (s .args .big .now) (s .args .length)) (s .args .count) t 0 (s .args .p .now) (s .args .s .now) (s .args .x .now) (s .args .y .now) (s .args .p .now) (s .args .s .now) (s .args .x .now) (s .args .y .now)) (let e : s .args .m ≡ s .args .m - 0 = omega arith in e) (s .pre .1 .1 .1 .1 .1))
+    (omega arith, on-first (s .args .big .now) (s .args .length) (s .pre .0) (s .pre .1 .0 .0) (s .pre .1 .1 .0) .walked, subst (λ (t : ℕ). Progress (s .args .f .q) (genus (s .args .n)) (poly (s .args .big .now) (s .args .length)) (s .args .count) t 0 (s .args .p .now) (s .args .s .now) (s .args .x .now) (s .args .y .now) (s .args .p .now) (s .args .s .now) (s .args .x .now) (s .args .y .now)) (let e : s .args .m ≡ s .args .m - 0 = omega arith in e) (s .pre .1 .1 .1 .1 .1))
 
 sub-degree : tie.Need-sub-degree Inv-loop μ-loop
 sub-degree c =

@@ -1,12 +1,12 @@
 -- The measure is the size of b: the remainder's is smaller. Each branch is one of the definition's two rules.
-use mathlib.Core.Path.{_≡_, sym, ap, _∙_, subst}
+use mathlib.Core.Path.{sym, ap, _∙_, subst}
 use mathlib.Core.List.{List}
 use native.Mathlib.Omega.{arith}
 use borrow.Author.Needs.{needs}
 use Rattle.definitions.specs.Field.{modulo}
-use Rattle.definitions.specs.Polynomials.{rem, gcd as gcdOf}
-use Rattle.polynomial.specs.Record.{poly, Held, Is}
-use Rattle.polynomial.specs.Results.{held-rem, poly-rem, size-rem}
+use Rattle.definitions.specs.Polynomials.{gcd as gcdOf}
+use Rattle.polynomial.specs.Record.{poly, Is}
+use Rattle.polynomial.specs.Result.{result-rem, size-rem}
 use Rattle.polynomial.specs.Gcd.{gcd-none, gcd-some}
 use Prim.Native.Nat.{ℕ, _<_}
 use borrow.Fn.Kinds.{In}
@@ -28,7 +28,6 @@ gcd-at t = and 0 gcd-kinds.ps (is 0 gcd-kinds.ps μ-gcd t) gcd.Pre
 abbrev gcd-below : ℕ → In 0 gcd-kinds.ps
 gcd-below t = and 0 gcd-kinds.ps (falls 0 gcd-kinds.ps _<_ μ-gcd t) gcd.Pre
 
--- src/gcd.rt:24:9
 gcd-monic-requires : (t : ℕ) → gcd-lts.Need-monic-requires (
   monic-reads.Asked,
   monic-reads.Learnt,
@@ -39,7 +38,6 @@ gcd-monic-requires : (t : ℕ) → gcd-lts.Need-monic-requires (
 ) (gcd-at t) gcd.Post
 gcd-monic-requires t c κs = search needs
 
--- src/gcd.rt:26:13
 gcd-div-by-requires : (t : ℕ) → gcd-lts.Need-div-by-requires (
   monic-reads.Asked,
   monic-reads.Learnt,
@@ -50,7 +48,6 @@ gcd-div-by-requires : (t : ℕ) → gcd-lts.Need-div-by-requires (
 ) (gcd-at t) gcd.Post
 gcd-div-by-requires t c κs = search needs
 
--- src/gcd.rt:28:9
 gcd-gcd-requires : (t : ℕ) → gcd-lts.Need-gcd-requires (
   monic-reads.Asked,
   monic-reads.Learnt,
@@ -66,9 +63,8 @@ gcd-gcd-requires t c κs =
     let b = s .pre .1 .1 .1 in
     let r = c .before .div-by .ensures .1 in
     let less = size-rem _ _ _ a _ _ b _ _ p (omega arith) r in
-    (omega arith, (s .pre .1 .0, (b, held-rem _ _ _ a _ _ b _ _ p r)))
+    (omega arith, (s .pre .1 .0, (b, result-rem _ _ _ a _ _ b _ _ p r .held)))
 
--- src/gcd.rt:17:1
 gcd-returns : (t : ℕ) → gcd-lts.Need-returns (
   monic-reads.Asked,
   monic-reads.Learnt,
@@ -81,7 +77,6 @@ gcd-returns t c =
     let s = c .before .before .before in
     subst (λ (l : List ℕ). Is (s .args .f .q) (c .monic .result .c) (c .monic .result .size) l) (sym (gcd-none _ (s .pre .1 .0 .0) (s .args .a .c) (s .args .a .size) _ _ (s .pre .1 .1 .1) (search needs))) (c .monic .ensures)
 
--- src/gcd.rt:17:1
 gcd-returns-2 : (t : ℕ) → gcd-lts.Need-returns-2 (
   monic-reads.Asked,
   monic-reads.Learnt,
@@ -94,7 +89,7 @@ gcd-returns-2 t c =
     let s = c .before .before .before .before .before in
     let p = s .pre .1 .0 .0 in
     let b = poly (s .args .b .c) (s .args .b .size) in
-    let same = poly-rem _ _ _ (s .pre .1 .1 .0) _ _ (s .pre .1 .1 .1) _ _ p (c .before .before .div-by .ensures .1) in
+    let same = result-rem _ _ _ (s .pre .1 .1 .0) _ _ (s .pre .1 .1 .1) _ _ p (c .before .before .div-by .ensures .1) .is in
     subst (λ (l : List ℕ). Is (s .args .f .q) (c .gcd .result .c) (c .gcd .result .size) l) (ap (gcdOf (modulo (s .args .f .q)) b) same ∙ sym (gcd-some _ p (s .args .a .c) (s .args .a .size) _ _ (s .pre .1 .1 .1) (omega arith))) (c .gcd .ensures)
 
 pub +gcd-spec : {M : Type 1} → statement M

@@ -1,0 +1,5 @@
+pub mod Kinds
+pub mod Records
+pub mod Passes
+pub mod Search
+pub mod Refusal

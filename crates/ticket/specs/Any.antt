@@ -1,0 +1,20 @@
+-- Three tests of which any may apply, as a function finds them one after the other.
+use native.Mathlib.Omega.{arith}
+use Prim.Native.Nat.{ℕ}
+use mathlib.Core.Path.{_≡_, refl}
+use mathlib.Core.Bool.{Bool, true, false, _||_}
+
+module _ (a b c : Bool) where
+  pub any-first : a ≡ true → true ≡ (a || b || c)
+  any-first e = rw e
+
+  pub any-second : a ≡ false → b ≡ true → true ≡ (a || b || c)
+  any-second e f = rw (e, f)
+
+  pub any-third : a ≡ false → b ≡ false → (a || b || c) ≡ c
+  any-third e f = rw (e, f)
+
+-- none applies
+pub none-first : (a b c : Bool) → (a || b || c) ≡ false → a ≡ false
+none-first true b c e = absurd (let z : _≡_ {A = ℕ} 0 1 = cc in omega arith)
+none-first false b c e = refl
