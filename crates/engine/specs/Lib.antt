@@ -1,2 +1,4 @@
 pub mod Accepted
 pub mod Regulator
+pub mod Found
+pub mod Listing
