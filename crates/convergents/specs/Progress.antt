@@ -15,6 +15,7 @@ use Rattle.laws.specs.Admitted.{Admitted, surd-of}
 use Rattle.laws.specs.Convergents.{p-zero, s-zero, p-oks, s-oks, p-length, degree-rise}
 use Rattle.laws.specs.State.{a-next}
 use Rattle.walk.specs.Step.{stepQuo, Division}
+use Rattle.walk.specs.Result.{division}
 use Rattle.run.specs.State.{rootD, quo-next}
 use Rattle.run.specs.Start.{Prepared, half-degree}
 use Rattle.run.specs.Walked.{Walked, degree-next}
@@ -102,7 +103,7 @@ module _ {q : ℕ} (n : ℕ) {D : List ℕ} (h : Admitted q (genus n) D) (two : 
 
   module _ {table d twice : List ℕ} (start : Prepared q (genus n) D table d twice) where
     pub turn-division : Division q (n / 2 + 1) size twice b r
-    turn-division = let w = turn-ready n h two state start in record { s-within = w .s-within; r-within = w .r-within; b-within = w .b-within; b-top = w .b-top }
+    turn-division = division (turn-ready n h two state start)
 
     quotient-is : stepQuo q twice b r ≡ a (modulo q) D (rootD q (genus n) D) i
     quotient-is = quo-next q (genus n) D h twice (start .twice-is) i c b r size (state .state) ∙ sym (a-next (surd-of h) i)

@@ -1,6 +1,6 @@
 -- The sum of a list and a product, place by place: a coefficient of the product depends only on the places up to it, so that what lies past the places in use does not count.
 use Prim.Native.Nat.{ℕ, zero, suc, _+_, _*_, _-_, _%_, _<_, _≤_}
-use native.Mathlib.Nat.{mul-le-mul-right, add-mod-mod}
+use native.Mathlib.Nat.{mul-le-mul, mul-le-mul-right, add-mod-mod}
 use native.Mathlib.Omega.{arith}
 use mathlib.Core.Path.{_≡_, refl, sym, ap, ap₂, _∙_}
 use mathlib.Core.Logic.{⊎-elim}
@@ -41,6 +41,14 @@ dots-low-small q a b l k n pos w s p h =
     bounded i =
         ⊎-elim (λ (u : suc k ≤ i). let x : getD (take (suc k) b) i 0 ≡ 0 = List·getD-eq-default (take (suc k) b) 0 {n = i} (let y = length-take (suc k) b in omega arith) in omega arith)
         (λ (u : i < suc k). let x : getD (take (suc k) b) i 0 ≡ getD b i 0 = getD-take (suc k) b i 0 u in let y = s i u in omega arith) (le-or-lt (suc k) i)
+
+pub square-small : (q : ℕ) → q < 4096 → q * q ≤ 16769025
+square-small q h = mul-le-mul {n₂ = 4095} {m₂ = 4095} (omega arith) (omega arith)
+
+-- a sum that serves for the coefficient at k, not reduced
+pub record Terms (q : ℕ) (a b : List ℕ) (k r : ℕ) : Type 0 where
+  pub residue : r % q ≡ getD (mul (modulo q) a b) k 0
+  pub small : r ≤ 128 * (q * q)
 
 -- ---- the coefficient at k, reduced once
 pub sum-at : (q : ℕ) → 0 < q → (a b c : List ℕ) (k t : ℕ) → t % q ≡ getD (mul (modulo q) a b) k 0 → (getD c k 0 + t) % q ≡ getD (add (modulo q) (mul (modulo q) a b) c) k 0

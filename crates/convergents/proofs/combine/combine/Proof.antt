@@ -5,9 +5,8 @@ use mathlib.Core.Path.{_≡_, ap, _∙_, subst}
 use lib.ListN.{getD}
 use Rattle.definitions.specs.Field.{modulo}
 use Rattle.definitions.specs.Polynomials.{add, mul}
-use Rattle.walk.specs.Terms.{square-small}
 use Rattle.convergents.specs.Written.{Written, written-none, written-more}
-use Rattle.convergents.specs.Sum.{sum-at}
+use Rattle.convergents.specs.Sum.{square-small, sum-at}
 use borrow.Author.Needs.{needs}
 use Rattle.convergents.proofs.combine.combine.Statement.{statement}
 use Rattle.convergents.proofs.combine.combine.Tie as tie

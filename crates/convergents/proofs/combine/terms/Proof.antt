@@ -5,8 +5,7 @@ use mathlib.Core.Path.{_≡_, refl, ap, _∙_}
 use lib.ListN.{getD}
 use Rattle.bridge.specs.Product.{dots, dots-more}
 use Rattle.polynomial.specs.Product.{dots-all}
-use Rattle.walk.specs.Terms.{square-small}
-use Rattle.convergents.specs.Sum.{dots-low-small}
+use Rattle.convergents.specs.Sum.{dots-low-small, square-small}
 use borrow.Author.Needs.{needs}
 use Rattle.convergents.proofs.combine.terms.Statement.{statement}
 use Rattle.convergents.proofs.combine.terms.Tie as tie

@@ -1,7 +1,7 @@
 -- Each pair by itself, with the same quotient.
 use Prim.Native.Nat.{_<_}
 use native.Mathlib.Omega.{arith}
-use Rattle.walk.specs.Sizes.{quo-places}
+use Rattle.walk.specs.Sizes.{quo-within}
 use Rattle.convergents.specs.Pair.{folded-cong}
 use borrow.Author.Needs.{needs}
 use Rattle.convergents.proofs.unit.advance.Statement.{statement}
@@ -23,7 +23,7 @@ fold-requires c κs =
     let pos : 0 < s .args .f .q = (let h = v .s-within .reduced 0 in omega arith) in
     let room = s .pre .1 .1 .1 .1 .0 in
     let low = s .pre .1 .1 .1 .1 .1 in
-    ((pos, s .pre .0 .1, s .pre .0 .2, omega arith), ((room .p-room, room .x-room), (quo-places (s .args .f .q) (s .pre .0 .0) pos (s .args .top) (s .args .size) (s .args .twice .now) (s .args .b .now) (s .args .r .now) (v .s-within) (v .r-within) (v .b-within) (v .b-top) _ (c .before .before .before .partial .ensures), (low .p-below, low .x-below))))
+    ((pos, s .pre .0 .1, s .pre .0 .2, omega arith), ((room .p-room, room .x-room), (quo-within (s .pre .0 .0) v (c .before .before .before .partial .ensures), (low .p-below, low .x-below))))
 
 fold-requires-2 : tie.Need-fold-requires-2
 fold-requires-2 c κs =
@@ -32,7 +32,7 @@ fold-requires-2 c κs =
     let pos : 0 < s .args .f .q = (let h = v .s-within .reduced 0 in omega arith) in
     let room = s .pre .1 .1 .1 .1 .0 in
     let low = s .pre .1 .1 .1 .1 .1 in
-    ((pos, s .pre .0 .1, s .pre .0 .2, omega arith), ((room .s-room, room .y-room), (quo-places (s .args .f .q) (s .pre .0 .0) pos (s .args .top) (s .args .size) (s .args .twice .now) (s .args .b .now) (s .args .r .now) (v .s-within) (v .r-within) (v .b-within) (v .b-top) _ (c .before .before .before .before .before .before .before .before .before .before .before .partial .ensures), (low .s-below, low .y-below))))
+    ((pos, s .pre .0 .1, s .pre .0 .2, omega arith), ((room .s-room, room .y-room), (quo-within (s .pre .0 .0) v (c .before .before .before .before .before .before .before .before .before .before .before .partial .ensures), (low .s-below, low .y-below))))
 
 same-length : tie.Need-same-length
 same-length c = search needs
