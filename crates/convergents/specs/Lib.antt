@@ -4,4 +4,3 @@ pub mod Pair
 pub mod Recurrence
 pub mod Progress
 pub mod Lists
-pub mod Found
