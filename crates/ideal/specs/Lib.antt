@@ -1,0 +1,4 @@
+pub mod Multipliers
+pub mod Operand
+pub mod Product
+pub mod Sizes
