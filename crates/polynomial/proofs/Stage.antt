@@ -1,15 +1,14 @@
 -- The state of the division's loop with k quotient coefficients to go: below k the dividend, from k on the division of its upper part.
 -- Places hold numbers that are not reduced; modulo q they are the definition's coefficients.
-use mathlib.Core.Path.{_≡_, refl, sym, ap, ap₂, _∙_, subst}
+use mathlib.Core.Path.{_≡_, sym, ap, ap₂, _∙_, subst}
 use mathlib.Core.List.{List, [], _∷_}
 use Prim.Native.Nat.{ℕ, zero, suc, _+_, _*_, _-_, _%_, _<_, _≤_}
-use native.Mathlib.Nat.{mod-lt, mod-eq-of-lt, zero-add, mul-le-mul}
+use native.Mathlib.Nat.{mod-lt, mod-eq-of-lt, zero-add}
 use native.Mathlib.Omega.{arith}
 use lib.ListN.{length, getD, set, drop, List·getD-eq-default}
 use lib.Seq.{getD-set-same, getD-set-other, getD-drop}
-use Rattle.ring.specs.Ring.{CRing}
 use Rattle.ring.specs.Identity.{ring, quote}
-use Rattle.ring.specs.Residues.{Fq, FqRing, to, addF, mulF, negF}
+use Rattle.ring.specs.Residues.{FqRing, to, addF, mulF, negF}
 use Rattle.definitions.specs.Field.{modulo}
 use Rattle.definitions.specs.Polynomials.{Split, put, divide}
 use Rattle.bridge.specs.Division.{put-at}

@@ -1,11 +1,10 @@
 -- The rules of the greatest common divisor and of its factors, as the recursion reads them: by the size of the second record.
-use mathlib.Core.Path.{_≡_, sym, ap, _∙_}
-use mathlib.Core.List.{List, []}
+use mathlib.Core.Path.{_≡_, _∙_}
+use mathlib.Core.List.{List}
 use Prim.Native.Nat.{ℕ, _<_}
 use native.Mathlib.Omega.{arith}
-use lib.ListN.{length}
 use Rattle.definitions.specs.Field.{modulo}
-use Rattle.definitions.specs.Polynomials.{trim, rem, monic, gcd}
+use Rattle.definitions.specs.Polynomials.{rem, monic, gcd}
 use Rattle.bridge.specs.Trim.{trim-nil}
 use Rattle.bridge.specs.Gcd.{gcd-zero, gcd-rule}
 use Rattle.bridge.specs.Prime.{Prime}

@@ -1,7 +1,6 @@
 // The greatest common divisor by Euclid's rule, alone and with Bezout's factors.
-ghost use mathlib.Core.Path.{_≡_};
 ghost use mathlib.Core.List.{[], _∷_};
-ghost use Prim.Native.Nat.{ℕ, _+_, _<_, _≤_};
+ghost use Prim.Native.Nat.{_<_};
 ghost use Rattle.definitions.specs.Field.{modulo};
 ghost use Rattle.definitions.specs.Polynomials.{trim, lead as leadOf, monic as monicOf, gcd as gcdOf, bezout as bezoutOf};
 ghost use Rattle.bridge.specs.Prime.{Prime};

@@ -1,7 +1,7 @@
 // Products: each coefficient is a sum of products over the places that both factors have, reduced once.
 ghost use mathlib.Core.Path.{_≡_};
-ghost use Prim.Native.Nat.{ℕ, _+_, _-_, _<_, _≤_, _%_};
-ghost use lib.ListN.{length, getD};
+ghost use Prim.Native.Nat.{_+_, _-_, _<_, _≤_, _%_};
+ghost use lib.ListN.{getD};
 ghost use Rattle.definitions.specs.Field.{modulo};
 ghost use Rattle.definitions.specs.Polynomials.{mul as mulOf};
 ghost use Rattle.polynomial.specs.Record.{poly, Held, Is};

@@ -11,12 +11,12 @@ use borrow.Author.Tests.{eqb-true, eq-eqb}
 use Rattle.definitions.specs.Words.{kind, same}
 use Rattle.definitions.specs.Ticket.{laterKinds}
 
-pub same-refl : (l : List ℕ) → same l l ≡ true
+same-refl : (l : List ℕ) → same l l ≡ true
 unfolding same
 same-refl [] = refl
 same-refl (x ∷ l) = rw (same, eq-eqb x x refl) (same-refl l)
 
-pub same-path : (l m : List ℕ) → same l m ≡ true → l ≡ m
+same-path : (l m : List ℕ) → same l m ≡ true → l ≡ m
 unfolding same
 same-path [] [] e = refl
 same-path [] (y ∷ m) e = absurd (let z : _≡_ {A = ℕ} 0 1 = cc in omega arith)
@@ -27,14 +27,14 @@ same-path (x ∷ l) (y ∷ m) e = go (eqb x y) refl e (same-path l m)
     go true h k rest = ap₂ (λ a b. a ∷ b) (eqb-true x y h) (rest k)
     go false h k rest = absurd (let z : _≡_ {A = ℕ} 0 1 = cc in omega arith)
 
-pub same-not : (l m : List ℕ) → (l ≡ m → ⊥) → same l m ≡ false
+same-not : (l m : List ℕ) → (l ≡ m → ⊥) → same l m ≡ false
 same-not l m h = go (same l m) refl
   where
     go : (t : Bool) → same l m ≡ t → same l m ≡ false
     go true e = absurd (h (same-path l m e))
     go false e = e
 
-pub length-later : (n : ℕ) → length (laterKinds n) ≡ n + 3
+length-later : (n : ℕ) → length (laterKinds n) ≡ n + 3
 unfolding laterKinds
 length-later n = omega (arith, length-append {A = ℕ} (replicate (n + 1) 3) (4 ∷ 15 ∷ []), length-replicate {A = ℕ} (n + 1) 3)
 

@@ -30,13 +30,13 @@ module _ (n : ℕ) (w : List ℕ) where
 
 module _ (q : ℕ) where
   -- every number is below q
-  pub some-none : (l : List ℕ) → ((i : ℕ) → i < length l → getD l i 0 < q) → someFrom q l ≡ false
+  some-none : (l : List ℕ) → ((i : ℕ) → i < length l → getD l i 0 < q) → someFrom q l ≡ false
   unfolding someFrom
   some-none [] h = refl
   some-none (x ∷ l) h = rw (someFrom, lt-leb q x (h 0 (omega arith))) (some-none l (λ i k. h (suc i) (omega arith)))
 
   -- the number at i is not
-  pub some-at : 0 < q → (l : List ℕ) (i : ℕ) → q ≤ getD l i 0 → someFrom q l ≡ true
+  some-at : 0 < q → (l : List ℕ) (i : ℕ) → q ≤ getD l i 0 → someFrom q l ≡ true
   some-at pos l i h = go (someFrom q l) refl
     where
       go : (t : Bool) → someFrom q l ≡ t → someFrom q l ≡ true

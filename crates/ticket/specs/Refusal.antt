@@ -13,11 +13,11 @@ use Rattle.laws.specs.Admitted.{degree-of}
 use Rattle.ticket.specs.Any.{none-first}
 use Rattle.ticket.specs.Radicand.{coefficients}
 
-pub first-applies : (k : ℕ) (l : List (ℕ × Bool)) {t : Bool} → t ≡ true → firstOf ((k, t) ∷ l) ≡ k
+first-applies : (k : ℕ) (l : List (ℕ × Bool)) {t : Bool} → t ≡ true → firstOf ((k, t) ∷ l) ≡ k
 unfolding firstOf
 first-applies k l e = rw (firstOf, e)
 
-pub first-passes : (k : ℕ) (l : List (ℕ × Bool)) {t : Bool} → t ≡ false → firstOf ((k, t) ∷ l) ≡ firstOf l
+first-passes : (k : ℕ) (l : List (ℕ × Bool)) {t : Bool} → t ≡ false → firstOf ((k, t) ∷ l) ≡ firstOf l
 unfolding firstOf
 first-passes k l e = rw (firstOf, e)
 
@@ -72,8 +72,9 @@ module _ (w : List ℕ) (head : wrongHead w ≡ false) (q : ℕ) (q-is : q ≡ v
     pub refused-4 : wrongDegree n ≡ false → wrongLayout n w ≡ true → refusalOf w ≡ 4
     refused-4 e f = past-prime ∙ first-passes _ _ e ∙ first-applies _ _ f
 
-    pub refused-by-radicand : wrongDegree n ≡ false → wrongLayout n w ≡ false → refusalOf w ≡ firstOf (radicandTests q n (coefficients n w))
-    refused-by-radicand e f = past-prime ∙ first-passes _ _ e ∙ first-passes _ _ f
+    -- D is the list of the coefficients
+    pub refused-by-radicand : wrongDegree n ≡ false → wrongLayout n w ≡ false → (D : List ℕ) → D ≡ coefficients n w → refusalOf w ≡ firstOf (radicandTests q n D)
+    refused-by-radicand e f D h = past-prime ∙ first-passes _ _ e ∙ first-passes _ _ f ∙ ap (λ (l : List ℕ). firstOf (radicandTests q n l)) (sym h)
 
 -- ---- what a test that passes gives
 pub head-long : (w : List ℕ) → wrongHead w ≡ false → 7 ≤ length w

@@ -7,16 +7,10 @@ use Rattle.bridge.specs.Prime.{odd-prime-true}
 use borrow.Author.Needs.{needs}
 use Rattle.polynomial_test.proofs.run.Statement.{statement}
 use Rattle.polynomial_test.proofs.run.Tie as tie
-use Rattle.polynomial_test.proofs.run.Reads as reads
-use Rattle.polynomial_test.proofs.run.Lts as lts
-use Rattle.field.proofs.primes.is_odd_prime.Reads as is-odd-prime-reads
-use Rattle.polynomial_test.proofs.samples.Reads as samples-reads
 
--- src/main.rt:115:8
 is-odd-prime-requires : tie.Need-is-odd-prime-requires
 is-odd-prime-requires c κs = search needs
 
--- src/main.rt:116:9
 samples-requires : tie.Need-samples-requires
 samples-requires c κs =
     let q = c .before .before .args .q in
@@ -24,11 +18,9 @@ samples-requires c κs =
     let o = odd-prime-true q e in
     (o .prime, omega (arith, o .prime .two), o .small, search needs, search needs, search needs)
 
--- src/main.rt:112:1
 returns : tie.Need-returns
 returns c = search needs
 
--- src/main.rt:112:1
 returns-2 : tie.Need-returns-2
 returns-2 c = search needs
 

@@ -3,21 +3,17 @@ use mathlib.Core.Path.{_≡_, sym, _∙_, subst}
 use mathlib.Core.Logic.{⊎-elim}
 use mathlib.Core.List.{List}
 use native.Mathlib.Decide.{ℕ-discrete}
-use Prim.Native.Nat.{ℕ, _≤_, _<_, _-_, _+_, _*_, _%_}
+use Prim.Native.Nat.{ℕ, _≤_, _<_, _-_}
 use native.Mathlib.Nat.{mod-lt}
 use native.Mathlib.Omega.{arith}
 use lib.ListN.{length, getD, set}
 use lib.Seq.{getD-set-same, getD-set-other}
 use Rattle.ring.specs.Order.{le-or-lt}
-use Rattle.polynomial.specs.Record.{Held}
 use Rattle.polynomial.specs.Places.{at-zeros}
 use Rattle.polynomial.specs.Result.{held-top}
 use borrow.Author.Needs.{needs}
 use Rattle.polynomial_test.proofs.sample.Statement.{statement}
 use Rattle.polynomial_test.proofs.sample.Tie as tie
-use Rattle.polynomial_test.proofs.sample.Reads as reads
-use Rattle.polynomial_test.proofs.sample.Lts as lts
-use Rattle.polynomial.proofs.linear.top.Reads as top-reads
 
 abbrev Inv-loop : tie.InvT-loop
 Inv-loop f seed n z₀ s₀ i₀ z s i = (i ≤ n) × (s < 65537) × (length z ≡ 129) × ((k : ℕ) → getD z k 0 < f .q) × ((k : ℕ) → i ≤ k → getD z k 0 ≡ 0)
@@ -31,54 +27,43 @@ set-below z i v q h l b k = elim (ℕ-discrete k i) [
   | no e ↦ subst (λ (w : ℕ). w < q) (sym (getD-set-other z i k v 0 e)) (b k)
 ]
 
--- src/main.rt:19:5
 loop-holds : tie.Need-loop-holds Inv-loop μ-loop
 loop-holds c =
     let s = c in
     (search needs, search needs, search needs, λ k. (let e = at-zeros k in omega arith), λ k h. at-zeros k)
 
--- src/main.rt:20:14
 mul-s : tie.Need-mul-s Inv-loop μ-loop
 mul-s c = search needs
 
--- src/main.rt:20:14
 add-s : tie.Need-add-s Inv-loop μ-loop
 add-s c = search needs
 
--- src/main.rt:21:16
 rem-z : tie.Need-rem-z Inv-loop μ-loop
 rem-z c = search needs
 
--- src/main.rt:21:9
 mul-z : tie.Need-mul-z Inv-loop μ-loop
 mul-z c = search needs
 
--- src/main.rt:21:9
 array-write-z : tie.Need-array-write-z Inv-loop μ-loop
 array-write-z c = search needs
 
--- src/main.rt:22:9
 add-i : tie.Need-add-i Inv-loop μ-loop
 add-i c = search needs
 
--- src/main.rt:19:5
 loop-less : tie.Need-loop-less Inv-loop μ-loop
 loop-less c = search needs
 
--- src/main.rt:19:5
 loop-again : tie.Need-loop-again Inv-loop μ-loop
 loop-again c =
     let s = c .before .before .before in
     let l = c .before .before .loop in
     (search needs, mod-lt _ (omega arith), search needs, set-below (l .z) (l .i) _ _ (omega arith) (mod-lt _ (omega arith)) (l .inv .3), λ k h. getD-set-other (l .z) (l .i) k _ 0 (λ e. omega arith) ∙ l .inv .4 k (omega arith))
 
--- src/main.rt:24:9
 top-requires : tie.Need-top-requires Inv-loop μ-loop
 top-requires c κs =
     let l = c .before .before .loop in
     (search needs, λ i h. l .inv .4 i (omega arith))
 
--- src/main.rt:12:1
 returns : tie.Need-returns Inv-loop μ-loop
 returns c =
     let s = c .before .before .before .before in

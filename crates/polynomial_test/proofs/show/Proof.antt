@@ -3,12 +3,6 @@ use Prim.Native.Nat.{_≤_, _-_}
 use borrow.Author.Needs.{needs}
 use Rattle.polynomial_test.proofs.show.Statement.{statement}
 use Rattle.polynomial_test.proofs.show.Tie as tie
-use Rattle.polynomial_test.proofs.show.Reads as reads
-use Rattle.polynomial_test.proofs.show.Lts as lts
-use Rattle.io.proofs.print_decimal.Reads as print-decimal-reads
-use Rattle.io.proofs.write_all.Reads as write-all-reads
-use Rattle.polynomial_test.proofs.places.Reads as places-reads
-use Rattle.polynomial_test.proofs.wide.Reads as wide-reads
 
 abbrev Inv-loop : tie.InvT-loop
 Inv-loop p n i₀ t5 t6 i = i ≤ n
@@ -16,59 +10,45 @@ Inv-loop p n i₀ t5 t6 i = i ≤ n
 abbrev μ-loop : tie.MeasureT-loop
 μ-loop p n i₀ t5 t6 i = n - i
 
--- src/main.rt:40:9
 places-requires : tie.Need-places-requires Inv-loop μ-loop
 places-requires c κs = search needs
 
--- src/main.rt:42:5
 loop-holds : tie.Need-loop-holds Inv-loop μ-loop
 loop-holds c = search needs
 
--- src/main.rt:43:47
 mul-wide : tie.Need-mul-wide Inv-loop μ-loop
 mul-wide c = search needs
 
--- src/main.rt:43:47
 element-copy-out-wide : tie.Need-element-copy-out-wide Inv-loop μ-loop
 element-copy-out-wide c = search needs
 
--- src/main.rt:43:42
 wide-requires : tie.Need-wide-requires Inv-loop μ-loop
 wide-requires c κs = search needs
 
--- src/main.rt:43:9
 print-decimal-requires : tie.Need-print-decimal-requires Inv-loop μ-loop
 print-decimal-requires c κs = search needs
 
--- src/main.rt:44:38
 slice-aggregate-write-all : tie.Need-slice-aggregate-write-all Inv-loop μ-loop
 slice-aggregate-write-all c = search needs
 
--- src/main.rt:44:9
 write-all-requires : tie.Need-write-all-requires Inv-loop μ-loop
 write-all-requires c κs = search needs
 
--- src/main.rt:45:9
 add-i : tie.Need-add-i Inv-loop μ-loop
 add-i c = search needs
 
--- src/main.rt:42:5
 loop-less : tie.Need-loop-less Inv-loop μ-loop
 loop-less c = search needs
 
--- src/main.rt:42:5
 loop-again : tie.Need-loop-again Inv-loop μ-loop
 loop-again c = search needs
 
--- src/main.rt:47:34
 slice-aggregate-write-all-2 : tie.Need-slice-aggregate-write-all-2 Inv-loop μ-loop
 slice-aggregate-write-all-2 c = search needs
 
--- src/main.rt:47:5
 write-all-requires-2 : tie.Need-write-all-requires-2 Inv-loop μ-loop
 write-all-requires-2 c κs = search needs
 
--- src/main.rt:39:1
 returns : tie.Need-returns Inv-loop μ-loop
 returns c = search needs
 

@@ -1,29 +1,20 @@
 -- The two products are held.
-use native.Mathlib.Omega.{arith}
 use Rattle.polynomial.specs.Result.{result-mul}
 use borrow.Author.Needs.{needs}
 use Rattle.polynomial_test.proofs.show_common.Statement.{statement}
 use Rattle.polynomial_test.proofs.show_common.Tie as tie
-use Rattle.polynomial_test.proofs.show_common.Reads as reads
-use Rattle.polynomial_test.proofs.show_common.Lts as lts
-use Rattle.polynomial.proofs.product.mul.Reads as mul-reads
-use Rattle.polynomial_test.proofs.show_gcd.Reads as show-gcd-reads
 
--- src/main.rt:94:9
 mul-requires : tie.Need-mul-requires
 mul-requires c κs = search needs
 
--- src/main.rt:95:9
 mul-requires-2 : tie.Need-mul-requires-2
 mul-requires-2 c κs = search needs
 
--- src/main.rt:96:5
 show-gcd-requires : tie.Need-show-gcd-requires
 show-gcd-requires c κs =
     let s = c .before .before in
     ((s .pre .0 .0, search needs), (result-mul _ _ _ (s .pre .1 .0) _ _ (s .pre .1 .1 .1) _ _ (s .pre .0 .2) (c .before .mul .ensures) .held, result-mul _ _ _ (s .pre .1 .1 .0) _ _ (s .pre .1 .1 .1) _ _ (s .pre .0 .3) (c .mul2 .ensures) .held))
 
--- src/main.rt:88:1
 returns : tie.Need-returns
 returns c = search needs
 

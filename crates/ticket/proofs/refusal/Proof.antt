@@ -1,7 +1,7 @@
 -- Each test that passes leaves the definition's refusal to the next; those on D are the last.
 use Prim.Native.Nat.{ℕ, _+_, _≤_}
 use native.Mathlib.Omega.{arith}
-use mathlib.Core.Path.{_≡_, sym, ap, _∙_}
+use mathlib.Core.Path.{_≡_, sym, _∙_}
 use mathlib.Core.Bool.{true, false}
 use mathlib.Core.List.{List}
 use lib.ListN.{length}
@@ -10,9 +10,9 @@ use borrow.Author.Needs.{needs}
 use borrow.Author.Tests.{not-true, not-false}
 use Rattle.bridge.specs.Prime.{odd-prime-true}
 use Rattle.definitions.specs.Primes.{oddPrime}
-use Rattle.definitions.specs.Ticket.{wrongHead, wrongDegree, wrongLayout, firstOf}
+use Rattle.definitions.specs.Ticket.{wrongHead, wrongDegree, wrongLayout}
 use Rattle.ticket.specs.Radicand.{radicand-size, radicand-poly, radicand-itself}
-use Rattle.ticket.specs.Refusal.{refused-1, refused-2, refused-3, refused-4, refused-by-radicand, head-long, degree-most, layout-length, radicandTests}
+use Rattle.ticket.specs.Refusal.{refused-1, refused-2, refused-3, refused-4, refused-by-radicand, head-long, degree-most, layout-length}
 use Rattle.ticket.proofs.refusal.Statement.{statement}
 use Rattle.ticket.proofs.refusal.Tie as tie
 
@@ -110,9 +110,9 @@ returns-5 : tie.Need-returns-5
 returns-5 c =
     let e = c .before .before in
     let d = e .before .before in
-    c .radicand-refusal .ensures
-    ∙ ap (λ (l : List ℕ). firstOf (radicandTests (primes d .before .before .value .result) (d .before .before .value2 .result) l)) (radicand-poly _ (ws d) (most d) (full e) _ _ _ (c .before .radicand .ensures 0))
-    ∙ sym (refused-by-radicand _ (head-passed (heads d)) _ (primes d .before .before .value .ensures) (prime-passed (primes d)) _ (d .before .before .value2 .ensures) (degree-passed d) (layout-passed e))
+    let same = radicand-poly _ (ws d) (most d) (full e) _ _ _ (c .before .radicand .ensures 0) in
+    let rest = refused-by-radicand _ (head-passed (heads d)) _ (primes d .before .before .value .ensures) (prime-passed (primes d)) _ (d .before .before .value2 .ensures) (degree-passed d) (layout-passed e) _ same in
+    cc (c .radicand-refusal .ensures)
 
 pub refusal-spec : {M : Type 1} → statement M
 refusal-spec =

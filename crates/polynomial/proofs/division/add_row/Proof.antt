@@ -1,5 +1,5 @@
 -- The invariant: j places of the row are added, the others stand as they did.
-use mathlib.Core.Path.{_≡_, refl, sym, _∙_, subst}
+use mathlib.Core.Path.{_≡_, sym, subst}
 use Prim.Native.Nat.{ℕ, _≤_, _<_, _-_, _+_, _*_}
 use native.Mathlib.Nat.{mul-le-mul}
 use native.Mathlib.Omega.{arith}
@@ -8,8 +8,6 @@ use Rattle.polynomial.proofs.Rows.{RowTo, row-start, row-step, row-end}
 use borrow.Author.Needs.{needs}
 use Rattle.polynomial.proofs.division.add_row.Statement.{statement}
 use Rattle.polynomial.proofs.division.add_row.Tie as tie
-use Rattle.polynomial.proofs.division.add_row.Reads as reads
-use Rattle.polynomial.proofs.division.add_row.Lts as lts
 
 abbrev Inv-loop : tie.InvT-loop
 Inv-loop m x₀ y k n j₀ x j = (j ≤ n) × (length x ≡ 129) × RowTo m x₀ y k j x
@@ -32,68 +30,53 @@ place c =
     let l = c .before .before .before .loop in
     subst (λ (v : ℕ). v < 4278198271) (sym (l .inv .2 .rest (l .j) (omega arith))) (s .pre .1 .0 (s .args .k + l .j))
 
--- src/division.rt:26:5
 loop-holds : tie.Need-loop-holds Inv-loop μ-loop
 loop-holds c =
     (search needs, search needs, row-start _ _ _ _)
 
--- src/division.rt:27:22
 add-x : tie.Need-add-x Inv-loop μ-loop
 add-x c = search needs
 
--- src/division.rt:27:20
 mul-x : tie.Need-mul-x Inv-loop μ-loop
 mul-x c = search needs
 
--- src/division.rt:27:20
 element-copy-out-x : tie.Need-element-copy-out-x Inv-loop μ-loop
 element-copy-out-x c = search needs
 
--- src/division.rt:27:35
 mul-x-2 : tie.Need-mul-x-2 Inv-loop μ-loop
 mul-x-2 c = search needs
 
--- src/division.rt:27:35
 element-copy-out-x-2 : tie.Need-element-copy-out-x-2 Inv-loop μ-loop
 element-copy-out-x-2 c = search needs
 
--- src/division.rt:27:31
 mul-x-3 : tie.Need-mul-x-3 Inv-loop μ-loop
 mul-x-3 c =
     omega (arith, term c)
 
--- src/division.rt:27:20
 add-x-2 : tie.Need-add-x-2 Inv-loop μ-loop
 add-x-2 c =
     omega (arith, term c, place c)
 
--- src/division.rt:27:11
 add-x-3 : tie.Need-add-x-3 Inv-loop μ-loop
 add-x-3 c = search needs
 
--- src/division.rt:27:9
 mul-x-4 : tie.Need-mul-x-4 Inv-loop μ-loop
 mul-x-4 c = search needs
 
--- src/division.rt:27:9
 element-write-x : tie.Need-element-write-x Inv-loop μ-loop
 element-write-x c = search needs
 
--- src/division.rt:28:9
 add-j : tie.Need-add-j Inv-loop μ-loop
 add-j c = search needs
 
--- src/division.rt:26:5
 loop-less : tie.Need-loop-less Inv-loop μ-loop
 loop-less c = search needs
 
--- src/division.rt:26:5
 loop-again : tie.Need-loop-again Inv-loop μ-loop
 loop-again c =
     let l = c .before .before .before .loop in
     (search needs, search needs, row-step _ _ _ _ (l .j) (l .x) (omega arith) (l .inv .2))
 
--- src/division.rt:19:1
 returns : tie.Need-returns Inv-loop μ-loop
 returns c =
     let s = c .before .before in

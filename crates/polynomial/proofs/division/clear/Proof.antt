@@ -1,22 +1,17 @@
 -- The invariant is the stage: with k coefficients to go, the upper part of the dividend is divided. Each turn is a step of it.
-use mathlib.Core.Path.{_≡_, refl, sym, ap, _∙_, subst}
-use mathlib.Core.List.{List}
+use mathlib.Core.Path.{_≡_, sym, ap, subst}
 use Prim.Native.Nat.{ℕ, suc, _≤_, _<_, _-_, _+_, _*_, _%_}
 use native.Mathlib.Nat.{mod-lt, mul-le-mul}
 use native.Mathlib.Omega.{arith}
 use lib.ListN.{length, getD}
 use lib.Seq.{length-take-le}
 use Rattle.polynomial.specs.Record.{poly}
-use Rattle.polynomial.specs.Row.{Bounded, Ends, Row, at-take}
+use Rattle.polynomial.specs.Row.{Bounded, at-take}
 use Rattle.polynomial.proofs.Rows.{row-take, row-bounded}
 use Rattle.polynomial.proofs.Stage.{Stage, start, step, end}
 use borrow.Author.Needs.{needs}
 use Rattle.polynomial.proofs.division.clear.Statement.{statement}
 use Rattle.polynomial.proofs.division.clear.Tie as tie
-use Rattle.polynomial.proofs.division.clear.Reads as reads
-use Rattle.polynomial.proofs.division.clear.Lts as lts
-use Rattle.polynomial.proofs.division.add_row.Reads as add-row-reads
-use Rattle.polynomial.proofs.product.excess.Reads as excess-reads
 
 abbrev Inv-loop : tie.InvT-loop
 Inv-loop f u x₀ y z₀ m n t k₀ x z k = (k ≤ t) × (length x ≡ 129) × (length z ≡ 129) × Bounded (4096 + 16769025 * (t - k)) x × Stage (f .q) u (poly y n) (poly x₀ m) k x z
@@ -40,15 +35,12 @@ long-x s = length-take-le (s .args .m) (s .args .x .now) (omega arith)
 long-y : (s : tie.Start Inv-loop μ-loop) → length (poly (s .args .y .now) (s .args .n)) ≡ s .args .n
 long-y s = length-take-le (s .args .n) (s .args .y .now) (omega arith)
 
--- src/division.rt:43:20
 add-excess : tie.Need-add-excess Inv-loop μ-loop
 add-excess c = search needs
 
--- src/division.rt:43:9
 excess-requires : tie.Need-excess-requires Inv-loop μ-loop
 excess-requires c κs = search needs
 
--- src/division.rt:45:5
 loop-holds : tie.Need-loop-holds Inv-loop μ-loop
 loop-holds c =
     let s = c .before in
@@ -56,31 +48,24 @@ loop-holds c =
     let y = long-y s in
     (search needs, search needs, search needs, λ i. (let h = s .pre .1 .0 .reduced i in omega arith), start _ _ _ _ (positive s) (reduced s) _ _ _ (λ i. sym (dividend s i)) (s .pre .1 .1 .1) (omega arith))
 
--- src/division.rt:46:9
 sub-k : tie.Need-sub-k Inv-loop μ-loop
 sub-k c = search needs
 
--- src/division.rt:47:19
 add-c : tie.Need-add-c Inv-loop μ-loop
 add-c c = search needs
 
--- src/division.rt:47:19
 sub-c : tie.Need-sub-c Inv-loop μ-loop
 sub-c c = search needs
 
--- src/division.rt:47:17
 mul-c : tie.Need-mul-c Inv-loop μ-loop
 mul-c c = search needs
 
--- src/division.rt:47:17
 element-copy-out-c : tie.Need-element-copy-out-c Inv-loop μ-loop
 element-copy-out-c c = search needs
 
--- src/division.rt:47:17
 rem-c : tie.Need-rem-c Inv-loop μ-loop
 rem-c c = search needs
 
--- src/division.rt:47:17
 mul-c-2 : tie.Need-mul-c-2 Inv-loop μ-loop
 mul-c-2 c =
     let s = c .before .before .before .before .before in
@@ -92,37 +77,30 @@ mul-c-2 c =
     let t : (v % s .args .f .q) * s .args .u ≤ 16769025 = mul-le-mul a b in
     omega arith
 
--- src/division.rt:47:17
 rem-c-2 : tie.Need-rem-c-2 Inv-loop μ-loop
 rem-c-2 c = search needs
 
--- src/division.rt:48:9
 mul-z : tie.Need-mul-z Inv-loop μ-loop
 mul-z c = search needs
 
--- src/division.rt:48:9
 element-write-z : tie.Need-element-write-z Inv-loop μ-loop
 element-write-z c = search needs
 
--- src/division.rt:49:17
 sub-add-row : tie.Need-sub-add-row Inv-loop μ-loop
 sub-add-row c =
     let s = c .before .before .before .before .before .before .before in
     let l = c .before .before .before .before .before .loop in
     omega (arith, mod-lt (getD (l .x) (l .k - 1 + s .args .n - 1) 0 % s .args .f .q * s .args .u) (positive s))
 
--- src/division.rt:49:9
 add-row-requires : tie.Need-add-row-requires Inv-loop μ-loop
 add-row-requires c κs =
     let s = c .before .before .before .before .before .before .before .before in
     let l = c .before .before .before .before .before .before .loop in
     ((search needs, omega arith, search needs), (λ i. (let h = l .inv .3 i in omega arith), (λ i. (let h = s .pre .1 .1 .0 .0 .reduced i in omega arith), s .pre .1 .1 .0 .0 .past)))
 
--- src/division.rt:45:5
 loop-less : tie.Need-loop-less Inv-loop μ-loop
 loop-less c = search needs
 
--- src/division.rt:45:5
 loop-again : tie.Need-loop-again Inv-loop μ-loop
 loop-again c =
     let s = c .before .before .before .before .before .before .before .before .before in
@@ -148,7 +126,6 @@ loop-again c =
       step q u b p (positive s) (reduced s) k (l .x) y (l .z) v (omega arith) (omega arith) (subst (λ (j : ℕ). Stage q u b p j (l .x) (l .z)) back (l .inv .4)) (ap (λ (j : ℕ). (getD (l .x) j 0 % q) * u % q) same) (row-take (q - v) (l .x) (s .args .y .now) k (s .args .n) y (s .pre .1 .1 .0 .0 .past) row),
     )
 
--- src/division.rt:36:1
 returns : tie.Need-returns Inv-loop μ-loop
 returns c =
     let s = c .before .before .before in

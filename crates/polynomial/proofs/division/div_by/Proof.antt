@@ -1,8 +1,7 @@
 -- The places that the long division leaves are those of quotient and remainder; their sizes are found from the top.
-use mathlib.Core.Path.{_≡_, sym, _∙_, subst}
-use Prim.Native.Nat.{ℕ, _≤_, _<_, _-_, _+_}
+use mathlib.Core.Path.{sym, _∙_, subst}
+use Prim.Native.Nat.{ℕ, _<_}
 use native.Mathlib.Omega.{arith}
-use lib.ListN.{length, getD}
 use Rattle.bridge.specs.Residues.{inverse-lt}
 use Rattle.polynomial.specs.Held.{held-length, held-positive}
 use Rattle.polynomial.specs.Places.{at-zeros}
@@ -11,32 +10,21 @@ use Rattle.polynomial.specs.Division.{quo-past, rem-past, is-quo, is-rem
 use borrow.Author.Needs.{needs}
 use Rattle.polynomial.proofs.division.div_by.Statement.{statement}
 use Rattle.polynomial.proofs.division.div_by.Tie as tie
-use Rattle.polynomial.proofs.division.div_by.Reads as reads
-use Rattle.polynomial.proofs.division.div_by.Lts as lts
-use Rattle.field.proofs.inverse.Reads as inverse-reads
-use Rattle.polynomial.proofs.division.clear.Reads as clear-reads
-use Rattle.polynomial.proofs.division.reduce_places.Reads as reduce-places-reads
-use Rattle.polynomial.proofs.linear.top.Reads as top-reads
 
--- src/division.rt:88:33
 sub-inverse : tie.Need-sub-inverse
 sub-inverse c = search needs
 
--- src/division.rt:88:31
 mul-inverse : tie.Need-mul-inverse
 mul-inverse c = search needs
 
--- src/division.rt:88:31
 array-read-inverse : tie.Need-array-read-inverse
 array-read-inverse c = search needs
 
--- src/division.rt:88:9
 inverse-requires : tie.Need-inverse-requires
 inverse-requires c κs =
     let s = c .before in
     (search needs, s .pre .1 .1 .reduced _)
 
--- src/division.rt:91:9
 clear-requires : tie.Need-clear-requires
 clear-requires c κs =
     let s = c .before .before .before .before .before .before in
@@ -45,18 +33,15 @@ clear-requires c κs =
     let small = subst (λ (v : ℕ). v < s .args .f .q) (sym (c .before .before .before .before .inverse .ensures)) (inverse-lt _ (held-positive _ _ _ a) _) in
     ((search needs, small, search needs, a .short, b .short, held-length _ _ _ a, search needs), (held-within _ _ _ _ a (omega arith), ((held-within _ _ _ _ b (omega arith), held-length _ _ _ b), λ i h. at-zeros i)))
 
--- src/division.rt:93:26
 sub-reduce-places : tie.Need-sub-reduce-places
 sub-reduce-places c = search needs
 
--- src/division.rt:93:5
 reduce-places-requires : tie.Need-reduce-places-requires
 reduce-places-requires c κs =
     let s = c .before .before .before .before .before .before .before .before .before in
     let b = s .pre .1 .1 .short in
     ((held-positive _ _ _ (s .pre .1 .0), omega arith), rem-past _ _ _ (s .pre .1 .0) _ _ (s .pre .1 .1) _ (c .before .before .before .before .before .before .before .inverse .ensures) _ _ (c .before .before .clear .ensures .1) (s .pre .0 .0) (search needs))
 
--- src/division.rt:94:9
 top-requires : tie.Need-top-requires
 top-requires c κs =
     let s = c .before .before .before .before .before .before .before .before .before .before .before in
@@ -64,18 +49,15 @@ top-requires c κs =
     let a = s .pre .1 .0 .short in
     (omega arith, λ i h. quo-past _ _ _ (s .pre .1 .0) _ _ (s .pre .1 .1) _ (c .before .before .before .before .before .before .before .before .before .inverse .ensures) _ _ (e .1) i (omega arith))
 
--- src/division.rt:95:21
 sub-top : tie.Need-sub-top
 sub-top c = search needs
 
--- src/division.rt:95:9
 top-requires-2 : tie.Need-top-requires-2
 top-requires-2 c κs =
     let s = c .before .before .before .before .before .before .before .before .before .before .before .before .before in
     let b = s .pre .1 .1 .short in
     (omega arith, λ i h. c .before .before .before .reduce-places .ensures .at i ∙ rem-past _ _ _ (s .pre .1 .0) _ _ (s .pre .1 .1) _ (c .before .before .before .before .before .before .before .before .before .before .before .inverse .ensures) _ _ (c .before .before .before .before .before .before .clear .ensures .1) (s .pre .0 .0) (search needs) i h)
 
--- src/division.rt:79:1
 returns : tie.Need-returns
 returns c =
     let s = c .before .before .before .before .before .before .before .before .before .before .before .before .before .before in

@@ -7,27 +7,19 @@ use Rattle.polynomial.specs.Division.{quo-zero, is-rem-zero}
 use borrow.Author.Needs.{needs}
 use Rattle.polynomial.proofs.division.div_rem.Statement.{statement}
 use Rattle.polynomial.proofs.division.div_rem.Tie as tie
-use Rattle.polynomial.proofs.division.div_rem.Reads as reads
-use Rattle.polynomial.proofs.division.div_rem.Lts as lts
-use Rattle.polynomial.proofs.division.div_by.Reads as div-by-reads
-use Rattle.polynomial.proofs.linear.zero.Reads as zero-reads
 
--- src/division.rt:111:13
 zero-requires : tie.Need-zero-requires
 zero-requires c κs = search needs
 
--- src/division.rt:114:9
 div-by-requires : tie.Need-div-by-requires
 div-by-requires c κs = search needs
 
--- src/division.rt:103:1
 returns : tie.Need-returns
 returns c =
     let s = c .before .before .before in
     let none : s .args .b .size ≡ 0 = search needs in
     (subst (λ (l : List ℕ). Is (s .args .f .q) (c .zero .result .c) (c .zero .result .size) l) (sym (quo-zero _ _ _ (s .pre .1 .0) _ _ (s .pre .1 .1) (s .pre .0 .0) none)) (c .zero .ensures _), is-rem-zero _ _ _ (s .pre .1 .0) _ _ (s .pre .1 .1) none)
 
--- src/division.rt:103:1
 returns-2 : tie.Need-returns-2
 returns-2 c = search needs
 

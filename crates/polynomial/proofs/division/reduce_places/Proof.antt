@@ -1,14 +1,12 @@
 -- The invariant: the places below i are filled in.
-use mathlib.Core.Path.{_≡_, refl}
-use Prim.Native.Nat.{ℕ, _≤_, _<_, _-_, _+_, _%_}
+use mathlib.Core.Path.{refl}
+use Prim.Native.Nat.{_≤_, _-_, _%_}
 use native.Mathlib.Omega.{arith}
 use lib.ListN.{getD}
-use Rattle.polynomial.specs.Places.{Places, Filled, filled-none, filled-more, filled-all}
+use Rattle.polynomial.specs.Places.{Filled, filled-none, filled-more, filled-all}
 use borrow.Author.Needs.{needs}
 use Rattle.polynomial.proofs.division.reduce_places.Statement.{statement}
 use Rattle.polynomial.proofs.division.reduce_places.Tie as tie
-use Rattle.polynomial.proofs.division.reduce_places.Reads as reads
-use Rattle.polynomial.proofs.division.reduce_places.Lts as lts
 
 abbrev Inv-loop : tie.InvT-loop
 Inv-loop f x n z₀ i₀ z i = (i ≤ n) × Filled z (λ k. getD x k 0 % f .q) i
@@ -16,46 +14,36 @@ Inv-loop f x n z₀ i₀ z i = (i ≤ n) × Filled z (λ k. getD x k 0 % f .q) i
 abbrev μ-loop : tie.MeasureT-loop
 μ-loop f x n z₀ i₀ z i = n - i
 
--- src/division.rt:72:5
 loop-holds : tie.Need-loop-holds Inv-loop μ-loop
 loop-holds c =
     (search needs, filled-none _)
 
--- src/division.rt:73:16
 mul-z : tie.Need-mul-z Inv-loop μ-loop
 mul-z c = search needs
 
--- src/division.rt:73:16
 element-copy-out-z : tie.Need-element-copy-out-z Inv-loop μ-loop
 element-copy-out-z c = search needs
 
--- src/division.rt:73:16
 rem-z : tie.Need-rem-z Inv-loop μ-loop
 rem-z c = search needs
 
--- src/division.rt:73:9
 mul-z-2 : tie.Need-mul-z-2 Inv-loop μ-loop
 mul-z-2 c = search needs
 
--- src/division.rt:73:9
 element-write-z : tie.Need-element-write-z Inv-loop μ-loop
 element-write-z c = search needs
 
--- src/division.rt:74:9
 add-i : tie.Need-add-i Inv-loop μ-loop
 add-i c = search needs
 
--- src/division.rt:72:5
 loop-less : tie.Need-loop-less Inv-loop μ-loop
 loop-less c = search needs
 
--- src/division.rt:72:5
 loop-again : tie.Need-loop-again Inv-loop μ-loop
 loop-again c =
     let l = c .before .before .before .loop in
     (search needs, filled-more _ (l .z) (l .i) _ (l .inv .1) (omega arith) refl)
 
--- src/division.rt:65:1
 returns : tie.Need-returns Inv-loop μ-loop
 returns c =
     let s = c .before .before .before in

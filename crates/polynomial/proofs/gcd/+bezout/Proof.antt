@@ -1,11 +1,10 @@
 -- The measure is the size of b: the remainder's is smaller. Each branch is one of the definition's two rules; the factors fit by their lengths.
-use mathlib.Core.Path.{_≡_, sym, ap, ap₂, _∙_, subst}
+use mathlib.Core.Path.{_≡_, sym, subst}
 use mathlib.Core.List.{List}
 use native.Mathlib.Omega.{arith}
 use borrow.Author.Needs.{needs}
-use Rattle.definitions.specs.Field.{modulo}
-use Rattle.definitions.specs.Polynomials.{sub, mul, quo}
-use Rattle.polynomial.specs.Record.{poly, Held, Is}
+use Rattle.definitions.specs.Polynomials.{sub, mul}
+use Rattle.polynomial.specs.Record.{Is}
 use Rattle.polynomial.specs.Result.{result-quo, result-rem, size-rem}
 use Rattle.polynomial.specs.Bezout.{none-gcd, none-u, none-v, turn-gcd, turn-u, turn-v, turn-last-u, turn-last-v, turn-product, turn-fits}
 use Prim.Native.Nat.{ℕ, _<_}
@@ -30,7 +29,6 @@ bezout-at t = and 0 bezout-kinds.ps (is 0 bezout-kinds.ps μ-bezout t) bezout.Pr
 abbrev bezout-below : ℕ → In 0 bezout-kinds.ps
 bezout-below t = and 0 bezout-kinds.ps (falls 0 bezout-kinds.ps _<_ μ-bezout t) bezout.Pre
 
--- src/gcd.rt:67:9
 bezout-bezout-zero-requires : (t : ℕ) → bezout-lts.Need-bezout-zero-requires (
   bezout-zero-reads.Asked,
   bezout-zero-reads.Learnt,
@@ -45,7 +43,6 @@ bezout-bezout-zero-requires : (t : ℕ) → bezout-lts.Need-bezout-zero-requires
 ) (bezout-at t) bezout.Post
 bezout-bezout-zero-requires t c κs = search needs
 
--- src/gcd.rt:69:13
 bezout-div-by-requires : (t : ℕ) → bezout-lts.Need-div-by-requires (
   bezout-zero-reads.Asked,
   bezout-zero-reads.Learnt,
@@ -60,7 +57,6 @@ bezout-div-by-requires : (t : ℕ) → bezout-lts.Need-div-by-requires (
 ) (bezout-at t) bezout.Post
 bezout-div-by-requires t c κs = search needs
 
--- src/gcd.rt:71:13
 bezout-bezout-requires : (t : ℕ) → bezout-lts.Need-bezout-requires (
   bezout-zero-reads.Asked,
   bezout-zero-reads.Learnt,
@@ -82,7 +78,6 @@ bezout-bezout-requires t c κs =
     let less = size-rem _ _ _ a _ _ b _ _ p (omega arith) r in
     (omega arith, (s .pre .1 .0, (b, result-rem _ _ _ a _ _ b _ _ p r .held)))
 
--- src/gcd.rt:75:13
 bezout-mul-requires : (t : ℕ) → bezout-lts.Need-mul-requires (
   bezout-zero-reads.Asked,
   bezout-zero-reads.Learnt,
@@ -105,7 +100,6 @@ bezout-mul-requires t c κs =
     let some : 0 < s .args .b .size = omega arith in
     ((search needs, turn-fits _ p _ _ a _ _ b some _ _ (d .0) _ _ (d .1) _ _ (e .1 .0) _ _ (e .1 .1)), (result-quo _ _ _ a _ _ b _ _ some (d .0) .held, turn-last-v _ p _ _ a _ _ b some _ _ (d .0) _ _ (d .1) _ _ (e .1 .0) _ _ (e .1 .1) .held))
 
--- src/gcd.rt:77:13
 bezout-sub-requires : (t : ℕ) → bezout-lts.Need-sub-requires (
   bezout-zero-reads.Asked,
   bezout-zero-reads.Learnt,
@@ -128,7 +122,6 @@ bezout-sub-requires t c κs =
     let some : 0 < s .args .b .size = omega arith in
     (search needs, (turn-last-u _ p _ _ a _ _ b some _ _ (d .0) _ _ (d .1) _ _ (e .1 .0) _ _ (e .1 .1) .held, turn-product _ p _ _ a _ _ b some _ _ (d .0) _ _ (d .1) _ _ (e .1 .0) _ _ (e .1 .1) _ _ (c .before .mul .ensures) .held))
 
--- src/gcd.rt:58:1
 bezout-returns : (t : ℕ) → bezout-lts.Need-returns (
   bezout-zero-reads.Asked,
   bezout-zero-reads.Learnt,
@@ -152,7 +145,6 @@ bezout-returns t c =
     let none : s .args .b .size ≡ 0 = search needs in
     (subst (λ (l : List ℕ). Is q (r .gcd .c) (r .gcd .size) l) (sym (none-gcd _ p _ _ a _ _ b none)) (e .0), (subst (λ (l : List ℕ). Is q (r .u .c) (r .u .size) l) (sym (none-u _ p _ _ a _ _ b none)) (e .1 .0), subst (λ (l : List ℕ). Is q (r .v .c) (r .v .size) l) (sym (none-v _ p _ _ a _ _ b none)) (e .1 .1)))
 
--- src/gcd.rt:58:1
 bezout-returns-2 : (t : ℕ) → bezout-lts.Need-returns-2 (
   bezout-zero-reads.Asked,
   bezout-zero-reads.Learnt,

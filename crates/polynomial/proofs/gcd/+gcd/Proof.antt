@@ -1,11 +1,11 @@
 -- The measure is the size of b: the remainder's is smaller. Each branch is one of the definition's two rules.
-use mathlib.Core.Path.{_≡_, sym, ap, _∙_, subst}
+use mathlib.Core.Path.{sym, ap, _∙_, subst}
 use mathlib.Core.List.{List}
 use native.Mathlib.Omega.{arith}
 use borrow.Author.Needs.{needs}
 use Rattle.definitions.specs.Field.{modulo}
-use Rattle.definitions.specs.Polynomials.{rem, gcd as gcdOf}
-use Rattle.polynomial.specs.Record.{poly, Held, Is}
+use Rattle.definitions.specs.Polynomials.{gcd as gcdOf}
+use Rattle.polynomial.specs.Record.{poly, Is}
 use Rattle.polynomial.specs.Result.{result-rem, size-rem}
 use Rattle.polynomial.specs.Gcd.{gcd-none, gcd-some}
 use Prim.Native.Nat.{ℕ, _<_}
@@ -28,7 +28,6 @@ gcd-at t = and 0 gcd-kinds.ps (is 0 gcd-kinds.ps μ-gcd t) gcd.Pre
 abbrev gcd-below : ℕ → In 0 gcd-kinds.ps
 gcd-below t = and 0 gcd-kinds.ps (falls 0 gcd-kinds.ps _<_ μ-gcd t) gcd.Pre
 
--- src/gcd.rt:24:9
 gcd-monic-requires : (t : ℕ) → gcd-lts.Need-monic-requires (
   monic-reads.Asked,
   monic-reads.Learnt,
@@ -39,7 +38,6 @@ gcd-monic-requires : (t : ℕ) → gcd-lts.Need-monic-requires (
 ) (gcd-at t) gcd.Post
 gcd-monic-requires t c κs = search needs
 
--- src/gcd.rt:26:13
 gcd-div-by-requires : (t : ℕ) → gcd-lts.Need-div-by-requires (
   monic-reads.Asked,
   monic-reads.Learnt,
@@ -50,7 +48,6 @@ gcd-div-by-requires : (t : ℕ) → gcd-lts.Need-div-by-requires (
 ) (gcd-at t) gcd.Post
 gcd-div-by-requires t c κs = search needs
 
--- src/gcd.rt:28:9
 gcd-gcd-requires : (t : ℕ) → gcd-lts.Need-gcd-requires (
   monic-reads.Asked,
   monic-reads.Learnt,
@@ -68,7 +65,6 @@ gcd-gcd-requires t c κs =
     let less = size-rem _ _ _ a _ _ b _ _ p (omega arith) r in
     (omega arith, (s .pre .1 .0, (b, result-rem _ _ _ a _ _ b _ _ p r .held)))
 
--- src/gcd.rt:17:1
 gcd-returns : (t : ℕ) → gcd-lts.Need-returns (
   monic-reads.Asked,
   monic-reads.Learnt,
@@ -81,7 +77,6 @@ gcd-returns t c =
     let s = c .before .before .before in
     subst (λ (l : List ℕ). Is (s .args .f .q) (c .monic .result .c) (c .monic .result .size) l) (sym (gcd-none _ (s .pre .1 .0 .0) (s .args .a .c) (s .args .a .size) _ _ (s .pre .1 .1 .1) (search needs))) (c .monic .ensures)
 
--- src/gcd.rt:17:1
 gcd-returns-2 : (t : ℕ) → gcd-lts.Need-returns-2 (
   monic-reads.Asked,
   monic-reads.Learnt,

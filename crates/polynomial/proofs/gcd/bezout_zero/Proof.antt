@@ -1,6 +1,6 @@
 -- The definition's case of a zero polynomial, with the inverse of a's leading coefficient.
-use mathlib.Core.Path.{_≡_, sym, ap, _∙_, subst}
-use mathlib.Core.List.{List, [], _∷_}
+use mathlib.Core.Path.{sym, ap, _∙_, subst}
+use mathlib.Core.List.{[], _∷_}
 use Prim.Native.Nat.{ℕ, _<_}
 use Rattle.definitions.specs.Field.{modulo}
 use Rattle.definitions.specs.Polynomials.{trim, scale, monic}
@@ -11,43 +11,30 @@ use Rattle.polynomial.specs.Linear.{lead-place}
 use borrow.Author.Needs.{needs}
 use Rattle.polynomial.proofs.gcd.bezout_zero.Statement.{statement}
 use Rattle.polynomial.proofs.gcd.bezout_zero.Tie as tie
-use Rattle.polynomial.proofs.gcd.bezout_zero.Reads as reads
-use Rattle.polynomial.proofs.gcd.bezout_zero.Lts as lts
-use Rattle.field.proofs.inverse.Reads as inverse-reads
-use Rattle.polynomial.proofs.gcd.constant.Reads as constant-reads
-use Rattle.polynomial.proofs.linear.lead.Reads as lead-reads
-use Rattle.polynomial.proofs.linear.scale.Reads as scale-reads
-use Rattle.polynomial.proofs.linear.zero.Reads as zero-reads
 
--- src/gcd.rt:50:31
 lead-requires : tie.Need-lead-requires
 lead-requires c κs = search needs
 
--- src/gcd.rt:50:9
 inverse-requires : tie.Need-inverse-requires
 inverse-requires c κs =
     let s = c .before in
     let h = s .pre .1 in
     (search needs, subst (λ (m : ℕ). m < s .args .f .q) (sym (c .lead .ensures ∙ lead-place _ _ _ h)) (h .reduced _))
 
--- src/gcd.rt:51:9
 scale-requires : tie.Need-scale-requires
 scale-requires c κs =
     let s = c .before .before in
     let h = s .pre .1 in
     ((search needs, subst (λ (m : ℕ). m < s .args .f .q) (sym (c .inverse .ensures)) (inverse-lt (s .args .f .q) (held-positive _ _ _ h) _)), h)
 
--- src/gcd.rt:52:9
 constant-requires : tie.Need-constant-requires
 constant-requires c κs =
     let s = c .before .before .before in
     subst (λ (m : ℕ). m < s .args .f .q) (sym (c .before .inverse .ensures)) (inverse-lt (s .args .f .q) (held-positive _ _ _ (s .pre .1)) _)
 
--- src/gcd.rt:53:9
 zero-requires : tie.Need-zero-requires
 zero-requires c κs = search needs
 
--- src/gcd.rt:43:1
 returns : tie.Need-returns
 unfolding monic
 returns c =

@@ -1,21 +1,18 @@
 -- One place is filled; the size is found from it.
 use mathlib.Core.Path.{_≡_, refl, sym, _∙_}
-use mathlib.Core.List.{List, [], _∷_}
-use Prim.Native.Nat.{ℕ, zero, suc, _+_, _<_, _≤_}
+use mathlib.Core.List.{[], _∷_}
+use Prim.Native.Nat.{ℕ, zero, suc, _<_, _≤_}
 use native.Mathlib.Omega.{arith}
 use lib.ListN.{getD, set}
 use Rattle.definitions.specs.Field.{modulo}
 use Rattle.definitions.specs.Polynomials.{trim}
 use Rattle.bridge.specs.Trim.{at-trim, trim-idem}
 use Rattle.bridge.specs.Residues.{model}
-use Rattle.polynomial.specs.Places.{Places, Filled, zeros, filled-none, filled-more, filled-all}
+use Rattle.polynomial.specs.Places.{Places, zeros, filled-none, filled-more, filled-all}
 use Rattle.polynomial.specs.Linear.{is-result}
 use borrow.Author.Needs.{needs}
 use Rattle.polynomial.proofs.gcd.constant.Statement.{statement}
 use Rattle.polynomial.proofs.gcd.constant.Tie as tie
-use Rattle.polynomial.proofs.gcd.constant.Reads as reads
-use Rattle.polynomial.proofs.gcd.constant.Lts as lts
-use Rattle.polynomial.proofs.linear.top.Reads as top-reads
 
 past : (c i : ℕ) → 1 ≤ i → getD (c ∷ []) i 0 ≡ 0
 past c zero h = absurd (omega arith)
@@ -32,17 +29,14 @@ module _ (q c : ℕ) (less : c < q) where
   trimmed-place : Places (set zeros 0 c) (λ i. getD (trim (modulo q) (c ∷ [])) i 0)
   trimmed-place = record { long = one-place c .long; at = λ i. one-place c .at i ∙ sym (at-trim (model q (omega arith)) (c ∷ []) reduced i) }
 
--- src/gcd.rt:37:5
 array-write-z : tie.Need-array-write-z
 array-write-z c = search needs
 
--- src/gcd.rt:38:9
 top-requires : tie.Need-top-requires
 top-requires c κs =
     let v = c .before .args .c in
     (search needs, λ i h. one-place v .at i ∙ past v i h)
 
--- src/gcd.rt:32:1
 returns : tie.Need-returns
 returns c =
     let s = c .before .before in

@@ -1,6 +1,6 @@
 -- The sum's invariant: it is the first i terms of the coefficient. The terms left out at both ends are 0.
 use mathlib.Core.Path.{_≡_, sym, ap, _∙_}
-use Prim.Native.Nat.{ℕ, _≤_, _<_, _-_, _+_, _*_, _%_}
+use Prim.Native.Nat.{ℕ, _≤_, _-_, _+_, _*_, _%_}
 use native.Mathlib.Nat.{mul-le-mul}
 use native.Mathlib.Omega.{arith}
 use lib.ListN.{getD}
@@ -9,9 +9,6 @@ use Rattle.bridge.specs.Product.{dots, dots-more}
 use Rattle.polynomial.specs.Product.{dots-before, dots-all}
 use Rattle.polynomial.proofs.product.dot.Statement.{statement}
 use Rattle.polynomial.proofs.product.dot.Tie as tie
-use Rattle.polynomial.proofs.product.dot.Reads as reads
-use Rattle.polynomial.proofs.product.dot.Lts as lts
-use Rattle.polynomial.proofs.product.excess.Reads as excess-reads
 
 abbrev Inv-loop : tie.InvT-loop
 Inv-loop f x y k m n end sum₀ i₀ sum i = (i ≤ k + 1) × (sum ≡ dots x y k i) × (sum ≤ 16769025 * i)
@@ -32,85 +29,66 @@ term c =
     let ey : getD (s .args .y .now) (s .args .k - i) 0 ≤ 4095 = omega arith in
     mul-le-mul ex ey
 
--- src/product.rt:28:15
 add-end : tie.Need-add-end Inv-loop μ-loop
 add-end c = search needs
 
--- src/product.rt:28:30
 add-excess : tie.Need-add-excess Inv-loop μ-loop
 add-excess c = search needs
 
--- src/product.rt:28:23
 excess-requires : tie.Need-excess-requires Inv-loop μ-loop
 excess-requires c κs = search needs
 
--- src/product.rt:28:15
 sub-end : tie.Need-sub-end Inv-loop μ-loop
 sub-end c = search needs
 
--- src/product.rt:30:31
 add-excess-2 : tie.Need-add-excess-2 Inv-loop μ-loop
 add-excess-2 c = search needs
 
--- src/product.rt:30:9
 excess-requires-2 : tie.Need-excess-requires-2 Inv-loop μ-loop
 excess-requires-2 c κs = search needs
 
--- src/product.rt:31:5
 loop-holds : tie.Need-loop-holds Inv-loop μ-loop
 loop-holds c =
     let s = c .before .before in
     (search needs, sym (ap (dots (s .args .x .now) (s .args .y .now) (s .args .k)) (let e : c .excess2 .result ≡ s .args .k + 1 - s .args .n = omega arith in e) ∙ dots-before _ _ (s .args .k) (s .args .n) (s .pre .1 .1 .past)), search needs)
 
--- src/product.rt:32:16
 mul-sum : tie.Need-mul-sum Inv-loop μ-loop
 mul-sum c = search needs
 
--- src/product.rt:32:16
 element-copy-out-sum : tie.Need-element-copy-out-sum Inv-loop μ-loop
 element-copy-out-sum c = search needs
 
--- src/product.rt:32:25
 sub-sum : tie.Need-sub-sum Inv-loop μ-loop
 sub-sum c = search needs
 
--- src/product.rt:32:23
 mul-sum-2 : tie.Need-mul-sum-2 Inv-loop μ-loop
 mul-sum-2 c = search needs
 
--- src/product.rt:32:23
 element-copy-out-sum-2 : tie.Need-element-copy-out-sum-2 Inv-loop μ-loop
 element-copy-out-sum-2 c = search needs
 
--- src/product.rt:32:16
 mul-sum-3 : tie.Need-mul-sum-3 Inv-loop μ-loop
 mul-sum-3 c =
     omega (arith, term c)
 
--- src/product.rt:32:9
 add-sum : tie.Need-add-sum Inv-loop μ-loop
 add-sum c =
     omega (arith, term c)
 
--- src/product.rt:33:9
 add-i : tie.Need-add-i Inv-loop μ-loop
 add-i c = search needs
 
--- src/product.rt:31:5
 loop-less : tie.Need-loop-less Inv-loop μ-loop
 loop-less c = search needs
 
--- src/product.rt:31:5
 loop-again : tie.Need-loop-again Inv-loop μ-loop
 loop-again c =
     (omega arith, rw (dots-more, ← c .before .before .before .loop .inv .1), omega (arith, term c))
 
--- src/product.rt:35:5
 rem-result : tie.Need-rem-result Inv-loop μ-loop
 rem-result c =
     omega (arith, c .before .before .before .before .before .pre .1 .0 .reduced 0)
 
--- src/product.rt:22:1
 returns : tie.Need-returns Inv-loop μ-loop
 returns c =
     let s = c .before .before .before .before .before in

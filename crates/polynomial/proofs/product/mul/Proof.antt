@@ -1,6 +1,5 @@
 -- The places are those of the product; its size is found from the top.
-use mathlib.Core.Path.{_≡_, _∙_}
-use Prim.Native.Nat.{ℕ, _≤_, _<_, _-_, _+_}
+use mathlib.Core.Path.{_∙_}
 use native.Mathlib.Omega.{arith}
 use Rattle.polynomial.specs.Held.{held-positive}
 use Rattle.polynomial.specs.Linear.{held-within}
@@ -8,13 +7,7 @@ use Rattle.polynomial.specs.Product.{mul-past, is-mul}
 use borrow.Author.Needs.{needs}
 use Rattle.polynomial.proofs.product.mul.Statement.{statement}
 use Rattle.polynomial.proofs.product.mul.Tie as tie
-use Rattle.polynomial.proofs.product.mul.Reads as reads
-use Rattle.polynomial.proofs.product.mul.Lts as lts
-use Rattle.polynomial.proofs.linear.top.Reads as top-reads
-use Rattle.polynomial.proofs.product.excess.Reads as excess-reads
-use Rattle.polynomial.proofs.product.mul_places.Reads as mul-places-reads
 
--- src/product.rt:63:5
 mul-places-requires : tie.Need-mul-places-requires
 mul-places-requires c κs =
     let s = c .before .before .before .before .before in
@@ -22,15 +15,12 @@ mul-places-requires c κs =
     let b = s .pre .1 .1 .short in
     ((search needs, search needs, search needs, search needs), (held-within _ _ _ _ (s .pre .1 .0) (omega arith), held-within _ _ _ _ (s .pre .1 .1) (omega arith)))
 
--- src/product.rt:64:22
 add-excess : tie.Need-add-excess
 add-excess c = search needs
 
--- src/product.rt:64:9
 excess-requires : tie.Need-excess-requires
 excess-requires c κs = search needs
 
--- src/product.rt:65:9
 top-requires : tie.Need-top-requires
 top-requires c κs =
     let s = c .before .before .before .before .before .before .before .before .before .before in
@@ -39,7 +29,6 @@ top-requires c κs =
     let b = held-within _ _ _ (s .args .b .size) (s .pre .1 .1) (omega arith) in
     (omega arith, λ i h. p .at i ∙ mul-past _ (held-positive _ _ _ (s .pre .1 .0)) _ _ (s .args .a .size) (s .args .b .size) (a .past) (b .past) i (omega arith))
 
--- src/product.rt:54:1
 returns : tie.Need-returns
 returns c =
     let s = c .before .before .before .before .before .before .before .before .before .before .before in

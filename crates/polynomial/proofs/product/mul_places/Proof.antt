@@ -1,19 +1,14 @@
 -- The invariant: the coefficients below k are filled in.
-use mathlib.Core.Path.{_≡_}
-use Prim.Native.Nat.{ℕ, _≤_, _<_, _-_, _+_}
+use Prim.Native.Nat.{_≤_, _-_}
 use native.Mathlib.Omega.{arith}
 use lib.ListN.{getD}
 use Rattle.definitions.specs.Field.{modulo}
 use Rattle.definitions.specs.Polynomials.{mul}
-use Rattle.polynomial.specs.Places.{Places, Filled, filled-none, filled-more, filled-all}
+use Rattle.polynomial.specs.Places.{Filled, filled-none, filled-more, filled-all}
 use Rattle.polynomial.specs.Product.{mul-past}
 use borrow.Author.Needs.{needs}
 use Rattle.polynomial.proofs.product.mul_places.Statement.{statement}
 use Rattle.polynomial.proofs.product.mul_places.Tie as tie
-use Rattle.polynomial.proofs.product.mul_places.Reads as reads
-use Rattle.polynomial.proofs.product.mul_places.Lts as lts
-use Rattle.polynomial.proofs.product.dot.Reads as dot-reads
-use Rattle.polynomial.proofs.product.excess.Reads as excess-reads
 
 abbrev Inv-loop : tie.InvT-loop
 Inv-loop f x y m n z₀ end k₀ z k = (k ≤ end) × Filled z (λ i. getD (mul (modulo (f .q)) x y) i 0) k
@@ -21,46 +16,36 @@ Inv-loop f x y m n z₀ end k₀ z k = (k ≤ end) × Filled z (λ i. getD (mul 
 abbrev μ-loop : tie.MeasureT-loop
 μ-loop f x y m n z₀ end k₀ z k = end - k
 
--- src/product.rt:45:22
 add-excess : tie.Need-add-excess Inv-loop μ-loop
 add-excess c = search needs
 
--- src/product.rt:45:9
 excess-requires : tie.Need-excess-requires Inv-loop μ-loop
 excess-requires c κs = search needs
 
--- src/product.rt:47:5
 loop-holds : tie.Need-loop-holds Inv-loop μ-loop
 loop-holds c =
     (search needs, filled-none _)
 
--- src/product.rt:48:16
 dot-requires : tie.Need-dot-requires Inv-loop μ-loop
 dot-requires c κs = search needs
 
--- src/product.rt:48:9
 mul-z : tie.Need-mul-z Inv-loop μ-loop
 mul-z c = search needs
 
--- src/product.rt:48:9
 element-write-z : tie.Need-element-write-z Inv-loop μ-loop
 element-write-z c = search needs
 
--- src/product.rt:49:9
 add-k : tie.Need-add-k Inv-loop μ-loop
 add-k c = search needs
 
--- src/product.rt:47:5
 loop-less : tie.Need-loop-less Inv-loop μ-loop
 loop-less c = search needs
 
--- src/product.rt:47:5
 loop-again : tie.Need-loop-again Inv-loop μ-loop
 loop-again c =
     let l = c .before .before .loop in
     (search needs, filled-more _ (l .z) (l .k) _ (l .inv .1) (omega arith) (c .dot .ensures))
 
--- src/product.rt:38:1
 returns : tie.Need-returns Inv-loop μ-loop
 returns c =
     let s = c .before .before .before .before in

@@ -1,0 +1,4 @@
+pub mod Decimal
+pub mod Writing
+pub mod Lines
+pub mod Reading
