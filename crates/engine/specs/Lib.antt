@@ -3,3 +3,4 @@ pub mod Regulator
 pub mod Found
 pub mod Listing
 pub mod Unit
+pub mod Products

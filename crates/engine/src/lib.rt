@@ -1,5 +1,7 @@
 // The public calls. None relies on its caller: every list of words has its answer, and every lent list is said at exit.
+pub mod giant;
 pub mod listing;
+pub mod product;
 pub mod unit;
 
 ghost use mathlib.Core.Path.{_≡_};
