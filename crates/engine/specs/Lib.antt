@@ -1,2 +1,5 @@
 pub mod Accepted
 pub mod Regulator
+pub mod Found
+pub mod Listing
+pub mod Unit

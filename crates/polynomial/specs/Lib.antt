@@ -6,6 +6,7 @@ pub mod Linear
 pub mod Result
 pub mod Row
 pub mod Product
+pub mod Terms
 pub mod Divided
 pub mod Division
 pub mod Gcd

@@ -1,11 +1,12 @@
 // Products: each coefficient is a sum of products over the places that both factors have, reduced once.
 ghost use mathlib.Core.Path.{_≡_};
-ghost use Prim.Native.Nat.{_+_, _-_, _<_, _≤_, _%_};
+ghost use Prim.Native.Nat.{_+_, _-_, _<_, _≤_};
 ghost use lib.ListN.{getD};
 ghost use Rattle.definitions.specs.Field.{modulo};
 ghost use Rattle.definitions.specs.Polynomials.{mul as mulOf};
 ghost use Rattle.polynomial.specs.Record.{poly, Held, Is};
 ghost use Rattle.polynomial.specs.Places.{Places, Within};
+ghost use Rattle.polynomial.specs.Terms.{Terms};
 use crate::Poly;
 use crate::linear::top;
 use field::Field;
@@ -17,12 +18,12 @@ pub fn excess(a: usize, b: usize) -> usize
     if b <= a { a - b } else { 0 }
 }
 
-// The coefficient at k of x, of m places, times y, of n places. 129·4,095² is below 2³².
-pub fn dot(f: Field, x: &[u32; 129], y: &[u32; 129], k: usize, m: usize, n: usize) -> u32
+// The coefficient at k of x, of m places, times y, of n places, as a sum that is not reduced. 129·4,095² is below 2³².
+pub fn terms(f: Field, x: &[u32; 129], y: &[u32; 129], k: usize, m: usize, n: usize) -> u32
     requires { ⌜ (f .q < 4096) × (k < 129) × (m ≤ 129) ⌝ }
     requires { ⌜ Within (f .q) (now x) m ⌝ }
     requires { ⌜ Within (f .q) (now y) n ⌝ }
-    ensures { λ r. ⌜ r ≡ getD (mulOf (modulo (f .q)) (now (x .entry)) (now (y .entry))) k 0 ⌝ }
+    ensures { λ r. ⌜ Terms (f .q) (now (x .entry)) (now (y .entry)) k r ⌝ }
 {
     let end = k + 1 - excess(k + 1, m);
     let mut sum: u32 = 0;
@@ -31,7 +32,17 @@ pub fn dot(f: Field, x: &[u32; 129], y: &[u32; 129], k: usize, m: usize, n: usiz
         sum += x[i] * y[k - i];
         i += 1;
     }
-    sum % f.q
+    sum
+}
+
+// The coefficient at k of x, of m places, times y, of n places.
+pub fn dot(f: Field, x: &[u32; 129], y: &[u32; 129], k: usize, m: usize, n: usize) -> u32
+    requires { ⌜ (f .q < 4096) × (k < 129) × (m ≤ 129) ⌝ }
+    requires { ⌜ Within (f .q) (now x) m ⌝ }
+    requires { ⌜ Within (f .q) (now y) n ⌝ }
+    ensures { λ r. ⌜ r ≡ getD (mulOf (modulo (f .q)) (now (x .entry)) (now (y .entry))) k 0 ⌝ }
+{
+    terms(f, x, y, k, m, n) % f.q
 }
 
 // z becomes x, of m places, times y, of n places.

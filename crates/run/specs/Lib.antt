@@ -4,4 +4,7 @@ pub mod State
 pub mod Start
 pub mod Outcome
 pub mod Walked
-pub mod Seek
+pub mod Progress
+pub mod Stride
+pub mod Steps
+pub mod Turn

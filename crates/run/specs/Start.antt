@@ -1,6 +1,7 @@
 -- What the walk starts from, in places: the root d of D, 2d and 1, each as the places of its list.
 use Prim.Native.Nat.{ℕ, suc, _+_, _*_, _/_, _%_, _≤_, _<_}
 use native.Mathlib.Nat.{mod-lt, mod-eq-of-lt, div-add-mod}
+use native.Mathlib.Numerals.{add-one}
 use native.Mathlib.Omega.{arith}
 use mathlib.Core.Path.{_≡_, sym, ap, _∙_, subst}
 use mathlib.Core.List.{List, [], _∷_}
@@ -31,6 +32,9 @@ pub record Prepared (q g : ℕ) (D table d s : List ℕ) : Type 0 where
 pub half-degree : (n : ℕ) → 2 ≤ n → n / 2 ≡ suc (genus n)
 unfolding genus
 half-degree n h = let w : 2 * (n / 2) + n % 2 ≡ n = div-add-mod n 2 in let r : n % 2 < 2 = mod-lt n (omega arith) in omega arith
+
+pub top-is : (n : ℕ) → 2 ≤ n → n / 2 + 1 ≡ suc (suc (genus n))
+top-is n h = add-one (n / 2) ∙ ap suc (half-degree n h)
 
 -- 1
 pub one-is : (q : ℕ) → 1 < q → set zeros 0 1 ≡ pad (modulo q) 129 (1 % q ∷ [])

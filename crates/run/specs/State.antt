@@ -98,7 +98,7 @@ module _ (q g : ℕ) (D : List ℕ) (h : Admitted q g D) where
     unfolding nextRem
     rem-next = rem-cong M I _ _ b _ dividends qs ∙ sym (left-next (surd-of h) i)
 
-    quo-next : stepQuo q s b r ≡ quo (modulo q) (sub (modulo q) twice (left (modulo q) D d i)) (Q (modulo q) D d i)
+    pub quo-next : stepQuo q s b r ≡ quo (modulo q) (sub (modulo q) twice (left (modulo q) D d i)) (Q (modulo q) D d i)
     unfolding stepQuo
     quo-next = quo-cong M I _ _ b _ dividends qs
 

@@ -9,7 +9,8 @@ ghost use Rattle.polynomial.specs.Record.{poly, Held};
 ghost use Rattle.run.specs.State.{rootD};
 ghost use Rattle.run.specs.Start.{Prepared};
 use crate::start::prepare;
-use crate::turn::turn;
+use crate::stride::Progress;
+use crate::stride::round;
 use counters::Distance;
 use field::Field;
 use polynomial::Poly;
@@ -32,29 +33,38 @@ fn advance(
 {
     let top = n / 2 + 1;
     let reciprocal = 4294967295 / f.q;
-    let mut before = *big;
+    let mut a = *big;
     let mut b = [0u32; 129];
+    let mut c = [0u32; 129];
     b[0] = 1;
-    let mut r = *d;
-    let mut size: usize = 1;
-    let mut degree: u64 = 0;
-    let mut i: u64 = 0;
-    while i < steps {
-        degree += (top - size) as u64;
-        size = turn(
+    let mut x = *d;
+    let mut y = [0u32; 129];
+    let mut z = [0u32; 129];
+    let mut at = Progress {
+        index: 0,
+        degree: 0,
+        size: 1,
+        last: 1,
+    };
+    while at.index < steps {
+        at = round(
             f,
             reciprocal,
             table,
             s,
             top,
-            &mut before,
+            &mut a,
             &mut b,
-            size,
-            &mut r,
+            &mut c,
+            &mut x,
+            &mut y,
+            &mut z,
+            at,
+            0,
+            steps,
         );
-        i += 1;
     }
-    Distance(degree)
+    Distance(at.degree)
 }
 
 // The degree that so many steps reach, whether a Q is constant or not: for measuring the time of a step.

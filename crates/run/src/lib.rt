@@ -1,6 +1,7 @@
 // The run of the walk: what it starts from, the loop to the first constant Q within a budget, and the outcome.
 pub mod advance;
 pub mod start;
+pub mod stride;
 pub mod turn;
 
 ghost use mathlib.Core.Path.{_≡_};
@@ -12,7 +13,8 @@ ghost use Rattle.polynomial.specs.Record.{poly, Held};
 ghost use Rattle.run.specs.Start.{Prepared};
 ghost use Rattle.run.specs.Outcome.{meaning, signed, ticket};
 use crate::start::prepare;
-use crate::turn::turn;
+use crate::stride::Progress;
+use crate::stride::round;
 use counters::Distance;
 use counters::Index;
 use field::Field;
@@ -50,35 +52,48 @@ fn seek(
 {
     let top = n / 2 + 1;
     let reciprocal = 4294967295 / f.q;
-    let mut before = *big;
+    let mut a = *big;
     let mut b = [0u32; 129];
+    let mut c = [0u32; 129];
     b[0] = 1;
-    let mut r = *d;
-    let mut size: usize = 1;
-    let mut degree: u64 = 0;
-    let mut i: u64 = 0;
+    let mut x = *d;
+    let mut y = [0u32; 129];
+    let mut z = [0u32; 129];
+    let mut at = Progress {
+        index: 0,
+        degree: 0,
+        size: 1,
+        last: 1,
+    };
     let m = loop {
-        if i == budget {
-            return Outcome::Spent(Index(i), Distance(degree));
+        if at.index == budget {
+            return Outcome::Spent(Index(at.index), Distance(at.degree));
         }
-        degree += (top - size) as u64;
-        size = turn(
+        at = round(
             f,
             reciprocal,
             table,
             s,
             top,
-            &mut before,
+            &mut a,
             &mut b,
-            size,
-            &mut r,
+            &mut c,
+            &mut x,
+            &mut y,
+            &mut z,
+            at,
+            1,
+            budget,
         );
-        i += 1;
-        if size == 1 {
-            break i;
+        if at.size == 1 {
+            break at.index;
         }
     };
-    Outcome::Found(Distance(degree), Index(m), constant(f, Index(m), b[0]))
+    Outcome::Found(
+        Distance(at.degree),
+        Index(m),
+        constant(f, Index(m), at.last),
+    )
 }
 
 // The outcome of the walk of √D within the budget. D is `big`, of degree n.

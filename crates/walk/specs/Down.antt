@@ -1,5 +1,5 @@
 -- An array filled from the top place down: what the loop of a quotient keeps.
-use Prim.Native.Nat.{ℕ, _+_, _-_, _<_, _≤_}
+use Prim.Native.Nat.{ℕ, _+_, _<_, _≤_}
 use native.Mathlib.Nat.{eq-or-lt-of-le}
 use native.Mathlib.Omega.{arith}
 use mathlib.Core.Path.{_≡_, sym, _∙_, ap}
@@ -7,7 +7,7 @@ use mathlib.Core.Logic.{⊎-elim}
 use mathlib.Core.List.{List}
 use lib.ListN.{length, getD, set, length-set}
 use lib.Seq.{getD-set-same, getD-set-other}
-use Rattle.polynomial.specs.Places.{Places, Filled, filled-none, zeros, at-zeros}
+use Rattle.polynomial.specs.Places.{Places, filled-none, zeros, at-zeros}
 
 -- 129 places, with g i at each i from k on, and zeros before k
 pub record Down (c : List ℕ) (g : ℕ → ℕ) (k : ℕ) : Type 0 where

@@ -1,8 +1,9 @@
 pub mod Step
 pub mod Reciprocal
+pub mod Full
 pub mod Down
 pub mod Sizes
 pub mod Coefficients
-pub mod Terms
-pub mod Result
+pub mod Quotient
 pub mod Linear
+pub mod Result

@@ -11,10 +11,10 @@ use Rattle.definitions.specs.Polynomials.{add, sub, mul}
 use Rattle.bridge.specs.Prime.{Prime}
 use Rattle.bridge.specs.Product.{shifted, rows, rows-mul}
 use Rattle.polynomial.specs.Row.{Ends}
-use Rattle.polynomial.specs.Places.{Within}
-use Rattle.walk.specs.Step.{stepQuo}
-use Rattle.walk.specs.Sizes.{quo-past}
-use Rattle.walk.specs.Coefficients.{rest-is, next-is, quo-at}
+use Rattle.walk.specs.Step.{stepQuo, nextRem, nextQ, Division}
+use Rattle.walk.specs.Sizes.{positive, some, quo-past, quo-reduced}
+use Rattle.walk.specs.Coefficients.{rest-is, next-is}
+use Rattle.walk.specs.Quotient.{quo-at, rem-at, next-cong}
 
 pub shifted-next : (b : List ℕ) (k : ℕ) → shifted b 1 (k + 1) ≡ getD b k 0
 unfolding shifted
@@ -37,14 +37,14 @@ module _ (q : ℕ) (pos : 0 < q) (a : List ℕ) (two : Ends a 2) (a0 a1 : ℕ) (
   terms-are b k = ap₂ (λ u v. u * getD b k 0 + v * shifted b 1 k) is0 is1 ∙ sym (two-rows a b k)
 
   -- s − r − a·b at k
-  pub rest-two : (s r b : List ℕ) (k x y : ℕ) → a0 ≤ q → a1 ≤ q → getD r k 0 < q → x ≡ getD b k 0 → y ≡ shifted b 1 k → (getD s k 0 + (q - getD r k 0) + ((q - a0) * x + (q - a1) * y)) % q ≡ getD (sub (modulo q) (sub (modulo q) s r) (mul (modulo q) a b)) k 0
+  rest-two : (s r b : List ℕ) (k x y : ℕ) → a0 ≤ q → a1 ≤ q → getD r k 0 < q → x ≡ getD b k 0 → y ≡ shifted b 1 k → (getD s k 0 + (q - getD r k 0) + ((q - a0) * x + (q - a1) * y)) % q ≡ getD (sub (modulo q) (sub (modulo q) s r) (mul (modulo q) a b)) k 0
   rest-two s r b k x y h0 h1 h e f =
       rest-is q pos s r a b k _ (a0 * x + a1 * y) (x + y) h
       (ap (λ n. n % q) (ap₂ (λ u v. a0 * u + a1 * v) e f ∙ terms-are b k) ∙ rows-mul q pos a b 2 k two)
       (let u = complement q a0 x h0 in let v = complement q a1 y h1 in let w : (x + y) * q ≡ x * q + y * q = add-mul x y q in omega arith)
 
   -- before + a·(z − r) at k
-  pub next-two : (before z r : List ℕ) (k x y : ℕ) → getD r k 0 ≤ q → shifted r 1 k ≤ q → x ≡ getD z k 0 + (q - getD r k 0) → y ≡ shifted z 1 k + (q - shifted r 1 k) → (getD before k 0 + (a0 * x + a1 * y)) % q ≡ getD (add (modulo q) before (mul (modulo q) a (sub (modulo q) z r))) k 0
+  next-two : (before z r : List ℕ) (k x y : ℕ) → getD r k 0 ≤ q → shifted r 1 k ≤ q → x ≡ getD z k 0 + (q - getD r k 0) → y ≡ shifted z 1 k + (q - shifted r 1 k) → (getD before k 0 + (a0 * x + a1 * y)) % q ≡ getD (add (modulo q) before (mul (modulo q) a (sub (modulo q) z r))) k 0
   next-two before z r k x y h0 h1 e f =
       ap₂ (λ u v. (getD before k 0 + (a0 * u + a1 * v)) % q) e f
       ∙ next-is q pos before a z r k _ (rows a z 2 k) (rows a r 2 k) (a0 + a1) (rows-mul q pos a z 2 k two) (rows-mul q pos a r 2 k two)
@@ -56,21 +56,22 @@ shifted-less q pos b h zero = pos
 shifted-less q pos b h (suc k) = h k
 
 -- ---- the quotient itself, from the top: what clears s − r at n is a1, what clears s − r − a1·x·b at n − 1 is a0
-module _ (q : ℕ) (p : Prime q) (pos : 0 < q) (n : ℕ) (some : 0 < n) (s b r : List ℕ) (sw : Within q s (n + 1)) (rw : Within q r (n + 1)) (bw : Within q b n) (top : getD b (n - 1) 0 ≡ 0 → ⊥) where
-  past : (i : ℕ) → 2 ≤ i → getD (stepQuo q s b r) i 0 ≡ 0
-  past i h = quo-past q p pos (n + 1) n s b r sw rw bw top i (omega arith)
+module _ {q n : ℕ} {s b r : List ℕ} (p : Prime q) (d : Division q (n + 1) n s b r) where
+  pub linear-past : (i : ℕ) → 2 ≤ i → getD (stepQuo q s b r) i 0 ≡ 0
+  linear-past i h = quo-past p d i (omega arith)
 
   pub upper-at : (v : ℕ) → v ≡ (getD s n 0 + (q - getD r n 0) + ((q - 0) * getD b n 0 + (q - 0) * getD b (n - 1) 0)) % q → (v * inverse q (getD b (n - 1) 0)) % q ≡ getD (stepQuo q s b r) 1 0
   upper-at v e =
+      let l = some p d in
       let back : n - 1 + 1 ≡ n = omega arith in
-      quo-at q pos s b r p (n + 1) n some sw rw bw top [] 1 (λ i h. sym (past i h)) (λ i h. refl) n v (omega arith)
-      (e ∙ rest-two q pos [] (λ i h. refl) 0 0 refl refl s r b n (getD b n 0) (getD b (n - 1) 0) (omega arith) (omega arith) (rw .reduced n) refl (sym (shifted-next b (n - 1)) ∙ ap (shifted b 1) back))
+      quo-at p d [] 1 (λ i h. sym (linear-past i h)) (λ i h. refl) n v (omega arith)
+      (e ∙ rest-two q (positive p d) [] (λ i h. refl) 0 0 refl refl s r b n (getD b n 0) (getD b (n - 1) 0) (omega arith) (omega arith) (d .r-within .reduced n) refl (sym (shifted-next b (n - 1)) ∙ ap (shifted b 1) back))
 
   module _ (a1 : ℕ) (is : a1 ≡ getD (stepQuo q s b r) 1 0) where
     above : (i : ℕ) → 0 < i → getD (0 ∷ a1 ∷ []) i 0 ≡ getD (stepQuo q s b r) i 0
     above zero h = absurd (omega arith)
     above (suc zero) h = is
-    above (suc (suc i)) h = sym (past (suc (suc i)) (omega arith))
+    above (suc (suc i)) h = sym (linear-past (suc (suc i)) (omega arith))
 
     none : (i : ℕ) → i ≤ 0 → getD (0 ∷ a1 ∷ []) i 0 ≡ 0
     none zero h = refl
@@ -81,7 +82,22 @@ module _ (q : ℕ) (p : Prime q) (pos : 0 < q) (n : ℕ) (some : 0 < n) (s b r :
     ends (suc zero) h = absurd (omega arith)
     ends (suc (suc i)) h = refl
 
-    pub lower-at : (v y : ℕ) → a1 ≤ q → y ≡ shifted b 1 (n - 1) → v ≡ (getD s (n - 1) 0 + (q - getD r (n - 1) 0) + ((q - 0) * getD b (n - 1) 0 + (q - a1) * y)) % q → (v * inverse q (getD b (n - 1) 0)) % q ≡ getD (stepQuo q s b r) 0 0
-    lower-at v y h f e =
-        quo-at q pos s b r p (n + 1) n some sw rw bw top (0 ∷ a1 ∷ []) 0 above none (n - 1) v (omega arith)
-        (e ∙ rest-two q pos (0 ∷ a1 ∷ []) ends 0 a1 refl refl s r b (n - 1) (getD b (n - 1) 0) y (omega arith) h (rw .reduced (n - 1)) refl f)
+    pub lower-at : (v y : ℕ) → y ≡ shifted b 1 (n - 1) → v ≡ (getD s (n - 1) 0 + (q - getD r (n - 1) 0) + ((q - 0) * getD b (n - 1) 0 + (q - a1) * y)) % q → (v * inverse q (getD b (n - 1) 0)) % q ≡ getD (stepQuo q s b r) 0 0
+    lower-at v y f e =
+        let h : getD (stepQuo q s b r) 1 0 < q = quo-reduced p d 1 in
+        quo-at p d (0 ∷ a1 ∷ []) 0 above none (n - 1) v (omega arith)
+        (e ∙ rest-two q (positive p d) (0 ∷ a1 ∷ []) ends 0 a1 refl refl s r b (n - 1) (getD b (n - 1) 0) y (omega arith) (omega arith) (d .r-within .reduced (n - 1)) refl f)
+
+  -- ---- what the two passes form at k
+  module _ (a0 a1 : ℕ) (is0 : a0 ≡ getD (stepQuo q s b r) 0 0) (is1 : a1 ≡ getD (stepQuo q s b r) 1 0) where
+    pub rest-of-is : (k v y : ℕ) → y ≡ shifted b 1 k → v ≡ (getD s k 0 + (q - getD r k 0) + ((q - a0) * getD b k 0 + (q - a1) * y)) % q → v ≡ getD (nextRem q s b r) k 0
+    rest-of-is k v y f e =
+        let h0 : getD (stepQuo q s b r) 0 0 < q = quo-reduced p d 0 in
+        let h1 : getD (stepQuo q s b r) 1 0 < q = quo-reduced p d 1 in
+        rem-at p d (stepQuo q s b r) (λ i. refl) k v (e ∙ rest-two q (positive p d) (stepQuo q s b r) linear-past a0 a1 is0 is1 s r b k (getD b k 0) y (omega arith) (omega arith) (d .r-within .reduced k) refl f)
+
+    pub next-of-is : (before z : List ℕ) → ((i : ℕ) → getD z i 0 ≡ getD (nextRem q s b r) i 0) → (k v y : ℕ) → y ≡ shifted z 1 k + (q - shifted r 1 k) → v ≡ (getD before k 0 + (a0 * (getD z k 0 + (q - getD r k 0)) + a1 * y)) % q → v ≡ getD (nextQ q s before b r) k 0
+    next-of-is before z rest k v y f e =
+        let h0 = d .r-within .reduced k in
+        let h1 = shifted-less q (positive p d) r (d .r-within .reduced) k in
+        e ∙ next-two q (positive p d) (stepQuo q s b r) linear-past a0 a1 is0 is1 before z r k _ y (omega arith) (omega arith) refl f ∙ ap (λ (l : List ℕ). getD l k 0) (next-cong p d (stepQuo q s b r) (λ i. refl) before z rest)

@@ -1,8 +1,8 @@
 -- The quotient of x by q from c, the quotient of 2³² − 1 by q: k, the upper half of x·c, is x div q or one less. For 2³²·(x − k·q) is q·(lower half) + x·(1 + remainder of 2³² − 1), below 2³²·2q.
 use Prim.Native.Nat.{ℕ, _+_, _*_, _-_, _/_, _%_, _≤_, _<_, suc}
-use native.Mathlib.Nat.{mod-lt, mod-eq-of-lt, div-add-mod, mul-add-mod-self-left, mul-add, mul-assoc, mul-comm, mul-left-comm, mul-le-mul, mul-le-mul-left, mul-le-mul-right}
+use native.Mathlib.Nat.{mod-lt, mod-eq-of-lt, div-add-mod, mul-add-mod-self-left, mul-add, mul-comm, mul-left-comm, mul-le-mul-left, mul-le-mul-right}
 use native.Mathlib.Omega.{arith}
-use mathlib.Core.Path.{_≡_, refl, sym, ap, _∙_}
+use mathlib.Core.Path.{_≡_, sym, ap, _∙_}
 
 module _ (q c x : ℕ) (pos : 0 < q) (is : c ≡ 4294967295 / q) (fits : x < 4294967296) where
   abbrev k : ℕ

@@ -1,8 +1,8 @@
 // One step of the walk where the quotient is a0 + a1·x, the most frequent case by far: the two coefficients directly, and one pass each for the remainder and the next Q.
 // Each pass keeps the factor at the place before. q − a stands for −a, so that no sum goes below 0.
 ghost use mathlib.Core.Path.{_≡_};
-ghost use Prim.Native.Nat.{ℕ, _+_, _*_, _-_, _/_, _%_, _<_, _≤_};
-ghost use lib.ListN.{length, getD};
+ghost use Prim.Native.Nat.{_+_, _*_, _-_, _/_, _%_, _<_, _≤_};
+ghost use lib.ListN.{getD};
 ghost use Rattle.definitions.specs.Field.{inverse};
 ghost use Rattle.bridge.specs.Prime.{Prime};
 ghost use Rattle.bridge.specs.Product.{shifted};

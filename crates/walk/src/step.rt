@@ -9,12 +9,12 @@ ghost use Rattle.definitions.specs.Polynomials.{add, sub, mul};
 ghost use Rattle.bridge.specs.Prime.{Prime};
 ghost use Rattle.polynomial.specs.Places.{Places, Within};
 ghost use Rattle.polynomial.specs.Row.{Bounded};
-ghost use Rattle.walk.specs.Step.{stepQuo, nextRem, nextQ, Division, Ready, Moved, Stepped};
+ghost use Rattle.walk.specs.Step.{stepQuo, nextRem, Division, Ready, Moved, Stepped};
 use crate::linear::linear;
 use crate::reduce::reduce;
-use crate::terms::terms;
 use field::Field;
 use polynomial::linear::top;
+use polynomial::product::terms;
 
 // The coefficient at k of s − r − x·b, x of l places and b of n. The product is taken from 128·q², which is no less.
 fn rest_at(
@@ -64,7 +64,7 @@ fn next_at(
 }
 
 // z becomes the quotient of s − r by b, whose leading coefficient has the inverse `unit`: from the top coefficient down, each clears what is left at its top place.
-fn quotient(
+pub fn quotient(
     f: Field,
     reciprocal: u32,
     unit: u32,

@@ -1,26 +1,23 @@
--- The budget is spent at the index where the loop returns; where it leaves with i, Q at i is the first that is constant.
-use Prim.Native.Nat.{_+_, _-_, _/_, _≤_, _<_}
+-- The budget is spent at the index where the loop returns; where it leaves with an index, Q there is the first that is constant.
+use Prim.Native.Nat.{_-_, _≤_, _<_}
 use native.Mathlib.Omega.{arith}
-use mathlib.Core.Path.{refl}
+use mathlib.Core.Path.{refl, ap, _∙_}
 use borrow.Author.Needs.{needs}
-use Rattle.definitions.specs.Field.{modulo}
 use Rattle.definitions.specs.Ticket.{genus}
-use Rattle.laws.specs.QuasiPeriod.{NoQuasi}
+use Rattle.definitions.specs.Answers.{found}
 use Rattle.polynomial.specs.Record.{poly}
-use Rattle.run.specs.State.{rootD}
-use Rattle.run.specs.Start.{half-degree}
-use Rattle.run.specs.Walked.{Walked}
-use Rattle.run.specs.Seek.{walk-starts, size-some, size-most, top-most, degree-more-fits, walk-spent, turn-ready, turn-again, turn-none, turn-reduced, turn-found}
+use Rattle.run.specs.Start.{half-degree, top-is}
+use Rattle.run.specs.Stride.{NoneTo}
+use Rattle.run.specs.Steps.{Standing, standing-first, standing-next, round-rise, steps-none, last-reduced, outcome-found, outcome-spent}
 use Rattle.run.proofs.seek.Statement.{statement}
 use Rattle.run.proofs.seek.Tie as tie
 
 abbrev Inv-loop : tie.InvT-loop
-Inv-loop f n big length table d s budget top reciprocal before₀ b₀ r₀ size₀ degree₀ i₀ before b r size degree i =
-    (i ≤ budget) × Walked (f .q) (genus n) (poly big length) i before b r size degree × NoQuasi (modulo (f .q)) (poly big length) (rootD (f .q) (genus n) (poly big length)) i
+Inv-loop f n big length table d s budget top reciprocal a₀ b₀ c₀ x₀ y₀ z₀ at₀ a b c x y z at =
+    Standing (f .q) (genus n) (poly big length) budget a b x at × NoneTo (f .q) (genus n) (poly big length) at
 
 abbrev μ-loop : tie.MeasureT-loop
-μ-loop f n big length table d s budget top reciprocal before₀ b₀ r₀ size₀ degree₀ i₀ before b r size degree i =
-    budget - i
+μ-loop f n big length table d s budget top reciprocal a₀ b₀ c₀ x₀ y₀ z₀ at₀ a b c x y z at = budget - at .index
 
 add-top : tie.Need-add-top Inv-loop μ-loop
 add-top c =
@@ -37,66 +34,63 @@ array-write-b c = search needs
 loop-holds : tie.Need-loop-holds Inv-loop μ-loop
 loop-holds c =
     let s = c .before .before .before in
-    (omega arith, walk-starts (s .args .big .now) (s .args .length) (s .pre .0) (s .pre .1 .0 .0) (s .pre .1 .1), λ j k m. absurd (omega arith))
+    (standing-first (s .args .big .now) (s .args .length) (s .args .budget) (s .pre .0) (s .pre .1 .0 .0) (s .pre .1 .1), λ j k m. absurd (omega arith))
 
 returns : tie.Need-returns Inv-loop μ-loop
 returns c =
-    let s = c .before .before .before .before .before in
-    let l = c .before .loop in
-    walk-spent (s .args .n) (s .pre .0) (s .pre .1 .0 .1) (l .inv .1) (s .args .budget) (l .inv .2) (omega arith)
+    let s = c .before .before .before .before .before .before in
+    let l = c .before .before .loop in
+    outcome-spent (s .args .n) (l .at) (s .pre .0) (l .inv .0 .degree-is) (l .inv .1) (s .args .budget) (omega arith)
 
-sub-degree : tie.Need-sub-degree Inv-loop μ-loop
-sub-degree c =
-    let s = c .before .before .before .before .before in
-    let l = c .before .loop in
-    let m = size-most (s .args .n) (s .pre .0) (s .pre .1 .0 .1) (l .inv .1) in
-    omega arith
-
-add-degree : tie.Need-add-degree Inv-loop μ-loop
-add-degree c =
-    let s = c .before .before .before .before .before in
-    let l = c .before .loop in
-    let m : l .degree + (s .args .n / 2 + 1 - l .size) ≤ 8589934720 = degree-more-fits (s .args .n) (s .pre .0) (s .pre .1 .0 .1) (l .inv .1) (omega arith) in
-    omega arith
-
-turn-requires : tie.Need-turn-requires Inv-loop μ-loop
-turn-requires c κs =
-    let s = c .before .before .before .before .before .before .before .before in
-    let l = c .before .before .before .before .loop in
-    ((s .pre .0 .prime, s .pre .0 .small, refl), ((size-some (s .args .n) (s .pre .0) (s .pre .1 .0 .1) (l .inv .1), size-most (s .args .n) (s .pre .0) (s .pre .1 .0 .1) (l .inv .1), top-most (s .args .n) (s .pre .0) (s .pre .1 .0 .1) (l .inv .1)), (s .pre .1 .1 .inverses, turn-ready (s .args .n) (s .pre .0) (s .pre .1 .0 .1) (l .inv .1) (s .pre .1 .1))))
-
-add-i : tie.Need-add-i Inv-loop μ-loop
-add-i c = search needs
+round-requires : tie.Need-round-requires Inv-loop μ-loop
+round-requires c κs =
+    let s = c .before .before .before .before .before .before .before .before .before .before .before .before in
+    let l = c .before .before .before .before .before .before .before .before .loop in
+    let less : l .at .index < s .args .budget = omega (arith, l .inv .0 .reached, c .before .before .before .before .before .before .if1 .left) in (
+      (refl, less, s .pre .1 .0 .2),
+      record {
+        g = genus (s .args .n);
+        D = poly (s .args .big .now) (s .args .length);
+        d = s .args .d .now;
+        top-is = top-is (s .args .n) (s .pre .1 .0 .1);
+        admitted = s .pre .0;
+        prepared = s .pre .1 .1;
+        on = l .inv .0 .on (c .before .before .before .before .before .before .if1 .left);
+      },
+    )
 
 loop-less : tie.Need-loop-less Inv-loop μ-loop
-loop-less c = search needs
+loop-less c =
+    let s = c .before .before .before .before .before .before .before .before .before .before .before .before .before .before .before in
+    let l = c .before .before .before .before .before .before .before .before .before .before .before .loop in
+    let less : l .at .index < s .args .budget = omega (arith, l .inv .0 .reached, c .before .before .before .before .before .before .before .before .before .if1 .left) in
+    let m = round-rise (s .pre .0) (top-is (s .args .n) (s .pre .1 .0 .1)) (s .pre .1 .1) (l .inv .0 .on (c .before .before .before .before .before .before .before .before .before .if1 .left)) less (c .before .before .round .ensures) in
+    omega arith
 
 loop-again : tie.Need-loop-again Inv-loop μ-loop
 loop-again c =
-    let s = c .before .before .before .before .before .before .before .before .before .before in
-    let l = c .before .before .before .before .before .before .loop in
-    let u = c .before .turn in (
-      omega arith,
-      turn-again (s .args .n) (s .pre .0) (s .pre .1 .0 .1) (l .inv .1) (s .pre .1 .1) (u .ensures .0) (u .ensures .1),
-      turn-none (s .args .n) (s .pre .0) (s .pre .1 .0 .1) (l .inv .1) (s .pre .1 .1) (u .ensures .0) (u .ensures .1) (l .inv .2) (c .if2 .left),
-    )
-
-array-read-constant : tie.Need-array-read-constant Inv-loop μ-loop
-array-read-constant c = search needs
+    let s = c .before .before .before .before .before .before .before .before .before .before .before .before .before .before .before in
+    let l = c .before .before .before .before .before .before .before .before .before .before .before .loop in
+    let less : l .at .index < s .args .budget = omega (arith, l .inv .0 .reached, c .before .before .before .before .before .before .before .before .before .if1 .left) in
+    let t = l .inv .0 .on (c .before .before .before .before .before .before .before .before .before .if1 .left) in
+    let r = c .before .before .round .ensures in
+    (standing-next (s .pre .0) (top-is (s .args .n) (s .pre .1 .0 .1)) (s .pre .1 .1) t less r (c .if2 .left), steps-none (s .pre .0) (top-is (s .args .n) (s .pre .1 .0 .1)) (s .pre .1 .1) refl t (l .inv .1) (r .steps) (c .if2 .left))
 
 constant-requires : tie.Need-constant-requires Inv-loop μ-loop
 constant-requires c κs =
-    let s = c .before .before .before .before .before .before .before .before .before .before in
-    let l = c .before .before .before .before .before .before .loop in
-    let u = c .before .turn in
-    (s .pre .0 .small, turn-reduced (s .args .n) (s .pre .0) (s .pre .1 .0 .1) (l .inv .1) (s .pre .1 .1) (u .ensures .0) (u .ensures .1) 0)
+    let s = c .before .before .before .before .before .before .before .before .before .before .before .before .before .before .before in
+    let l = c .before .before .before .before .before .before .before .before .before .before .before .loop in
+    (s .pre .0 .small, last-reduced (s .pre .0) (top-is (s .args .n) (s .pre .1 .0 .1)) (s .pre .1 .1) (l .inv .0 .on (c .before .before .before .before .before .before .before .before .before .if1 .left)) (c .before .before .round .ensures .steps))
 
 returns-2 : tie.Need-returns-2 Inv-loop μ-loop
 returns-2 c =
-    let s = c .before .before .before .before .before .before .before .before .before .before .before in
-    let l = c .before .before .before .before .before .before .before .loop in
-    let u = c .before .before .turn in
-    turn-found (s .args .n) (s .pre .0) (s .pre .1 .0 .1) (l .inv .1) (s .pre .1 .1) (u .ensures .0) (u .ensures .1) (s .args .budget) (l .inv .2) (omega arith) (omega arith) _ (c .constant .ensures)
+    let s = c .before .before .before .before .before .before .before .before .before .before .before .before .before .before .before .before in
+    let l = c .before .before .before .before .before .before .before .before .before .before .before .before .loop in
+    let less : l .at .index < s .args .budget = omega (arith, l .inv .0 .reached, c .before .before .before .before .before .before .before .before .before .before .if1 .left) in
+    let t = l .inv .0 .on (c .before .before .before .before .before .before .before .before .before .before .if1 .left) in
+    let k = c .before .before .before .round .result in
+    let r = c .before .before .before .round .ensures in
+    ap (found (k .degree) (k .index)) (c .constant .ensures) ∙ outcome-found (s .args .n) (s .pre .0) (top-is (s .args .n) (s .pre .1 .0 .1)) (s .pre .1 .1) t (l .inv .1) less (r .steps) (c .before .if2 .taken)
 
 pub seek-spec : {M : Type 1} → statement M
 seek-spec =
@@ -109,12 +103,8 @@ seek-spec =
     array-write-b
     loop-holds
     returns
-    sub-degree
-    add-degree
-    turn-requires
-    add-i
+    round-requires
     loop-less
     loop-again
-    array-read-constant
     constant-requires
     returns-2)

@@ -1,7 +1,7 @@
 -- By cases of the place.
-use Prim.Native.Nat.{ℕ, _-_, _+_}
+use Prim.Native.Nat.{_-_, _+_}
 use native.Mathlib.Omega.{arith}
-use mathlib.Core.Path.{_≡_, refl, sym, ap, _∙_}
+use mathlib.Core.Path.{_≡_, sym, ap, _∙_}
 use Rattle.bridge.specs.Product.{shifted}
 use Rattle.walk.specs.Linear.{shifted-next}
 use borrow.Author.Needs.{needs}

@@ -1,6 +1,6 @@
 -- The two coefficients, then the two passes.
-use Rattle.walk.specs.Step.{Division}
 use borrow.Author.Needs.{needs}
+use Rattle.walk.specs.Result.{division}
 use Rattle.walk.proofs.linear.linear.Statement.{statement}
 use Rattle.walk.proofs.linear.linear.Tie as tie
 
@@ -13,8 +13,7 @@ lower-requires c κs = search needs
 remainder-requires : tie.Need-remainder-requires
 remainder-requires c κs =
     let s = c .before .before .before in
-    let g = s .pre .1 .2 in
-    ((s .pre .0 .0, s .pre .0 .1, s .pre .0 .2), ((s .pre .1 .0, s .pre .1 .1, record { s-within = g .s-within; r-within = g .r-within; b-within = g .b-within; b-top = g .b-top }), (c .before .lower .ensures, c .before .before .upper .ensures)))
+    ((s .pre .0 .0, s .pre .0 .1, s .pre .0 .2), ((s .pre .1 .0, s .pre .1 .1, division (s .pre .1 .2)), (c .before .lower .ensures, c .before .before .upper .ensures)))
 
 next-requires : tie.Need-next-requires
 next-requires c κs =

@@ -1,12 +1,12 @@
 -- a0 times the leading coefficient is what a1 leaves at the place below the top.
-use mathlib.Core.Path.{_≡_, ap, _∙_}
-use Prim.Native.Nat.{ℕ, _≤_, _<_, _-_, _+_, _*_, _%_}
+use Prim.Native.Nat.{ℕ, _-_, _*_, _%_, _≤_, _<_}
 use native.Mathlib.Nat.{mod-lt, mul-le-mul}
 use native.Mathlib.Omega.{arith}
-use Rattle.bridge.specs.Residues.{inverse-lt}
-use Rattle.walk.specs.Sizes.{quo-reduced}
-use Rattle.walk.specs.Linear.{lower-at, shifted-less}
+use mathlib.Core.Path.{ap, _∙_}
 use borrow.Author.Needs.{needs}
+use Rattle.bridge.specs.Residues.{inverse-lt}
+use Rattle.walk.specs.Sizes.{positive, quo-reduced}
+use Rattle.walk.specs.Linear.{shifted-less, lower-at}
 use Rattle.walk.proofs.linear.lower.Statement.{statement}
 use Rattle.walk.proofs.linear.lower.Tie as tie
 
@@ -46,21 +46,21 @@ element-copy-out-rest-of-3 c = search needs
 rest-of-requires : tie.Need-rest-of-requires
 rest-of-requires c κs =
     let s = c .before .before .before .before in
-    let q = s .args .f .q in
+    let p = s .pre .0 .0 in
     let d = s .pre .1 .0 .2 in
-    let pos : 0 < q = (let h = d .s-within .reduced 0 in omega arith) in
-    let h1 : s .args .a1 < q = rw (s .pre .1 .1) (quo-reduced q (s .pre .0 .0) pos (s .args .n + 1) (s .args .n) (s .args .s .now) (s .args .b .now) (s .args .r .now) (d .s-within) (d .r-within) (d .b-within) (d .b-top) 1) in
-    let hy : c .before .before .before .below .result < q = rw (c .before .before .before .below .ensures) (shifted-less q pos (s .args .b .now) (d .b-within .reduced) (s .args .n - 1)) in
+    let pos = positive p d in
+    let h1 : s .args .a1 < s .args .f .q = rw (s .pre .1 .1) (quo-reduced p d 1) in
+    let hy : c .before .before .before .below .result < s .args .f .q = rw (c .before .before .before .below .ensures) (shifted-less _ pos _ (d .b-within .reduced) (s .args .n - 1)) in
     ((s .pre .0 .1, s .pre .0 .2), (d .s-within .reduced (s .args .n - 1), d .r-within .reduced (s .args .n - 1), pos, h1, d .b-within .reduced (s .args .n - 1), hy))
 
 mul-reduce : tie.Need-mul-reduce
 mul-reduce c =
     let s = c .before .before .before .before .before in
-    let q = s .args .f .q in
+    let p = s .pre .0 .0 in
     let d = s .pre .1 .0 .2 in
-    let pos : 0 < q = (let h = d .s-within .reduced 0 in omega arith) in
-    let v : c .rest-of .result < q = rw (c .rest-of .ensures) (mod-lt _ pos) in
-    let u : s .args .unit < q = rw (s .pre .0 .3) (inverse-lt q pos _) in
+    let pos = positive p d in
+    let v : c .rest-of .result < s .args .f .q = rw (c .rest-of .ensures) (mod-lt _ pos) in
+    let u : s .args .unit < s .args .f .q = rw (s .pre .0 .3) (inverse-lt (s .args .f .q) pos _) in
     let small : c .rest-of .result * s .args .unit ≤ 4095 * 4095 = mul-le-mul {n₂ = 4095} {m₂ = 4095} (omega arith) (omega arith) in
     omega arith
 
@@ -70,11 +70,10 @@ reduce-requires c κs = search needs
 returns : tie.Need-returns
 returns c =
     let s = c .before .before .before .before .before .before in
-    let q = s .args .f .q in
+    let p = s .pre .0 .0 in
     let d = s .pre .1 .0 .2 in
-    let pos : 0 < q = (let h = d .s-within .reduced 0 in omega arith) in
-    let h1 : s .args .a1 < q = rw (s .pre .1 .1) (quo-reduced q (s .pre .0 .0) pos (s .args .n + 1) (s .args .n) (s .args .s .now) (s .args .b .now) (s .args .r .now) (d .s-within) (d .r-within) (d .b-within) (d .b-top) 1) in
-    c .reduce .ensures ∙ ap (λ (u : ℕ). (c .before .rest-of .result * u) % q) (s .pre .0 .3) ∙ lower-at q (s .pre .0 .0) pos (s .args .n) (s .pre .1 .0 .0) (s .args .s .now) (s .args .b .now) (s .args .r .now) (d .s-within) (d .r-within) (d .b-within) (d .b-top) (s .args .a1) (s .pre .1 .1) (c .before .rest-of .result) (c .before .before .before .before .before .below .result) (omega arith) (c .before .before .before .before .before .below .ensures) (c .before .rest-of .ensures)
+    let v = c .before .rest-of .result in
+    c .reduce .ensures ∙ ap (λ (u : ℕ). (v * u) % s .args .f .q) (s .pre .0 .3) ∙ lower-at p d (s .args .a1) (s .pre .1 .1) v (c .before .before .before .before .before .below .result) (c .before .before .before .before .before .below .ensures) (c .before .rest-of .ensures)
 
 pub lower-spec : {M : Type 1} → statement M
 lower-spec =

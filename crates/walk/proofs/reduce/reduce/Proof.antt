@@ -1,5 +1,5 @@
 -- What is left of x is below 2·q, by the laws of the reciprocal.
-use Prim.Native.Nat.{ℕ, _+_, _-_, _*_, _/_, _%_, _≤_, _<_}
+use Prim.Native.Nat.{_*_, _/_, _≤_}
 use native.Mathlib.Nat.{mul-le-mul}
 use native.Mathlib.Omega.{arith}
 use Rattle.walk.specs.Reciprocal.{quotient-le, rest-less, rest-mod, rest-mod-more}

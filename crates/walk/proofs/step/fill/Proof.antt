@@ -1,6 +1,6 @@
 -- Both ways give the same.
 use mathlib.Core.Path.{_≡_, subst}
-use Prim.Native.Nat.{ℕ, _+_, _<_}
+use Prim.Native.Nat.{ℕ, _+_}
 use native.Mathlib.Omega.{arith}
 use Rattle.walk.specs.Step.{Ready}
 use borrow.Author.Needs.{needs}

@@ -1,6 +1,5 @@
 -- The invariant: the coefficients below k are filled in.
-use mathlib.Core.Path.{_≡_, sym, ap, _∙_}
-use Prim.Native.Nat.{ℕ, _≤_, _<_, _-_, _+_, _*_, _%_}
+use Prim.Native.Nat.{_≤_, _-_}
 use native.Mathlib.Omega.{arith}
 use lib.ListN.{length, getD}
 use lib.ListN.{List·getD-eq-default}
@@ -10,9 +9,6 @@ use Rattle.polynomial.specs.Places.{Filled, filled-none, filled-more, filled-al
 use borrow.Author.Needs.{needs}
 use Rattle.walk.proofs.step.next.Statement.{statement}
 use Rattle.walk.proofs.step.next.Tie as tie
-use Rattle.walk.proofs.step.next.Reads as reads
-use Rattle.walk.proofs.step.next.Lts as lts
-use Rattle.walk.proofs.step.next_at.Reads as next-at-reads
 
 abbrev Inv-loop : tie.InvT-loop
 Inv-loop f reciprocal before a l z r m w₀ k₀ w k = (k ≤ m) × Filled w (λ i. getD (add (modulo (f .q)) before (mul (modulo (f .q)) a (sub (modulo (f .q)) z r))) i 0) k
@@ -20,38 +16,29 @@ Inv-loop f reciprocal before a l z r m w₀ k₀ w k = (k ≤ m) × Filled w (λ
 abbrev μ-loop : tie.MeasureT-loop
 μ-loop f reciprocal before a l z r m w₀ k₀ w k = m - k
 
--- src/step.rt:109:5
 loop-holds : tie.Need-loop-holds Inv-loop μ-loop
 loop-holds c = (omega arith, filled-none _)
 
--- src/step.rt:110:16
 next-at-requires : tie.Need-next-at-requires Inv-loop μ-loop
 next-at-requires c κs = let s = c .before .before .before in ((s .pre .0 .0, s .pre .0 .1, s .pre .0 .2, omega arith), (s .pre .1 .0, (s .pre .1 .1 .0, (s .pre .1 .1 .1 .0 .0, s .pre .1 .1 .1 .0 .1))))
 
--- src/step.rt:110:9
 mul-w : tie.Need-mul-w Inv-loop μ-loop
 mul-w c = search needs
 
--- src/step.rt:110:9
 element-write-w : tie.Need-element-write-w Inv-loop μ-loop
 element-write-w c = search needs
 
--- src/step.rt:111:9
 add-k : tie.Need-add-k Inv-loop μ-loop
 add-k c = search needs
 
--- src/step.rt:109:5
 loop-less : tie.Need-loop-less Inv-loop μ-loop
 loop-less c = search needs
 
--- src/step.rt:109:5
 loop-again : tie.Need-loop-again Inv-loop μ-loop
 loop-again c =
-    let s = c .before .before .before .before in
     let l = c .before .before .loop in
     (omega arith, filled-more _ (l .w) (l .k) _ (l .inv .1) (omega arith) (c .next-at .ensures))
 
--- src/step.rt:99:1
 returns : tie.Need-returns Inv-loop μ-loop
 returns c =
     let s = c .before .before .before in

@@ -1,8 +1,8 @@
 -- No sum overflows: it is at most 4,095 and twice 128·q², which is below 2³¹.
-use mathlib.Core.Path.{_≡_, sym, ap, _∙_}
-use Prim.Native.Nat.{ℕ, _≤_, _<_, _-_, _+_, _*_, _%_}
+use mathlib.Core.Path.{_∙_}
+use Prim.Native.Nat.{_*_}
 use native.Mathlib.Omega.{arith}
-use Rattle.walk.specs.Terms.{full}
+use Rattle.walk.specs.Full.{full}
 use Rattle.walk.specs.Coefficients.{next-is}
 use borrow.Author.Needs.{needs}
 use Rattle.walk.proofs.step.next_at.Statement.{statement}
@@ -20,7 +20,7 @@ terms-requires c κs = search needs
 add-t : tie.Need-add-t
 add-t c =
     let s = c .before .before in
-    let w = full (s .args .f .q) (s .pre .0 .0) in
+    let w = full (s .args .f .q) (s .args .k) (s .pre .0 .0) (s .pre .0 .3) in
     let l = c .terms .ensures .small in
     omega (arith, s .pre .1 .0 (s .args .k))
 
@@ -28,18 +28,22 @@ mul-t-2 : tie.Need-mul-t-2
 mul-t-2 c = search needs
 
 mul-t-3 : tie.Need-mul-t-3
-mul-t-3 c = let w = full (c .before .before .args .f .q) (c .before .before .pre .0 .0) .small in omega arith
+mul-t-3 c = let w = full (c .before .before .args .f .q) (c .before .before .args .k) (c .before .before .pre .0 .0) (c .before .before .pre .0 .3) .small in omega arith
 
 terms-requires-2 : tie.Need-terms-requires-2
 terms-requires-2 c κs = search needs
 
 sub-t : tie.Need-sub-t
-sub-t c = search needs
+sub-t c =
+    let s = c .before .before .before in
+    let w = full (s .args .f .q) (s .args .k) (s .pre .0 .0) (s .pre .0 .3) in
+    let l = c .terms2 .ensures .small in
+    omega arith
 
 add-t-2 : tie.Need-add-t-2
 add-t-2 c =
     let s = c .before .before .before in
-    let w = full (s .args .f .q) (s .pre .0 .0) in
+    let w = full (s .args .f .q) (s .args .k) (s .pre .0 .0) (s .pre .0 .3) in
     let l = c .before .terms .ensures .small in
     omega (arith, s .pre .1 .0 (s .args .k))
 
@@ -51,7 +55,7 @@ returns c =
     let s = c .before .before .before .before in
     let q = s .args .f .q in
     let h = s .pre .1 .0 0 in
-    let w = full q (s .pre .0 .0) in
+    let w = full q (s .args .k) (s .pre .0 .0) (s .pre .0 .3) in
     let l = c .before .terms2 .ensures .small in
     c .reduce .ensures
     ∙ next-is q (omega arith) (s .args .before .now) (s .args .a .now) (s .args .z .now) (s .args .r .now) (s .args .k) _ (c .before .before .terms .result) (c .before .terms2 .result) (128 * q) (c .before .before .terms .ensures .residue) (c .before .terms2 .ensures .residue) (omega arith)

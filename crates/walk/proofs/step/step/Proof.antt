@@ -1,8 +1,9 @@
 -- The leading coefficient is below q, so its inverse is in the table.
-use Prim.Native.Nat.{ℕ, _≤_, _<_, _-_}
+use Prim.Native.Nat.{_-_}
 use native.Mathlib.Omega.{arith}
-use Rattle.walk.specs.Result.{next-past, stepped}
+use mathlib.Core.Path.{_∙_}
 use borrow.Author.Needs.{needs}
+use Rattle.walk.specs.Result.{next-past, stepped}
 use Rattle.walk.proofs.step.step.Statement.{statement}
 use Rattle.walk.proofs.step.step.Tie as tie
 
@@ -32,12 +33,14 @@ fill-requires c κs =
 top-requires : tie.Need-top-requires
 top-requires c κs =
     let s = c .before .before .before .before .before .before in
-    (omega arith, next-past (s .args .f .q) (s .pre .0 .0) (s .args .m) (s .args .n) (s .pre .1 .0 .0) (s .pre .1 .0 .1) (s .pre .1 .0 .2) (s .args .s .now) (s .args .before .now) (s .args .b .now) (s .args .r .now) (s .pre .1 .1 .1) _ _ (c .before .fill .ensures))
+    let p = s .pre .0 .0 in
+    let g = s .pre .1 .1 .1 in
+    (omega arith, λ i h. c .before .fill .ensures .q-places .at i ∙ next-past p g i h)
 
 returns : tie.Need-returns
 returns c =
     let s = c .before .before .before .before .before .before .before in
-    stepped (s .args .f .q) (s .pre .0 .0) (s .args .m) (s .args .n) (s .pre .1 .0 .0) (s .pre .1 .0 .1) (s .pre .1 .0 .2) (s .args .s .now) (s .args .before .now) (s .args .b .now) (s .args .r .now) (s .pre .1 .1 .1) _ _ (c .before .before .fill .ensures) _ (c .top .ensures)
+    stepped (s .pre .0 .0) (s .pre .1 .1 .1) (omega arith) (c .before .before .fill .ensures) (c .top .ensures)
 
 pub step-spec : {M : Type 1} → statement M
 step-spec =

@@ -1,0 +1,5 @@
+pub mod Stored
+pub mod Remainder
+pub mod Ideal
+pub mod Records
+pub mod Listed
