@@ -1,11 +1,11 @@
 -- One step of the walk on records, with the quotient a given: the next P = a·Q − P is short, and the next Q = (D − P²)/Q is held.
-use Prim.Native.Nat.{ℕ, suc, _+_, _≤_, _<_}
+use Prim.Native.Nat.{ℕ, _+_, _≤_, _<_}
 use native.Mathlib.Omega.{arith}
-use mathlib.Core.Path.{_≡_, ap, ap₂, _∙_, subst, sym}
+use mathlib.Core.Path.{_≡_, ap, ap₂, _∙_, subst}
 use mathlib.Core.List.{List}
 use lib.ListN.{length}
 use Rattle.definitions.specs.Field.{modulo}
-use Rattle.definitions.specs.Polynomials.{trim, sub, mul, quo}
+use Rattle.definitions.specs.Polynomials.{sub, mul, quo}
 use Rattle.definitions.specs.Walk.{Ideal, partial, nextP, next}
 use Rattle.bridge.specs.Trim.{length-trim}
 use Rattle.bridge.specs.Division.{trim-quo, oks-quo}

@@ -26,6 +26,7 @@ use Rattle.run.specs.State.{rootD}
 use Rattle.ideal.specs.Operand.{pairOf, Operand, K, M, I, operand-ideal, operand-degree}
 use Rattle.ideal.specs.Product.{S-result, S-bounds}
 use Rattle.giant.specs.Start.{Start}
+use Rattle.giant.specs.Turn.{Reduces}
 
 pub record Stepped (q n : ℕ) (D : List ℕ) (x : Ideal ℕ) (d : ℕ) (y : Ideal ℕ) (e : ℕ) (c : List ℕ) (m : ℕ) (u : List ℕ) (k : ℕ) (f distance : ℤ) : Type 0 where
   pub q-is : (b : ℕ) → Is q c m (giantDone (ticket q n D b) x d y e .q)
@@ -38,8 +39,8 @@ result-deg : {q : ℕ} {c : List ℕ} {m : ℕ} {l : List ℕ} → Result q c m 
 unfolding deg size
 result-deg {q} {c} {m} r = ap (λ (l : List ℕ). length (trim (modulo q) l) - 1) (sym (r .is)) ∙ ap (λ (i : ℕ). i - 1) (held-size q c m (r .held))
 
-short : {q : ℕ} {c : List ℕ} {m : ℕ} → Held q c m → {i j : ℕ} → i ≡ m → i ≡ j → j ≤ 129
-short h e f = let w = h .short in omega arith
+short : {q : ℕ} {c : List ℕ} {m : ℕ} → Held q c m → {i : ℕ} → m ≡ i → i ≤ 129
+short h e = let w = h .short in omega arith
 
 module _ (n : ℕ) {q : ℕ} {D : List ℕ} (h : Admitted q (genus n) D) {a : List ℕ} {k : ℕ} {a′ : List ℕ} {k′ : ℕ} (t : Operand q (genus n) D a k a′ k′) {b : List ℕ} {l : ℕ} {b′ : List ℕ} {l′ : ℕ} (t′ : Operand q (genus n) D b l b′ l′) where
   abbrev x : Ideal ℕ
@@ -101,18 +102,21 @@ module _ (n : ℕ) {q : ℕ} {D : List ℕ} (h : Admitted q (genus n) D) {a : Li
     start-ideal = subst (IsIdeal (K h) (M h) D) (sym pair-is) product-ideal
 
     -- ---- the reduced pair's records
-    module _ {s : List ℕ} {i : ℕ} (s-is : Is q s i (r .s)) {u : List ℕ} {k₁ : ℕ} (u-is : Is q u k₁ (steps (modulo q) D (rootD q (genus n) D) (pairOf c m e j) (turnsOf (modulo q) D (rootD q (genus n) D) (genus n) (pairOf c m e j)) .q))
-        {v : List ℕ} {k₂ : ℕ} (v-is : Is q v k₂ (steps (modulo q) D (rootD q (genus n) D) (pairOf c m e j) (turnsOf (modulo q) D (rootD q (genus n) D) (genus n) (pairOf c m e j)) .p))
-        {sum : ℕ} (sum-is : sum ≡ degreeSum (modulo q) D (rootD q (genus n) D) (genus n) (pairOf c m e j) (turnsOf (modulo q) D (rootD q (genus n) D) (genus n) (pairOf c m e j)))
-        (held : Held q u k₁ × Held q v k₂ × (0 < k₁) × (k₁ + sum ≤ m)) where
+    module _ {s : List ℕ} {i : ℕ} (s-is : Is q s i (r .s)) {u : List ℕ} {k₁ : ℕ} {v : List ℕ} {k₂ sum : ℕ} (red : Reduces q (genus n) D (pairOf c m e j) u k₁ v k₂ sum) where
+      reduced : Reduces q (genus n) D (r .ideal) u k₁ v k₂ sum
+      reduced = subst (λ (p : Ideal ℕ). Reduces q (genus n) D p u k₁ v k₂ sum) pair-is red
+
       abbrev last : Ideal ℕ
       last = steps (modulo q) D (rootD q (genus n) D) (r .ideal) (turnsOf (modulo q) D (rootD q (genus n) D) (genus n) (r .ideal))
 
       u-result : Result q u k₁ (last .q)
-      u-result = record { held = held .0; is = is-poly q u k₁ _ (subst (λ (p : Ideal ℕ). Is q u k₁ (steps (modulo q) D (rootD q (genus n) D) p (turnsOf (modulo q) D (rootD q (genus n) D) (genus n) p) .q)) pair-is u-is) (short (held .0) (sym (u-is .size-is)) (ap (λ (p : Ideal ℕ). length (steps (modulo q) D (rootD q (genus n) D) p (turnsOf (modulo q) D (rootD q (genus n) D) (genus n) p) .q)) pair-is)) }
+      u-result = record { held = red .held-q; is = is-poly q u k₁ _ (reduced .q-is) (short (red .held-q) (reduced .q-is .size-is)) }
 
       v-result : Result q v k₂ (last .p)
-      v-result = record { held = held .1; is = is-poly q v k₂ _ (subst (λ (p : Ideal ℕ). Is q v k₂ (steps (modulo q) D (rootD q (genus n) D) p (turnsOf (modulo q) D (rootD q (genus n) D) (genus n) p) .p)) pair-is v-is) (short (held .1) (sym (v-is .size-is)) (ap (λ (p : Ideal ℕ). length (steps (modulo q) D (rootD q (genus n) D) p (turnsOf (modulo q) D (rootD q (genus n) D) (genus n) p) .p)) pair-is)) }
+      v-result = record { held = red .held-p; is = is-poly q v k₂ _ (reduced .p-is) (short (red .held-p) (reduced .p-is .size-is)) }
+
+      pub most : k₁ + sum ≤ m
+      most = let a = reduced .most in let b = c-is .size-is in omega arith
 
       -- how far f is below 0
       pub lower-most : (m - k₁ - sum) + (i - 1) ≤ 2199023255552
@@ -122,19 +126,19 @@ module _ (n : ℕ) {q : ℕ} {D : List ℕ} (h : Admitted q (genus n) D) {a : Li
       unfolding shiftOf
       shift-is =
           sum-minus (deg (modulo q) (last .q)) (deg (modulo q) (r .ideal .q)) (degreeSum (modulo q) D (rootD q (genus n) D) (genus n) (r .ideal) (turnsOf (modulo q) D (rootD q (genus n) D) (genus n) (r .ideal))) (deg (modulo q) (r .s)) (m - k₁ - sum)
-          (let a = result-deg u-result in let b = result-deg (c-result c-is) in let w = sum-is ∙ ap (λ (p : Ideal ℕ). degreeSum (modulo q) D (rootD q (genus n) D) (genus n) p (turnsOf (modulo q) D (rootD q (genus n) D) (genus n) p)) pair-is in let y = held .2 in let y′ = held .3 in omega arith)
+          (let a = result-deg u-result in let b = result-deg (c-result c-is) in let w = reduced .sum-is in let z = red .some in let o = most in omega arith)
           ∙ ap (λ (w : ℕ). negℤ (pos ((m - k₁ - sum) + w))) (s-deg s-is)
 
       module _ {w : List ℕ} {z : ℕ} (w-is : Is q w z (monic (modulo q) (poly u k₁))) where
         pub monic-held : Held q w z
-        monic-held = result-monic q u k₁ (held .0) w z w-is .held
+        monic-held = result-monic q u k₁ (red .held-q) w z w-is .held
 
         -- ---- the answer
         pub stepped : {o : List ℕ} {p : ℕ} → Is q o p (rem (modulo q) (poly v k₂) (poly w z)) → {d₁ d₂ less : ℕ} → less ≡ (m - k₁ - sum) + (i - 1) → {f : ℤ} → f ≡ pos 0 -ℤ pos less → {g : ℤ} → g ≡ pos (d₁ + d₂) -ℤ pos less → Stepped q n D x d₁ y d₂ w z o p f g
         unfolding giantDone idealOf rootOf
         stepped {o} {p} o-is {d₁} {d₂} less-is f-is g-is = record {
           q-is = λ b. subst (Is q w z) (ap (monic (modulo q)) (u-result .is)) w-is;
-          p-is = λ b. subst (Is q o p) (ap₂ (rem (modulo q)) (v-result .is) (result-monic q u k₁ (held .0) w z w-is .is ∙ ap (monic (modulo q)) (u-result .is))) o-is;
+          p-is = λ b. subst (Is q o p) (ap₂ (rem (modulo q)) (v-result .is) (result-monic q u k₁ (red .held-q) w z w-is .is ∙ ap (monic (modulo q)) (u-result .is))) o-is;
           f-is = λ b. f-is ∙ +ℤ-idl _ ∙ ap (λ (t : ℕ). negℤ (pos t)) less-is ∙ sym shift-is;
           distance-is = λ b. g-is ∙ ap (λ (t : ℕ). pos (d₁ + d₂) +ℤ negℤ (pos t)) less-is ∙ ap (λ (t : ℤ). pos (d₁ + d₂) +ℤ t) (sym shift-is);
         }

@@ -1,13 +1,11 @@
 -- The reduction at its index j, as records: the pair with its quotient a, and the sum of the degrees of a so far. A step takes one to the next, and the size of Q falls.
-use Prim.Native.Nat.{ℕ, zero, suc, _+_, _-_, _≤_, _<_}
+use Prim.Native.Nat.{ℕ, suc, _+_, _-_, _≤_, _<_}
 use native.Mathlib.Omega.{arith}
 use mathlib.Core.Path.{_≡_, refl, sym, ap, ap₂, _∙_, subst}
 use mathlib.Core.Logic.{⊎-elim}
 use mathlib.Core.List.{List}
 use lib.ListN.{length}
 use Rattle.ring.specs.Order.{le-or-lt}
-use Rattle.ring.specs.Residues.{Fq}
-use Rattle.algebra.specs.Polynomial.{Px}
 use Rattle.surd.specs.Step.{State}
 use Rattle.ideals.specs.Steps.{shift-most}
 use Rattle.definitions.specs.Field.{modulo}
@@ -21,7 +19,7 @@ use Rattle.laws.specs.Admitted.{Admitted, surd-of}
 use Rattle.laws.specs.Pairs.{cofactorAt, ideal-state}
 use Rattle.laws.specs.Reduction.{Q-size, a-size, degree-sum-is, sequence, size-falls, turns-unique}
 use Rattle.laws.specs.ReductionSizes.{Q-trim, P-trim, Q-oks, P-oks, Q-most, P-most, partial-most}
-use Rattle.polynomial.specs.Record.{poly, Is}
+use Rattle.polynomial.specs.Record.{poly, Held, Is}
 use Rattle.polynomial.specs.Result.{Result, result}
 use Rattle.run.specs.State.{rootD}
 use Rattle.ideal.specs.Operand.{pairOf, K, M}
@@ -39,6 +37,16 @@ pub record At (q g : ℕ) (D : List ℕ) (x : Ideal ℕ) (u : List ℕ) (k : ℕ
 at-first : {q g : ℕ} {D : List ℕ} {x : Ideal ℕ} {u : List ℕ} {k : ℕ} {c : List ℕ} {m : ℕ} {e : List ℕ} {n : ℕ} → Is q u k (partial (modulo q) D (rootD q g D) x) → Is q c m (x .q) → Is q e n (x .p) → At q g D x u k c m e n 0
 unfolding steps degreeSum
 at-first a b c = record { index = 0; a-is = a; q-is = b; p-is = c; sum-is = refl; above = λ i l. absurd (omega arith) }
+
+-- the records stand for the first pair whose Q has degree at most g, with the sum of the degrees of a to its index
+pub record Reduces (q g : ℕ) (D : List ℕ) (x : Ideal ℕ) (c : List ℕ) (m : ℕ) (e : List ℕ) (n sum : ℕ) : Type 0 where
+  pub q-is : Is q c m (steps (modulo q) D (rootD q g D) x (turnsOf (modulo q) D (rootD q g D) g x) .q)
+  pub p-is : Is q e n (steps (modulo q) D (rootD q g D) x (turnsOf (modulo q) D (rootD q g D) g x) .p)
+  pub sum-is : sum ≡ degreeSum (modulo q) D (rootD q g D) g x (turnsOf (modulo q) D (rootD q g D) g x)
+  pub held-q : Held q c m
+  pub held-p : Held q e n
+  pub some : 0 < m
+  pub most : m + sum ≤ length (x .q)
 
 -- the first, from the start's records
 pub at-start : {q g : ℕ} {a : List ℕ} {i : ℕ} {d : List ℕ} {j : ℕ} {c : List ℕ} {m : ℕ} {e : List ℕ} {n : ℕ} (s : Start q g a i d j c m e n) {c′ : List ℕ} {m′ : ℕ} (c-is : Is q c′ m′ (poly c m)) {e′ : List ℕ} {n′ : ℕ} (e-is : Is q e′ n′ (poly e n)) {u : List ℕ} {k : ℕ}
@@ -166,7 +174,7 @@ module _ {q g : ℕ} {D : List ℕ} {h : Admitted q g D} {x : Ideal ℕ} (b : Be
             at-next {e′} {n′} p-next = record { index = suc (t .index); a-is = a-is-next; q-is = q-is-next; p-is = subst (λ (p : Ideal ℕ). Is q e′ n′ (p .p)) next-path p-next; sum-is = sum-next; above = above-next }
 
     -- the degrees of a and of Q_j add up to at most that of Q_0
-    pub sum-most : m + sum ≤ length (x .q)
+    sum-most : m + sum ≤ length (x .q)
     unfolding steps
     sum-most =
         let w = shift-most (K h) (sequence (surd-of h) x st) (t .index) (λ i l. let v = t .above i l in let z = Q-size (surd-of h) x st i in omega arith) in
@@ -183,13 +191,13 @@ module _ {q g : ℕ} {D : List ℕ} {h : Admitted q g D} {x : Ideal ℕ} (b : Be
     turns-are : m ≤ suc g → turnsOf (modulo q) D d g x ≡ t .index
     turns-are l = turns-unique (surd-of h) x st (t .index) (let w = q-same (t .index) in let z = t .q-is .size-is in omega arith) (t .above)
 
-    -- the last pair and the sum, from any pair that is x
-    module _ (low : m ≤ suc g) {y : Ideal ℕ} (same : x ≡ y) where
-      pub last-q : Is q c m (steps (modulo q) D d y (turnsOf (modulo q) D d g y) .q)
-      last-q = subst (λ (p : Ideal ℕ). Is q c m (steps (modulo q) D d p (turnsOf (modulo q) D d g p) .q)) same (subst (λ (j : ℕ). Is q c m (pair j .q)) (sym (turns-are low)) (t .q-is))
-
-      pub last-p : Is q e n (steps (modulo q) D d y (turnsOf (modulo q) D d g y) .p)
-      last-p = subst (λ (p : Ideal ℕ). Is q e n (steps (modulo q) D d p (turnsOf (modulo q) D d g p) .p)) same (subst (λ (j : ℕ). Is q e n (pair j .p)) (sym (turns-are low)) (t .p-is))
-
-      pub last-sum : sum ≡ degreeSum (modulo q) D d g y (turnsOf (modulo q) D d g y)
-      last-sum = t .sum-is ∙ ap (degreeSum (modulo q) D d g x) (sym (turns-are low)) ∙ ap (λ (p : Ideal ℕ). degreeSum (modulo q) D d g p (turnsOf (modulo q) D d g p)) same
+    pub reduces : m ≤ suc g → Reduces q g D x c m e n sum
+    reduces low = record {
+      q-is = subst (λ (j : ℕ). Is q c m (pair j .q)) (sym (turns-are low)) (t .q-is);
+      p-is = subst (λ (j : ℕ). Is q e n (pair j .p)) (sym (turns-are low)) (t .p-is);
+      sum-is = t .sum-is ∙ ap (degreeSum (modulo q) D d g x) (sym (turns-are low));
+      held-q = q-result .held;
+      held-p = p-result .held;
+      some = q-some;
+      most = sum-most;
+    }

@@ -5,13 +5,12 @@ ghost use mathlib.Core.List.{List};
 ghost use lib.ListN.{length};
 ghost use Rattle.definitions.specs.Field.{modulo};
 ghost use Rattle.definitions.specs.Ticket.{genus};
-ghost use Rattle.definitions.specs.Walk.{partial, nextP, next, steps};
-ghost use Rattle.definitions.specs.Products.{turnsOf, degreeSum};
+ghost use Rattle.definitions.specs.Walk.{partial, nextP, next};
 ghost use Rattle.bridge.specs.Prime.{Prime};
 ghost use Rattle.polynomial.specs.Record.{poly, Held, Is};
-ghost use Rattle.run.specs.State.{rootD};
 ghost use Rattle.ideal.specs.Operand.{pairOf};
 ghost use Rattle.giant.specs.Start.{Start};
+ghost use Rattle.giant.specs.Turn.{Reduces};
 use crate::Reduced;
 use crate::Stage;
 use field::Field;
@@ -60,17 +59,15 @@ fn advance(f: Field, big: Poly, d: Poly, s: Stage) -> Stage
 // Steps until the first k with deg Q_k at most g = n/2 − 1. D is `big`, of degree n, and d its root.
 pub fn reduce(f: Field, n: usize, big: Poly, d: Poly, q: Poly, p: Poly) -> Reduced
     requires { ⌜ Start (f .q) (genus n) (big .c) (big .size) (d .c) (d .size) (q .c) (q .size) (p .c) (p .size) × (2 ≤ n) ⌝ }
-    ensures { λ r. ⌜ Is (f .q) (r .q .c) (r .q .size) (steps (modulo (f .q)) (poly (big .c) (big .size)) (rootD (f .q) (genus n) (poly (big .c) (big .size))) (pairOf (q .c) (q .size) (p .c) (p .size)) (turnsOf (modulo (f .q)) (poly (big .c) (big .size)) (rootD (f .q) (genus n) (poly (big .c) (big .size))) (genus n) (pairOf (q .c) (q .size) (p .c) (p .size))) .q) ⌝ }
-    ensures { λ r. ⌜ Is (f .q) (r .p .c) (r .p .size) (steps (modulo (f .q)) (poly (big .c) (big .size)) (rootD (f .q) (genus n) (poly (big .c) (big .size))) (pairOf (q .c) (q .size) (p .c) (p .size)) (turnsOf (modulo (f .q)) (poly (big .c) (big .size)) (rootD (f .q) (genus n) (poly (big .c) (big .size))) (genus n) (pairOf (q .c) (q .size) (p .c) (p .size))) .p) ⌝ }
-    ensures { λ r. ⌜ r .sum ≡ degreeSum (modulo (f .q)) (poly (big .c) (big .size)) (rootD (f .q) (genus n) (poly (big .c) (big .size))) (genus n) (pairOf (q .c) (q .size) (p .c) (p .size)) (turnsOf (modulo (f .q)) (poly (big .c) (big .size)) (rootD (f .q) (genus n) (poly (big .c) (big .size))) (genus n) (pairOf (q .c) (q .size) (p .c) (p .size))) ⌝ }
-    ensures { λ r. ⌜ Held (f .q) (r .q .c) (r .q .size) × Held (f .q) (r .p .c) (r .p .size) × (0 < r .q .size) × (r .q .size + r .sum ≤ q .size) ⌝ }
+    ensures { λ r. ⌜ Reduces (f .q) (genus n) (poly (big .c) (big .size)) (pairOf (q .c) (q .size) (p .c) (p .size)) (r .q .c) (r .q .size) (r .p .c) (r .p .size) (r .sum) ⌝ }
 {
     let top = n / 2;
     let mut s = stage(f, d, q, p);
     let mut sum: u64 = 0;
     while top < s.q.size {
-        s = advance(f, big, d, s);
-        sum += (s.a.size - 1) as u64;
+        let t = advance(f, big, d, s);
+        sum += (t.a.size - 1) as u64;
+        s = t;
     }
     let x = s.q;
     let y = s.p;

@@ -1,6 +1,6 @@
 // The giant step: the product of two ideals, reduced, with f and the distance.
 ghost use mathlib.Core.Path.{_≡_};
-ghost use Prim.Native.Nat.{ℕ, _+_, _-_, _<_, _≤_};
+ghost use Prim.Native.Nat.{_+_, _-_, _<_, _≤_};
 ghost use lib.IntN.{pos, _-ℤ_};
 ghost use Rattle.definitions.specs.Ticket.{genus};
 ghost use Rattle.laws.specs.Admitted.{Admitted};

@@ -3,3 +3,4 @@ pub mod Operand
 pub mod Pair
 pub mod Product
 pub mod Sizes
+pub mod Words

@@ -1,7 +1,7 @@
 -- S with U and W on records: two greatest common divisors with factors, the second of the first's and of P_1 + P_2.
 use Prim.Native.Nat.{ℕ, _+_, _≤_, _<_}
 use native.Mathlib.Omega.{arith}
-use mathlib.Core.Path.{_≡_, ap₂, _∙_, subst}
+use mathlib.Core.Path.{ap₂, _∙_, subst}
 use mathlib.Core.List.{List}
 use Rattle.definitions.specs.Field.{modulo}
 use Rattle.definitions.specs.Polynomials.{add, mul, gcd, bezout}

@@ -1,9 +1,8 @@
 -- What a product asks of each of its two pairs, as records of 129 places: they stand for a pair that passes the test of refusal 9. So they are held, and are an ideal of degree at most g.
-use Prim.Native.Nat.{ℕ, suc, _≤_, _<_}
+use Prim.Native.Nat.{ℕ, suc, _≤_}
 use native.Mathlib.Omega.{arith}
 use mathlib.Core.Path.{_≡_, sym, ap₂, subst}
 use mathlib.Core.List.{List}
-use lib.ListN.{length}
 use Rattle.algebra.specs.Field.{Field}
 use Rattle.algebra.specs.Polynomial.{F, monic-deg}
 use Rattle.ring.specs.Residues.{Fq}
@@ -54,7 +53,7 @@ module _ {q g : ℕ} {D : List ℕ} (h : Admitted q g D) where
     pub operand-p : Held q e n
     operand-p = p-result .held
 
-    pub operand-pair : pairOf c m e n ≡ trimmed K M I D (t .pair)
+    operand-pair : pairOf c m e n ≡ trimmed K M I D (t .pair)
     operand-pair = ap₂ (λ (a b : List ℕ). record { q = a; p = b }) (q-result .is) (p-result .is)
 
     pub operand-same : SamePair K M I D (pairOf c m e n) (t .pair)

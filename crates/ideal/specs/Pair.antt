@@ -1,7 +1,7 @@
 -- The test of refusal 9 in two parts: the words alone, and their polynomials, which may be trimmed. What a pair that was tested says.
 use Prim.Native.Nat.{ℕ, suc, _-_ as _-ₙ_, _≤_, _<_}
 use native.Mathlib.Omega.{arith}
-use mathlib.Core.Path.{_≡_, refl, sym, ap, ap₂, _∙_, subst, subst₂}
+use mathlib.Core.Path.{_≡_, refl, sym, ap, ap₂, _∙_}
 use mathlib.Core.Bool.{Bool, true, false, not, _&&_}
 use mathlib.Core.List.{List, []}
 use lib.Dec.{ltb, eqb}
@@ -11,7 +11,7 @@ use Rattle.ring.specs.Residues.{FqRing}
 use Rattle.definitions.specs.Field.{modulo}
 use Rattle.definitions.specs.Polynomials.{at, trim, size, lead, rem}
 use Rattle.definitions.specs.Words.{someFrom}
-use Rattle.definitions.specs.Ticket.{Ticket, genus}
+use Rattle.definitions.specs.Ticket.{genus}
 use Rattle.definitions.specs.Walk.{Ideal}
 use Rattle.definitions.specs.Products.{isPair}
 use Rattle.bridge.specs.Model.{Model, series}
@@ -170,5 +170,5 @@ module _ (n : ℕ) {q : ℕ} {D : List ℕ} (h : Admitted q (genus n) D) (u v : 
       accepted-pair w = record { ok-is = ok-of true w; q-is = c-is; p-is = e-is }
 
 -- a pair that passed is an operand of the product
-pub paired-operand : {q n : ℕ} {D u v c : List ℕ} {m : ℕ} {e : List ℕ} {k : ℕ} → Paired q n D u v true c m e k → Operand q (genus n) D c m e k
+unfoldable pub paired-operand : {q n : ℕ} {D u v c : List ℕ} {m : ℕ} {e : List ℕ} {k : ℕ} → Paired q n D u v true c m e k → Operand q (genus n) D c m e k
 paired-operand {q} {n} {D} {u} {v} t = record { pair = record { q = u; p = v }; passes = pair-passes (ticket q n D 0) (record { q = u; p = v }) (sym (t .ok-is 0)); q-is = t .q-is; p-is = t .p-is }

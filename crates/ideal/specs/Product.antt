@@ -14,11 +14,17 @@ use Rattle.bridge.specs.Division.{trim-quo, oks-quo}
 use Rattle.bridge.specs.Bezout.{trim-gcd, oks-gcd, trim-bezout-v, oks-bezout-v}
 use Rattle.laws.specs.Admitted.{Admitted}
 use Rattle.laws.specs.Pairs.{cofactorAt}
-use Rattle.laws.specs.Product.{commonOf, productQ, bracket, unreducedP, productP, bezoutU, bezoutW, product-is, S-size}
+use Rattle.laws.specs.Product.{commonOf, productQ, bracket, bezoutU, bezoutW, product-is, S-size}
 use Rattle.laws.specs.ProductSizes.{cofactor-length, common-length, W-length, U-length, Q-length, bracket-length}
 use Rattle.polynomial.specs.Record.{poly, Is}
 use Rattle.polynomial.specs.Result.{Result, result}
 use Rattle.ideal.specs.Operand.{pairOf, Operand, K, M, I, operand-ideal, operand-degree}
+
+-- the records stand for S, Q and P of the product
+pub record Multiplied (q : ℕ) (D : List ℕ) (x y : Ideal ℕ) (s : List ℕ) (i : ℕ) (c : List ℕ) (m : ℕ) (e : List ℕ) (j : ℕ) : Type 0 where
+  pub s-is : Is q s i (productOf (modulo q) D x y .s)
+  pub q-is : Is q c m (productOf (modulo q) D x y .ideal .q)
+  pub p-is : Is q e j (productOf (modulo q) D x y .ideal .p)
 
 module _ {q g : ℕ} {D : List ℕ} (h : Admitted q g D) {a : List ℕ} {k : ℕ} {a′ : List ℕ} {k′ : ℕ} (t : Operand q g D a k a′ k′) {b : List ℕ} {l : ℕ} {b′ : List ℕ} {l′ : ℕ} (t′ : Operand q g D b l b′ l′) where
   abbrev x : Ideal ℕ
@@ -52,7 +58,7 @@ module _ {q g : ℕ} {D : List ℕ} (h : Admitted q g D) {a : List ℕ} {k : ℕ
         let m = S-most in
         (omega arith, omega arith)
 
-    pub product-s : Is q s i (productOf (modulo q) D x y .s)
+    product-s : Is q s i (productOf (modulo q) D x y .s)
     product-s = subst (Is q s i) (ap (λ (r : Product ℕ). r .s) (sym (product-is (K h) (M h) (I h) D x y))) s-is
 
     -- Q
@@ -63,7 +69,7 @@ module _ {q g : ℕ} {D : List ℕ} (h : Admitted q g D) {a : List ℕ} {k : ℕ
       pub Q-result : Result q c m (productQ (modulo q) x y)
       Q-result = result q c m _ Q-is (let e = Q-length (K h) (M h) (I h) (operand-ideal h t) (operand-ideal h t′) (operand-degree h t) (operand-degree h t′) in let w = h .genus-most in omega arith) (trim-quo (M h) _ _) (oks-quo (M h) _ _)
 
-      pub product-q : Is q c m (productOf (modulo q) D x y .ideal .q)
+      product-q : Is q c m (productOf (modulo q) D x y .ideal .q)
       product-q = subst (Is q c m) (ap (λ (r : Product ℕ). r .ideal .q) (sym (product-is (K h) (M h) (I h) D x y))) Q-is
 
   module _ {u : List ℕ} {i : ℕ} (u-is : Is q u i U) where
@@ -112,5 +118,5 @@ module _ {q g : ℕ} {D : List ℕ} (h : Admitted q g D) {a : List ℕ} {k : ℕ
     pub bracket-bound : j ≤ 96
     bracket-bound = let m = bracket-most in let z = bracket-is .size-is in let w = h .genus-most in omega arith
 
-    pub product-p : {r : List ℕ} {o : ℕ} → Is q r o (rem (modulo q) (add (modulo q) (poly a′ k′) (mul (modulo q) (quo (modulo q) (poly a k) (poly s i)) (poly e j))) (poly c m)) → Is q r o (productOf (modulo q) D x y .ideal .p)
-    product-p {r} {o} is = subst (Is q r o) (ap₂ (rem (modulo q)) (ap (add (modulo q) (poly a′ k′)) (ap₂ (λ (S B : List ℕ). mul (modulo q) (quo (modulo q) (poly a k) S) B) (S-result s-is .is) (bracket-result .is))) (Q-result s-is c-is .is) ∙ ap (λ (r : Product ℕ). r .ideal .p) (sym (product-is (K h) (M h) (I h) D x y))) is
+    pub multiplied : {r : List ℕ} {o : ℕ} → Is q r o (rem (modulo q) (add (modulo q) (poly a′ k′) (mul (modulo q) (quo (modulo q) (poly a k) (poly s i)) (poly e j))) (poly c m)) → Multiplied q D x y s i c m r o
+    multiplied {r} {o} is = record { s-is = product-s s-is; q-is = product-q s-is c-is; p-is = subst (Is q r o) (ap₂ (rem (modulo q)) (ap (add (modulo q) (poly a′ k′)) (ap₂ (λ (S B : List ℕ). mul (modulo q) (quo (modulo q) (poly a k) S) B) (S-result s-is .is) (bracket-result .is))) (Q-result s-is c-is .is) ∙ ap (λ (r : Product ℕ). r .ideal .p) (sym (product-is (K h) (M h) (I h) D x y))) is }

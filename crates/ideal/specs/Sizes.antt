@@ -1,15 +1,13 @@
--- How long the results of calls on records are: sums, differences, products and Bezout's first factor.
-use Prim.Native.Nat.{ℕ, suc, _+_, _≤_, _<_}
+-- How long the results of calls on records are: sums, differences and Bezout's first factor.
+use Prim.Native.Nat.{ℕ, _≤_, _<_}
 use native.Mathlib.Omega.{arith}
-use mathlib.Core.Path.{_≡_}
 use mathlib.Core.Logic.{⊎-elim}
 use mathlib.Core.List.{List}
-use lib.ListN.{length}
 use Rattle.ring.specs.Order.{le-or-lt}
 use Rattle.definitions.specs.Field.{modulo}
-use Rattle.definitions.specs.Polynomials.{add, sub, mul, bezout}
+use Rattle.definitions.specs.Polynomials.{add, sub, bezout}
 use Rattle.bridge.specs.Trim.{trim-nil}
-use Rattle.bridge.specs.Lengths.{length-add, length-sub, length-mul}
+use Rattle.bridge.specs.Lengths.{length-add, length-sub}
 use Rattle.bridge.specs.BezoutLength.{bezout-u-length, bezout-u-constant}
 use Rattle.bridge.specs.Prime.{Prime}
 use Rattle.bridge.specs.Residues.{model, inverts}
@@ -26,9 +24,6 @@ module _ {q : ℕ} {a : List ℕ} {m : ℕ} (ha : Held q a m) {b : List ℕ} {n 
 
   pub size-sub : {c : List ℕ} {size : ℕ} → (k : ℕ) → m ≤ k → n ≤ k → Is q c size (sub (modulo q) (poly a m) (poly b n)) → size ≤ k
   size-sub k h l r = let x = held-size q a m ha in let y = held-size q b n hb in let e = r .size-is in let w = length-sub (model q pos) (poly a m) (poly b n) k (omega arith) (omega arith) in omega arith
-
-  pub size-mul : {c : List ℕ} {size : ℕ} → (k : ℕ) → m + n ≤ suc k → Is q c size (mul (modulo q) (poly a m) (poly b n)) → size ≤ k
-  size-mul k h r = let x = held-size q a m ha in let y = held-size q b n hb in let e = r .size-is in let w = length-mul (model q pos) (poly a m) (poly b n) k (omega arith) in omega arith
 
   -- the first factor is shorter than the second polynomial, or a constant
   pub size-u : {c : List ℕ} {size : ℕ} → Prime q → (k : ℕ) → 1 ≤ k → n ≤ k → Is q c size (bezout (modulo q) (poly a m) (poly b n) .u) → size ≤ k

@@ -1,9 +1,7 @@
 // The product of two ideals: S by two greatest common divisors, Q = Q_1·Q_2/S², and P modulo Q.
-ghost use mathlib.Core.Path.{_≡_};
-ghost use Prim.Native.Nat.{ℕ, _+_, _<_, _≤_};
+ghost use Prim.Native.Nat.{_+_, _<_, _≤_};
 ghost use Rattle.definitions.specs.Field.{modulo};
 ghost use Rattle.definitions.specs.Polynomials.{add as addOf, sub as subOf, mul as mulOf, quo as quoOf, rem as remOf};
-ghost use Rattle.definitions.specs.Products.{productOf};
 ghost use Rattle.definitions.specs.Ticket.{genus};
 ghost use Rattle.bridge.specs.Prime.{Prime};
 ghost use Rattle.laws.specs.Admitted.{Admitted};
@@ -11,6 +9,7 @@ ghost use Rattle.laws.specs.Pairs.{normAt, cofactorAt};
 ghost use Rattle.laws.specs.Product.{commonOf, bezoutU, bezoutW};
 ghost use Rattle.polynomial.specs.Record.{poly, Held, Is};
 ghost use Rattle.ideal.specs.Operand.{pairOf, Operand};
+ghost use Rattle.ideal.specs.Product.{Multiplied};
 use crate::Multipliers;
 use crate::Product;
 use field::Field;
@@ -100,9 +99,7 @@ pub fn product(f: Field, n: usize, big: Poly, q1: Poly, p1: Poly, q2: Poly, p2: 
     requires { ⌜ Admitted (f .q) (genus n) (poly (big .c) (big .size)) × Held (f .q) (big .c) (big .size) ⌝ }
     requires { ⌜ Operand (f .q) (genus n) (poly (big .c) (big .size)) (q1 .c) (q1 .size) (p1 .c) (p1 .size) ⌝ }
     requires { ⌜ Operand (f .q) (genus n) (poly (big .c) (big .size)) (q2 .c) (q2 .size) (p2 .c) (p2 .size) ⌝ }
-    ensures { λ r. ⌜ Is (f .q) (r .s .c) (r .s .size) (productOf (modulo (f .q)) (poly (big .c) (big .size)) (pairOf (q1 .c) (q1 .size) (p1 .c) (p1 .size)) (pairOf (q2 .c) (q2 .size) (p2 .c) (p2 .size)) .s) ⌝ }
-    ensures { λ r. ⌜ Is (f .q) (r .q .c) (r .q .size) (productOf (modulo (f .q)) (poly (big .c) (big .size)) (pairOf (q1 .c) (q1 .size) (p1 .c) (p1 .size)) (pairOf (q2 .c) (q2 .size) (p2 .c) (p2 .size)) .ideal .q) ⌝ }
-    ensures { λ r. ⌜ Is (f .q) (r .p .c) (r .p .size) (productOf (modulo (f .q)) (poly (big .c) (big .size)) (pairOf (q1 .c) (q1 .size) (p1 .c) (p1 .size)) (pairOf (q2 .c) (q2 .size) (p2 .c) (p2 .size)) .ideal .p) ⌝ }
+    ensures { λ r. ⌜ Multiplied (f .q) (poly (big .c) (big .size)) (pairOf (q1 .c) (q1 .size) (p1 .c) (p1 .size)) (pairOf (q2 .c) (q2 .size) (p2 .c) (p2 .size)) (r .s .c) (r .s .size) (r .q .c) (r .q .size) (r .p .c) (r .p .size) ⌝ }
 {
     let m = multipliers(f, q1, p1, q2, p2);
     let s = m.s;

@@ -1,7 +1,6 @@
 // A pair as it is handed in: words of any number and any values, tested by refusal 9 and read as two polynomials.
 ghost use mathlib.Core.Path.{_≡_};
 ghost use mathlib.Core.Bool.{false};
-ghost use mathlib.Core.List.{[]};
 ghost use Prim.Native.Nat.{ℕ, _<_, _≤_};
 ghost use lib.ListN.{length};
 ghost use Rattle.definitions.specs.Field.{modulo};

@@ -1,16 +1,14 @@
 -- The loop's invariant: the stage is that of an index, with every Q before it of degree above g, and the sum runs to that index. The size of Q falls.
 use native.Mathlib.Omega.{arith}
-use Prim.Native.Nat.{_<_, suc}
-use borrow.Author.Needs.{needs}
+use Prim.Native.Nat.{ℕ, suc, _<_}
 use Rattle.definitions.specs.Ticket.{genus}
-use mathlib.Core.Path.{ap}
-use lib.ListN.{length}
+use mathlib.Core.Path.{subst}
 use Rattle.polynomial.specs.Record.{poly}
-use Rattle.polynomial.specs.Held.{length-poly}
+use Rattle.definitions.specs.Walk.{Ideal}
 use Rattle.run.specs.Start.{half-degree}
 use Rattle.ideal.specs.Operand.{pairOf}
-use Rattle.giant.specs.Start.{root-result, begun-again, same-poly, same-pair}
-use Rattle.giant.specs.Turn.{At, at-start, a-result, q-result, p-result, q-some, product-fits, a-path, next-short, a-some, sum-fits, size-less, at-next, sum-most, last-q, last-p, last-sum}
+use Rattle.giant.specs.Start.{root-result, begun-again, same-pair}
+use Rattle.giant.specs.Turn.{At, at-start, a-result, q-result, p-result, q-some, product-fits, a-path, next-short, a-some, sum-fits, size-less, at-next, Reduces, reduces}
 use Rattle.giant.proofs.reduce.reduce.Statement.{statement}
 use Rattle.giant.proofs.reduce.reduce.Tie as tie
 
@@ -79,13 +77,13 @@ returns : tie.Need-returns Inv-loop μ-loop
 returns c =
     let i = c .before .before in
     let s = i .before .before .before in
+    let a = s .before .args in
     let h = s .before .pre .0 in
     let e = s .stage .ensures in
-    let t = i .before .before .loop .inv in
-    let b = begun-again h (e .0) (e .1 .0) in
-    let z = half-degree (s .before .args .n) (s .before .pre .1) in
+    let l = i .before .before .loop in
+    let z = half-degree (a .n) (s .before .pre .1) in
     let low = i .if1 .left in
-    (last-q b t (omega arith) (same-pair h (e .0) (e .1 .0)), (last-p b t (omega arith) (same-pair h (e .0) (e .1 .0)), (last-sum b t (omega arith) (same-pair h (e .0) (e .1 .0)), (q-result b t .held, p-result b t .held, q-some b t, let w = sum-most b t in let v = length-poly _ _ _ (h .held-q) in let y = ap length (same-poly (h .held-q) (e .0)) in omega arith))))
+    subst (λ (x : Ideal ℕ). Reduces (a .f .q) (genus (a .n)) (poly (a .big .c) (a .big .size)) x (l .s .q .c) (l .s .q .size) (l .s .p .c) (l .s .p .size) (l .sum)) (same-pair h (e .0) (e .1 .0)) (reduces (begun-again h (e .0) (e .1 .0)) (l .inv) (omega arith))
 
 pub reduce-spec : {M : Type 1} → statement M
 reduce-spec =

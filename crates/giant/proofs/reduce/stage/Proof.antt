@@ -1,6 +1,6 @@
 -- The sum is held, and its quotient is the definition's.
 use Prim.Native.Nat.{ℕ}
-use mathlib.Core.Path.{_≡_, subst}
+use mathlib.Core.Path.{subst}
 use mathlib.Core.List.{List}
 use borrow.Author.Needs.{needs}
 use Rattle.definitions.specs.Field.{modulo}

@@ -1,7 +1,7 @@
 -- The difference is at most as long as the longer P, so that each product fits; each polynomial is the definition's.
 use Prim.Native.Nat.{ℕ}
 use native.Mathlib.Omega.{arith}
-use mathlib.Core.Path.{_≡_, ap, ap₂, _∙_, subst}
+use mathlib.Core.Path.{ap, ap₂, _∙_, subst}
 use mathlib.Core.List.{List}
 use borrow.Author.Needs.{needs}
 use Rattle.definitions.specs.Field.{modulo}

@@ -1,7 +1,7 @@
 -- Both products are held, and their polynomials are the definition's.
 use Prim.Native.Nat.{ℕ}
 use native.Mathlib.Omega.{arith}
-use mathlib.Core.Path.{_≡_, ap₂, subst}
+use mathlib.Core.Path.{ap₂, subst}
 use mathlib.Core.List.{List}
 use borrow.Author.Needs.{needs}
 use Rattle.definitions.specs.Field.{modulo}

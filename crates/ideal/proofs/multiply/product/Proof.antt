@@ -1,8 +1,7 @@
 -- Each call's result is held and short enough for the next one; together they are the definition's product.
 use native.Mathlib.Omega.{arith}
-use borrow.Author.Needs.{needs}
 use Rattle.ideal.specs.Operand.{operand-q, operand-p, operand-q-size, operand-p-size}
-use Rattle.ideal.specs.Product.{S-result, S-bounds, Q-result, U-result, U-bound, W-result, W-bound, cofactor-result, cofactor-bound, bracket-result, bracket-bound, product-s, product-q, product-p}
+use Rattle.ideal.specs.Product.{S-result, S-bounds, Q-result, U-result, U-bound, W-result, W-bound, cofactor-result, cofactor-bound, bracket-result, bracket-bound, multiplied}
 use Rattle.ideal.proofs.multiply.product.Statement.{statement}
 use Rattle.ideal.proofs.multiply.product.Tie as tie
 
@@ -79,7 +78,7 @@ returns c =
     let m = c .before .before .before .before .before .before .before .before .multipliers .ensures in
     let n = c .before .before .before .before .before .before .norm .ensures in
     let v = c .before .before .before .before .before .cofactor .ensures .0 in
-    (product-s h x y (m .0), (product-q h x y (m .0) n, product-p h x y (m .0) n (m .1 .0) (m .1 .1) v (c .before .bracket .ensures) (c .residue .ensures)))
+    multiplied h x y (m .0) n (m .1 .0) (m .1 .1) v (c .before .bracket .ensures) (c .residue .ensures)
 
 pub product-spec : {M : Type 1} → statement M
 product-spec = tie.close (tie.spec multipliers-requires norm-requires cofactor-requires bracket-requires residue-requires returns)

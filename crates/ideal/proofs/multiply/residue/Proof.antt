@@ -1,7 +1,7 @@
 -- The quotient Q_1/S is no longer than Q_1, so that the product fits; each polynomial is the definition's.
 use Prim.Native.Nat.{ℕ}
 use native.Mathlib.Omega.{arith}
-use mathlib.Core.Path.{_≡_, ap, _∙_, subst}
+use mathlib.Core.Path.{ap, _∙_, subst}
 use mathlib.Core.List.{List}
 use borrow.Author.Needs.{needs}
 use Rattle.definitions.specs.Field.{modulo}

@@ -1,6 +1,5 @@
 -- Each test is the definition's: the leading coefficient, the two degrees, and the remainder of D − P² by Q.
 use mathlib.Core.Path.{sym, _∙_}
-use native.Mathlib.Omega.{arith}
 use borrow.Author.Needs.{needs}
 use Rattle.ideal.specs.Pair.{ideal-first, ideal-second, ideal-last}
 use Rattle.ideal.proofs.operand.is_ideal.Statement.{statement}

@@ -1,9 +1,9 @@
 -- The loop's invariant: the words before i stand in their places, zeros from i on. The size found is that of the trimmed list.
 use Prim.Native.Nat.{ℕ, _-_, _≤_}
 use native.Mathlib.Omega.{arith}
-use mathlib.Core.Path.{_≡_, refl, sym, _∙_}
+use mathlib.Core.Path.{refl, sym, _∙_}
 use mathlib.Core.List.{List}
-use lib.ListN.{length, getD, List·getD-eq-default}
+use lib.ListN.{getD, List·getD-eq-default}
 use denote.Ref.{now}
 use borrow.Author.Needs.{needs}
 use Rattle.bridge.specs.Trim.{trim-idem, at-trim}

@@ -1,7 +1,7 @@
 -- The loop's invariant: every word before i is below q.
 use Prim.Native.Nat.{ℕ, _-_, _<_, _≤_}
 use native.Mathlib.Omega.{arith}
-use mathlib.Core.Path.{_≡_, sym, ap, _∙_}
+use mathlib.Core.Path.{sym, ap, _∙_}
 use mathlib.Core.List.{List}
 use lib.ListN.{length, getD}
 use lib.Seq.{take-length}
