@@ -6,19 +6,16 @@ use mathlib.Core.Bool.{Bool, true, false, not, _&&_, _||_}
 use mathlib.Core.List.{List, []}
 use lib.Dec.{ltb}
 use lib.IntN.{ℤ, pos, _+ℤ_}
-use borrow.Author.Tests.{lt-ltb, le-ltb}
+use borrow.Author.Tests.{lt-ltb, le-ltb, ltb-false}
 use Rattle.definitions.specs.Field.{modulo}
 use Rattle.definitions.specs.Ticket.{Ticket, genus, ticketOf, refusalOf}
 use Rattle.definitions.specs.Walk.{Ideal, steps}
 use Rattle.definitions.specs.Answers.{opsOf, rootOf}
 use Rattle.definitions.specs.Listing.{idealOf}
 use Rattle.definitions.specs.Products.{Product, ProductAnswer, GiantStepAnswer, productOf, turnsOf, shiftOf, isPair, wrongPair, wrongDistance, productDone, giantDone, productRefused, giantRefused, productAnswer, giantAnswer}
-use Rattle.laws.specs.Admitted.{Admitted}
 use Rattle.polynomial.specs.Record.{poly, Is}
 use Rattle.run.specs.Outcome.{ticket}
-use Rattle.ideal.specs.Operand.{Operand, K, M, I, operand-same}
-use Rattle.ideal.specs.Pair.{Paired, paired-operand}
-use Rattle.laws.specs.ProductCong.{SamePair, product-cong}
+use Rattle.ideal.specs.Pair.{Paired}
 
 -- what a call of `product` answers is a; its polynomials stand in records of 129 places
 pub record ProductSays (q : ℕ) (a : ProductAnswer) (number : ℕ) (s : List ℕ) (i : ℕ) (c : List ℕ) (m : ℕ) (e : List ℕ) (j : ℕ) : Type 0 where
@@ -36,13 +33,13 @@ pub record GiantSays (q : ℕ) (a : GiantStepAnswer) (number : ℕ) (c : List �
   pub distance-is : distance ≡ a .distance
 
 -- zeros in a refusal
-pub product-zeros : (q k : ℕ) (a : ProductAnswer) {s c e : List ℕ} {i m j : ℕ} → a ≡ productRefused k → Is q s i [] → Is q c m [] → Is q e j [] → ProductSays q a k s i c m e j
+pub product-zeros : (q k : ℕ) (a : ProductAnswer) {number : ℕ} {s c e : List ℕ} {i m j : ℕ} → number ≡ k → a ≡ productRefused k → Is q s i [] → Is q c m [] → Is q e j [] → ProductSays q a number s i c m e j
 unfolding productRefused
-product-zeros q k a {s} {c} {e} {i} {m} {j} h x y z = subst (λ (b : ProductAnswer). ProductSays q b k s i c m e j) (sym h) (record { number-is = refl; s-is = x; q-is = y; p-is = z })
+product-zeros q k a {number} {s} {c} {e} {i} {m} {j} n h x y z = subst (λ (b : ProductAnswer). ProductSays q b number s i c m e j) (sym h) (record { number-is = n; s-is = x; q-is = y; p-is = z })
 
-pub giant-zeros : (q k : ℕ) (a : GiantStepAnswer) {c e : List ℕ} {m j : ℕ} → a ≡ giantRefused k → Is q c m [] → Is q e j [] → GiantSays q a k c m e j (pos 0) (pos 0)
+pub giant-zeros : (q k : ℕ) (a : GiantStepAnswer) {number : ℕ} {c e : List ℕ} {m j : ℕ} {f g : ℤ} → number ≡ k → f ≡ pos 0 → g ≡ pos 0 → a ≡ giantRefused k → Is q c m [] → Is q e j [] → GiantSays q a number c m e j f g
 unfolding giantRefused
-giant-zeros q k a {c} {e} {m} {j} h x y = subst (λ (b : GiantStepAnswer). GiantSays q b k c m e j (pos 0) (pos 0)) (sym h) (record { number-is = refl; q-is = x; p-is = y; f-is = refl; distance-is = refl })
+giant-zeros q k a {number} {c} {e} {m} {j} {f} {g} n u v h x y = subst (λ (b : GiantStepAnswer). GiantSays q b number c m e j f g) (sym h) (record { number-is = n; q-is = x; p-is = y; f-is = u; distance-is = v })
 
 -- ---- the pairs
 module _ (t : Ticket) (x y : Ideal ℕ) where
@@ -62,13 +59,19 @@ pub first-far : (d e : ℕ) → 1099511627776 < d → wrongDistance d e ≡ true
 unfolding wrongDistance
 first-far d e h = rw (lt-ltb 1099511627776 d h)
 
-pub second-far : (d e : ℕ) → d ≤ 1099511627776 → 1099511627776 < e → wrongDistance d e ≡ true
+pub far-second : (d e : ℕ) → d ≤ 1099511627776 → ltb 1099511627776 e ≡ wrongDistance d e
 unfolding wrongDistance
-second-far d e h k = rw (le-ltb 1099511627776 d h, lt-ltb 1099511627776 e k)
+far-second d e h = rw (le-ltb 1099511627776 d h)
 
-pub both-near : (d e : ℕ) → d ≤ 1099511627776 → e ≤ 1099511627776 → wrongDistance d e ≡ false
+-- neither distance is far
+pub both-near : (d e : ℕ) → wrongDistance d e ≡ false → (d ≤ 1099511627776) × (e ≤ 1099511627776)
 unfolding wrongDistance
-both-near d e h k = rw (le-ltb 1099511627776 d h, le-ltb 1099511627776 e k)
+both-near d e h = go (ltb 1099511627776 d) (ltb 1099511627776 e) refl refl h
+  where
+    go : (a b : Bool) → ltb 1099511627776 d ≡ a → ltb 1099511627776 e ≡ b → (a || b) ≡ false → (d ≤ 1099511627776) × (e ≤ 1099511627776)
+    go false false i j k = (ltb-false 1099511627776 d i, ltb-false 1099511627776 e j)
+    go false true i j k = absurd (let z : _≡_ {A = ℕ} 0 1 = cc in omega arith)
+    go true b i j k = absurd (let z : _≡_ {A = ℕ} 0 1 = cc in omega arith)
 
 -- ---- the answers
 module _ (w : List ℕ) (x y : Ideal ℕ) where
@@ -182,7 +185,7 @@ unfolding productDone
 product-done-says q t x y a s i c m e j h u v w = subst (λ (b : ProductAnswer). ProductSays q b 0 s i c m e j) (sym h) (record { number-is = refl; s-is = u; q-is = v; p-is = w })
 
 -- ---- two pairs that were tested
-module _ {q n : ℕ} {D u v u′ v′ c e c′ e′ : List ℕ} {m k m′ k′ : ℕ} {a b : Bool} (h : Admitted q (genus n) D) (x : Paired q n D u v a c m e k) (y : Paired q n D u′ v′ b c′ m′ e′ k′) where
+module _ {q n : ℕ} {D u v u′ v′ c e c′ e′ : List ℕ} {m k m′ k′ : ℕ} {a b : Bool} (x : Paired q n D u v a c m e k) (y : Paired q n D u′ v′ b c′ m′ e′ k′) where
   pub pairs-wrong : (s : ℕ) → (a && b) ≡ false → wrongPair (ticket q n D s) (pairOf u v) (pairOf u′ v′) ≡ true
   pairs-wrong s f = go a b (x .ok-is s) (y .ok-is s) f
     where
@@ -190,3 +193,22 @@ module _ {q n : ℕ} {D u v u′ v′ c e c′ e′ : List ℕ} {m k m′ k′ :
       go false b i j f = first-wrong _ _ _ i
       go true false i j f = second-wrong _ _ _ i j
       go true true i j f = absurd (let z : _≡_ {A = ℕ} 0 1 = cc in omega arith)
+
+module _ {q n : ℕ} {D u v u′ v′ c e c′ e′ : List ℕ} {m k m′ k′ : ℕ} (x : Paired q n D u v true c m e k) (y : Paired q n D u′ v′ true c′ m′ e′ k′) where
+  pub pairs-right : (s : ℕ) → wrongPair (ticket q n D s) (pairOf u v) (pairOf u′ v′) ≡ false
+  pairs-right s = both-right _ _ _ (x .ok-is s) (y .ok-is s)
+
+-- both pairs passed
+pub passed-pair : {q n : ℕ} {D u v c e : List ℕ} {m k : ℕ} {a : Bool} → Paired q n D u v a c m e k → a ≡ true → Paired q n D u v true c m e k
+passed-pair {q} {n} {D} {u} {v} {c} {e} {m} {k} x h = subst (λ (b : Bool). Paired q n D u v b c m e k) h x
+
+pub both-true : (a b : Bool) → (a && b) ≡ true → (a ≡ true) × (b ≡ true)
+both-true true b e = (refl, e)
+both-true false b e = absurd (let z : _≡_ {A = ℕ} 0 1 = cc in omega arith)
+
+-- the same modulus
+pub product-modulus : {q q′ : ℕ} {a : ProductAnswer} {number : ℕ} {s : List ℕ} {i : ℕ} {c : List ℕ} {m : ℕ} {e : List ℕ} {j : ℕ} → q ≡ q′ → ProductSays q a number s i c m e j → ProductSays q′ a number s i c m e j
+product-modulus {q} {q′} {a} {number} {s} {i} {c} {m} {e} {j} h = subst (λ (k : ℕ). ProductSays k a number s i c m e j) h
+
+pub giant-modulus : {q q′ : ℕ} {a b : GiantStepAnswer} {number : ℕ} {c : List ℕ} {m : ℕ} {e : List ℕ} {j : ℕ} {f g : ℤ} → q ≡ q′ → b ≡ a → GiantSays q a number c m e j f g → GiantSays q′ b number c m e j f g
+giant-modulus {q} {q′} {a} {b} {number} {c} {m} {e} {j} {f} {g} h k x = subst (λ (n : ℕ). GiantSays n b number c m e j f g) h (subst (λ (z : GiantStepAnswer). GiantSays q z number c m e j f g) (sym k) x)

@@ -60,11 +60,14 @@ pub fn product(ticket: &[u32], q1: &[u32], p1: &[u32], q2: &[u32], p2: &[u32]) -
         return refused(words, 9);
     }
     let r = ideal::multiply::product(t.field, t.n, t.radicand, x.q, x.p, y.q, y.p);
+    let s = r.s;
+    let q = r.q;
+    let p = r.p;
     ProductAnswer {
         words,
         number: 0,
-        s: r.s,
-        q: r.q,
-        p: r.p,
+        s,
+        q,
+        p,
     }
 }

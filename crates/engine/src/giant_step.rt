@@ -11,6 +11,7 @@ ghost use Rattle.polynomial.specs.Record.{poly, Held, Is};
 ghost use Rattle.ideal.specs.Operand.{Operand};
 ghost use Rattle.run.specs.Outcome.{ticket};
 ghost use Rattle.engine.specs.Products.{GiantSays, pairOf, heldPair, giantNear};
+use crate::product::both;
 use counters::Distance;
 use giant::root::root_of;
 use giant::step::giant;
@@ -18,7 +19,6 @@ use ideal::Pair;
 use ideal::operand::pair;
 use polynomial::Poly;
 use polynomial::linear::zero;
-use crate::product::both;
 use ticket::Ticket;
 use ticket::read_ticket;
 
@@ -71,18 +71,28 @@ fn stepped(words: u64, t: Ticket, x: Pair, d1: Distance, y: Pair, d2: Distance) 
     }
     let d = root_of(t.field, t.n, t.radicand);
     let r = giant(t.field, t.n, t.radicand, d, x.q, x.p, d1, y.q, y.p, d2);
+    let q = r.q;
+    let p = r.p;
     GiantStepAnswer {
         words,
         number: 0,
-        q: r.q,
-        p: r.p,
+        q,
+        p,
         f: r.f,
         distance: r.distance,
     }
 }
 
 // The giant step of two ideals for a ticket of any words and any length; the pairs are lists of any words and any length. The ticket's budget has no effect.
-pub fn giant_step(ticket: &[u32], q1: &[u32], p1: &[u32], d1: Distance, q2: &[u32], p2: &[u32], d2: Distance) -> GiantStepAnswer
+pub fn giant_step(
+    ticket: &[u32],
+    q1: &[u32],
+    p1: &[u32],
+    d1: Distance,
+    q2: &[u32],
+    p2: &[u32],
+    d2: Distance,
+) -> GiantStepAnswer
     ensures words { λ r. ⌜ r .words ≡ length (now (ticket .entry)) ⌝ }
     ensures says { λ r. ⌜ GiantSays (ticketOf (now (ticket .entry)) .q) (giantAnswer (now (ticket .entry)) (pairOf (now (q1 .entry)) (now (p1 .entry))) (d1 .0) (pairOf (now (q2 .entry)) (now (p2 .entry))) (d2 .0)) (r .number) (r .q .c) (r .q .size) (r .p .c) (r .p .size) (r .f) (r .distance) ⌝ }
 {
