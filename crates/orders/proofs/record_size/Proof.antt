@@ -1,0 +1,25 @@
+-- The second word's value is n.
+use borrow.Author.Needs.{needs}
+use Rattle.definitions.specs.Ticket.{ticketOf}
+use Rattle.orders.proofs.record_size.Statement.{statement}
+use Rattle.orders.proofs.record_size.Tie as tie
+
+shared-slice-read-value : tie.Need-shared-slice-read-value
+shared-slice-read-value c = search needs
+
+value-requires : tie.Need-value-requires
+value-requires c κs = search needs
+
+cast-result : tie.Need-cast-result
+cast-result c = search needs
+
+add-result : tie.Need-add-result
+add-result c = search needs
+
+returns : tie.Need-returns
+unfolding ticketOf
+returns c = search needs
+
+pub record-size-spec : {M : Type 1} → statement M
+record-size-spec =
+    tie.close (tie.spec shared-slice-read-value value-requires cast-result add-result returns)
