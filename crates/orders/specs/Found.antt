@@ -71,10 +71,10 @@ module _ (R m c : ℕ) where
         let t = d .1 in
         record { words = words-of; least = omega arith; most = omega arith; room = room-of (ticketOf w) (wordsOutcome w) l e }
 
--- the records of a size, in a list that is as long as the lent one
-pub records-fit : {w l : List ℕ} {m size : ℕ} → Fits w l m → size ≡ ticketOf w .n + 4 → (list : List ℕ) → length list ≡ length l → (5 ≤ size) × (size ≤ 68) × (m * size ≤ length list)
-records-fit {w} {l} {m} {size} f e list h =
+-- the records, in a list that is as long as the lent one
+pub records-fit : {w l : List ℕ} {m n : ℕ} → Fits w l m → n ≡ ticketOf w .n → (list : List ℕ) → length list ≡ length l → (2 ≤ n) × (n ≤ 64) × (m * (n + 4) ≤ length list)
+records-fit {w} {l} {m} {n} f e list h =
     let least = f .least in
     let most = f .most in
-    let room : m * size ≤ length l = subst (λ (k : ℕ). m * k ≤ length l) (sym e) (f .room) in
+    let room : m * (n + 4) ≤ length l = subst (λ (k : ℕ). m * (k + 4) ≤ length l) (sym e) (f .room) in
     (omega arith, omega arith, omega arith)

@@ -2,7 +2,8 @@
 use Prim.Native.Nat.{ℕ, min, suc, _+_, _-_, _*_, _≤_, _<_}
 use native.Mathlib.Nat.{suc-mul, mul-le-mul-right}
 use native.Mathlib.Omega.{arith}
-use mathlib.Core.Path.{_≡_}
+use native.Mathlib.Numerals.{add-one}
+use mathlib.Core.Path.{_≡_, ap, _∙_}
 use mathlib.Core.List.{List}
 use lib.ListN.{length, take, drop, length-take, length-drop}
 
@@ -18,3 +19,6 @@ part-length l at size h =
     let a : length (take (at + size - at) (drop at l)) ≡ min (at + size - at) (length (drop at l)) = length-take (at + size - at) (drop at l) in
     let b : length (drop at l) ≡ length l - at = length-drop at l in
     omega arith
+
+pub next-place : (i size : ℕ) → (i + 1) * size ≡ i * size + size
+next-place i size = ap (λ (k : ℕ). k * size) (add-one i) ∙ suc-mul i size

@@ -1,10 +1,7 @@
--- At most 70 words are read.
-use mathlib.Core.Path.{_≡_, sym}
-use native.Mathlib.Omega.{arith}
-use lib.ListN.{length}
+-- What is printed lies within the buffer.
+use mathlib.Core.Path.{sym}
 use lib.Seq.{length-take-le}
 use borrow.Author.Needs.{needs}
-use Rattle.orders.specs.Words.{count-most}
 use Rattle.orders.proofs.main.Statement.{statement}
 use Rattle.orders.proofs.main.Tie as tie
 
@@ -17,35 +14,26 @@ read-full-requires c κs = search needs
 array-share-prefix-bytes : tie.Need-array-share-prefix-bytes
 array-share-prefix-bytes c = search needs
 
-slice-aggregate-words-of : tie.Need-slice-aggregate-words-of
-slice-aggregate-words-of c = search needs
+slice-aggregate-output : tie.Need-slice-aggregate-output
+slice-aggregate-output c = search needs
 
-words-of-requires : tie.Need-words-of-requires
-words-of-requires c κs = search needs
+slice-aggregate-output-2 : tie.Need-slice-aggregate-output-2
+slice-aggregate-output-2 c = search needs
 
-print-refused-requires : tie.Need-print-refused-requires
-print-refused-requires c κs = search needs
+output-requires : tie.Need-output-requires
+output-requires c κs = search needs
+
+array-share-prefix-lines : tie.Need-array-share-prefix-lines
+array-share-prefix-lines c = search needs
+
+slice-aggregate-write-all : tie.Need-slice-aggregate-write-all
+slice-aggregate-write-all c = sym (length-take-le _ _ (c .before .before .output .ensures .1))
+
+write-all-requires : tie.Need-write-all-requires
+write-all-requires c κs = search needs
 
 returns : tie.Need-returns
 returns c = search needs
-
-array-share-prefix-words : tie.Need-array-share-prefix-words
-array-share-prefix-words c =
-    let h = count-most _ (c .before .before .words-of .ensures) in
-    let e : length (c .before .before .words-of .result .words) ≡ 70 = search needs in
-    omega arith
-
-slice-aggregate-print-answer : tie.Need-slice-aggregate-print-answer
-slice-aggregate-print-answer c =
-    let h = count-most _ (c .before .before .before .words-of .ensures) in
-    let e : length (c .before .before .before .words-of .result .words) ≡ 70 = search needs in
-    sym (length-take-le _ _ (omega arith))
-
-print-answer-requires : tie.Need-print-answer-requires
-print-answer-requires c κs = search needs
-
-returns-2 : tie.Need-returns-2
-returns-2 c = search needs
 
 pub main-spec : {M : Type 1} → statement M
 main-spec =
@@ -54,11 +42,10 @@ main-spec =
     slice-aggregate-read-full
     read-full-requires
     array-share-prefix-bytes
-    slice-aggregate-words-of
-    words-of-requires
-    print-refused-requires
-    returns
-    array-share-prefix-words
-    slice-aggregate-print-answer
-    print-answer-requires
-    returns-2)
+    slice-aggregate-output
+    slice-aggregate-output-2
+    output-requires
+    array-share-prefix-lines
+    slice-aggregate-write-all
+    write-all-requires
+    returns)

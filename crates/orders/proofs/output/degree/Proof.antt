@@ -1,8 +1,8 @@
 -- The second word's value is n.
-use borrow.Author.Needs.{needs}
 use Rattle.definitions.specs.Ticket.{ticketOf}
-use Rattle.orders.proofs.record_size.Statement.{statement}
-use Rattle.orders.proofs.record_size.Tie as tie
+use borrow.Author.Needs.{needs}
+use Rattle.orders.proofs.output.degree.Statement.{statement}
+use Rattle.orders.proofs.output.degree.Tie as tie
 
 shared-slice-read-value : tie.Need-shared-slice-read-value
 shared-slice-read-value c = search needs
@@ -13,13 +13,15 @@ value-requires c κs = search needs
 cast-result : tie.Need-cast-result
 cast-result c = search needs
 
-add-result : tie.Need-add-result
-add-result c = search needs
-
 returns : tie.Need-returns
 unfolding ticketOf
 returns c = search needs
 
-pub record-size-spec : {M : Type 1} → statement M
-record-size-spec =
-    tie.close (tie.spec shared-slice-read-value value-requires cast-result add-result returns)
+pub degree-spec : {M : Type 1} → statement M
+degree-spec =
+    tie.close
+    (tie.spec
+    shared-slice-read-value
+    value-requires
+    cast-result
+    returns)
