@@ -1,0 +1,59 @@
+-- The lines of an answer and of the program, case by case.
+use Prim.Native.Nat.{ℕ}
+use mathlib.Core.Path.{_≡_, refl, sym, ap, _∙_}
+use mathlib.Core.Bool.{Bool, true, false}
+use mathlib.Core.List.{List, [], _∷_, _++_, append-nil}
+use Rattle.definitions.specs.Text.{ascii, line}
+use Rattle.text.specs.Lines.{first-refused}
+use lib.Dec.{eqb}
+use lib.ListN.{getD, replicate}
+use borrow.Author.Tests.{ne-eqb}
+use Rattle.definitions.specs.Ticket.{ticketOf}
+use Rattle.definitions.specs.Answers.{Outcome, found, spent, refused, Said, said}
+use Rattle.definitions.specs.Listing.{ListingAnswer, listingAnswer}
+use Rattle.definitions.specs.Program.{wordsOf, readBytes, cutWord, firstLine, recordLines, answerLines, programOf}
+use Rattle.orders.specs.Refused.{Numbered}
+
+module _ (n : ℕ) (list : List ℕ) where
+  abbrev lines : Said → List ℕ
+  lines s = firstLine s ++ (elim (eqb (s .number) 0) [ true ↦ recordLines list n 0 (getD (s .values) 1 0) | false ↦ [] ])
+
+  lines-found : (R m c : ℕ) → lines (said (found R m c)) ≡ firstLine (said (found R m c)) ++ recordLines list n 0 m
+  unfolding said
+  lines-found R m c = refl
+
+  lines-other : (x : Outcome) → Numbered x → ((R m c : ℕ) → x ≡ found R m c → ⊥) → lines (said x) ≡ firstLine (said x)
+  unfolding said
+  lines-other (found R m c) h o = absurd (o R m c refl)
+  lines-other (spent k e) h o = append-nil (firstLine (said (spent k e)))
+  lines-other (refused j) h o = ap (λ (b : Bool). firstLine (said (refused j)) ++ (elim b [ true ↦ recordLines list n 0 0 | false ↦ [] ])) (ne-eqb j 0 (λ e. h .not-zero (ap refused e))) ∙ append-nil (firstLine (said (refused j)))
+
+-- an answer that is found
+pub answer-found : (n d : ℕ) (r : ListingAnswer) (x : Outcome) (R m c : ℕ) (list : List ℕ) → d ≡ n → x ≡ found R m c → said x ≡ r .says → list ≡ r .list → firstLine (said x) ++ recordLines list d 0 m ≡ answerLines n r
+unfolding answerLines
+answer-found n d r x R m c list k o e f =
+    ap (λ (i : ℕ). firstLine (said x) ++ recordLines list i 0 m) k
+    ∙ ap (λ (y : Outcome). firstLine (said y) ++ recordLines list n 0 m) o
+    ∙ sym (lines-found n list R m c)
+    ∙ ap (lines n list) (ap said (sym o) ∙ e)
+    ∙ ap (λ (l : List ℕ). lines n l (r .says)) f
+
+-- any other
+pub answer-other : (n : ℕ) (r : ListingAnswer) (x : Outcome) → said x ≡ r .says → Numbered x → ((R m c : ℕ) → x ≡ found R m c → ⊥) → firstLine (said x) ≡ answerLines n r
+unfolding answerLines
+answer-other n r x e h o = sym (lines-other n (r .list) x h o) ∙ ap (lines n (r .list)) e
+
+module _ (input : List ℕ) where
+  abbrev printed : Bool → List ℕ
+  printed b = elim b [ true ↦ firstLine (said (refused 1)) | false ↦ answerLines (ticketOf (wordsOf (readBytes input)) .n) (listingAnswer (wordsOf (readBytes input)) (replicate 8192 0)) ]
+
+  pub program-cut : cutWord (readBytes input) ≡ true → firstLine (said (refused 1)) ≡ programOf input
+  unfolding programOf
+  program-cut e = ap printed (sym e)
+
+  pub program-whole : cutWord (readBytes input) ≡ false → (w : List ℕ) → w ≡ wordsOf (readBytes input) → answerLines (ticketOf w .n) (listingAnswer w (replicate 8192 0)) ≡ programOf input
+  unfolding programOf
+  program-whole e w f = ap (λ (v : List ℕ). answerLines (ticketOf v .n) (listingAnswer v (replicate 8192 0))) f ∙ ap printed (sym e)
+
+pub refused-first : (j : ℕ) → Numbered (refused j) → line (ascii "refused") (j ∷ []) ≡ firstLine (said (refused j))
+refused-first j h = first-refused j (λ e. h .not-zero (ap refused e)) (λ e. h .not-eleven (ap refused e))
