@@ -25,6 +25,13 @@ pub fn read_word() -> u32 {
     word(&bytes)
 }
 
+// 64 bits, the high word first.
+pub fn read_wide() -> u64 {
+    let high = read_word() as u64;
+    let low = read_word() as u64;
+    (high << 32) | low
+}
+
 // A count, cut to the most that there is room for.
 pub fn read_count(most: usize) -> usize
     ensures { λ r. ⌜ r ≤ most ⌝ }
@@ -63,6 +70,36 @@ pub fn same(a: &[u32], b: &[u32]) -> bool {
     let mut i: usize = 0;
     while i < a.len() {
         if a[i] != b[i] {
+            return false;
+        }
+        i += 1;
+    }
+    true
+}
+
+// Whether every place of the list is v.
+pub fn keeps(list: &[u32], v: u32) -> bool {
+    let mut i: usize = 0;
+    while i < list.len() {
+        if list[i] != v {
+            return false;
+        }
+        i += 1;
+    }
+    true
+}
+
+// Whether the part is in the list from the place on.
+pub fn same_part(part: &[u32], list: &[u32], place: usize) -> bool {
+    if list.len() < place {
+        return false;
+    }
+    if list.len() - place < part.len() {
+        return false;
+    }
+    let mut i: usize = 0;
+    while i < part.len() {
+        if part[i] != list[place + i] {
             return false;
         }
         i += 1;
