@@ -1,5 +1,6 @@
 // The public calls. None relies on its caller: every list of words has its answer, and every lent list is said at exit.
 pub mod listing;
+pub mod unit;
 
 ghost use mathlib.Core.Path.{_≡_};
 ghost use lib.ListN.{length};
