@@ -3,8 +3,8 @@ use Prim.Native.Nat.{_-_, _≤_}
 use mathlib.Core.Path.{_≡_}
 use lib.ListN.{length}
 use borrow.Author.Needs.{needs}
-use Rattle.ticket_test.proofs.read_words.Statement.{statement}
-use Rattle.ticket_test.proofs.read_words.Tie as tie
+use Rattle.jobs.proofs.read_words.Statement.{statement}
+use Rattle.jobs.proofs.read_words.Tie as tie
 
 abbrev Inv-loop : tie.InvT-loop
 Inv-loop words₀ i₀ words i = (i ≤ length words₀) × (length words ≡ length words₀)

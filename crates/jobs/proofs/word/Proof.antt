@@ -1,8 +1,8 @@
 -- Each byte fits a word.
 use native.Mathlib.Omega.{arith}
 use borrow.Author.Needs.{needs}
-use Rattle.ticket_test.proofs.word.Statement.{statement}
-use Rattle.ticket_test.proofs.word.Tie as tie
+use Rattle.jobs.proofs.word.Statement.{statement}
+use Rattle.jobs.proofs.word.Tie as tie
 
 shared-slice-read-a : tie.Need-shared-slice-read-a
 shared-slice-read-a c = search needs
