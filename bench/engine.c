@@ -1,15 +1,19 @@
-// The walk by the engine itself, linked from target/staticlib/libengine.a.
+// The walk by the engine itself, linked from target/staticlib/libbench_walk.a: a proved run of the walk's step that does not stop at constants.
 #include <stddef.h>
 #include "common.h"
 
-// PLACE FOR THE ENGINE: its C interface exports this function, a proved run of the walk's step that does not stop at constants.
-// D has lenD = n + 1 coefficients, constant term first. It answers the degree of p_{steps-1}, the sum of deg a_0 .. a_{steps-1}.
-extern uint64_t bench_walk(uint32_t q, uint32_t n, const uint32_t *D, size_t lenD, uint64_t steps);
+// The degree of p_{steps-1}, the sum of deg a_0 .. a_{steps-1}; 0 where the ticket is refused.
+extern uint64_t bench_walk(const uint32_t *ticket, size_t words, uint64_t steps);
 
 int main(int argc, char **argv) {
     arguments(argc, argv);
+    uint32_t ticket[80] = {1u << 28 | q, 2u << 28 | n}, words = 2;
+    for (uint32_t i = 0; i <= n; i++) ticket[words++] = 3u << 28 | D[i];
+    ticket[words++] = 4u << 28;
+    ticket[words] = 15u << 28 | words;
+    words++;
     double start = seconds();
-    uint64_t degree = bench_walk(q, n, D, n + 1, steps);
+    uint64_t degree = bench_walk(ticket, words, steps);
     // it does not count constants
     report((long)degree, -1, seconds() - start);
 }

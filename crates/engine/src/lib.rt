@@ -1,11 +1,18 @@
 // The public calls. None relies on its caller: every list of words has its answer, and every lent list is said at exit.
+pub mod giant_step;
 pub mod listing;
+pub mod product;
+pub mod unit;
 
 ghost use mathlib.Core.Path.{_≡_};
 ghost use lib.ListN.{length};
 ghost use Rattle.definitions.specs.Answers.{said, regulatorOf};
 ghost use Rattle.demands.specs.LeastDegree.{Least};
 ghost use Rattle.run.specs.Outcome.{meaning};
+pub use counters::Distance;
+pub use counters::Index;
+pub use lookup::lookup;
+pub use polynomial::Poly;
 pub use run::Outcome;
 use run::run;
 use ticket::read_ticket;

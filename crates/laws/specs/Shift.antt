@@ -33,7 +33,7 @@ sub-minus a b m e =
     ∙ +ℤ-idl (negℤ (pos m))
 
 -- a − b + c − e for a + c + m = b
-sum-minus : (a b c e m : ℕ) → (a +ₙ c) +ₙ m ≡ b → pos a -ℤ pos b +ℤ pos c -ℤ pos e ≡ negℤ (pos (m +ₙ e))
+pub sum-minus : (a b c e m : ℕ) → (a +ₙ c) +ₙ m ≡ b → pos a -ℤ pos b +ℤ pos c -ℤ pos e ≡ negℤ (pos (m +ₙ e))
 sum-minus a b c e m h =
     ap (λ (k : ℤ). k +ℤ pos c -ℤ pos e) (sub-minus a b (c +ₙ m) (omega arith))
     ∙ ap (λ (k : ℤ). k -ℤ pos e) (+ℤ-comm (negℤ (pos (c +ₙ m))) (pos c) ∙ sub-minus c (c +ₙ m) m refl)

@@ -102,7 +102,7 @@ fn rising(list: &[u32], n: usize) -> bool
 }
 
 // Whether the list is one or more whole records of degree n, from distance 0 on and rising.
-fn listing_ok(list: &[u32], n: u64) -> bool
+pub fn listing_ok(list: &[u32], n: u64) -> bool
     ensures { λ r. ⌜ r ≡ not (wrongListing (now (list .entry)) n) ⌝ }
 {
     if !degree_ok(n) {
@@ -125,7 +125,7 @@ fn listing_ok(list: &[u32], n: u64) -> bool
 }
 
 // Where the last record with distance at most y starts, in words: from the end down, to the first record at 0.
-fn last_within(list: &[u32], n: usize, y: u64) -> usize
+pub fn last_within(list: &[u32], n: usize, y: u64) -> usize
     requires { ⌜ Records (now list) n ⌝ }
     ensures { λ r. ⌜ r ≡ lastWithin (now (list .entry)) n y (recordCount (now (list .entry)) n - 1) * (n + 4) ⌝ }
 {

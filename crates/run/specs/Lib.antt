@@ -7,3 +7,4 @@ pub mod Walked
 pub mod Progress
 pub mod Stride
 pub mod Steps
+pub mod Turn

@@ -18,20 +18,20 @@ read-word-requires c κs = search needs
 loop-holds : tie.Need-loop-holds Inv-loop μ-loop
 loop-holds c = search needs
 
-read-word-requires-2 : tie.Need-read-word-requires-2 Inv-loop μ-loop
-read-word-requires-2 c κs = search needs
+read-count-requires : tie.Need-read-count-requires Inv-loop μ-loop
+read-count-requires c κs = search needs
 
-cast-at-most : tie.Need-cast-at-most Inv-loop μ-loop
-cast-at-most c = search needs
+slice-aggregate-read-first : tie.Need-slice-aggregate-read-first Inv-loop μ-loop
+slice-aggregate-read-first c = search needs
 
-at-most-requires : tie.Need-at-most-requires Inv-loop μ-loop
-at-most-requires c κs = search needs
+read-first-requires : tie.Need-read-first-requires Inv-loop μ-loop
+read-first-requires c κs = search needs
 
-slice-aggregate-job-of : tie.Need-slice-aggregate-job-of Inv-loop μ-loop
-slice-aggregate-job-of c = search needs
+slice-aggregate-show-first : tie.Need-slice-aggregate-show-first Inv-loop μ-loop
+slice-aggregate-show-first c = search needs
 
-job-of-requires : tie.Need-job-of-requires Inv-loop μ-loop
-job-of-requires c κs = search needs
+show-first-requires : tie.Need-show-first-requires Inv-loop μ-loop
+show-first-requires c κs = search needs
 
 add-i : tie.Need-add-i Inv-loop μ-loop
 add-i c = search needs
@@ -53,11 +53,11 @@ main-spec =
     μ-loop
     read-word-requires
     loop-holds
-    read-word-requires-2
-    cast-at-most
-    at-most-requires
-    slice-aggregate-job-of
-    job-of-requires
+    read-count-requires
+    slice-aggregate-read-first
+    read-first-requires
+    slice-aggregate-show-first
+    show-first-requires
     add-i
     loop-less
     loop-again

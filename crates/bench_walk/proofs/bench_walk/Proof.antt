@@ -1,0 +1,27 @@
+-- `bench_walk` meets its contract: what `read_ticket` ensures is what the run asks for.
+use native.Mathlib.Omega.{arith}
+use borrow.Author.Needs.{needs}
+use Rattle.engine.specs.Accepted.{accepted, number-is}
+use Rattle.bench_walk.specs.Steps.{many-steps, refused-steps, accepted-steps}
+use Rattle.bench_walk.proofs.bench_walk.Statement.{statement}
+use Rattle.bench_walk.proofs.bench_walk.Tie as tie
+
+returns : tie.Need-returns
+returns c = many-steps _ _ (c .if1 .taken)
+
+read-ticket-requires : tie.Need-read-ticket-requires
+read-ticket-requires c κs = search needs
+
+returns-2 : tie.Need-returns-2
+returns-2 c = refused-steps _ _ (omega arith) _ (number-is _ (c .before .before .read-ticket .ensures)) (λ e. omega arith)
+
+run-on-requires : tie.Need-run-on-requires
+run-on-requires c κs =
+    let a = accepted _ (c .before .before .read-ticket .ensures) (omega arith) in
+    (a .radicand, (a .held, (let h = a .half in omega arith), omega arith))
+
+returns-3 : tie.Need-returns-3
+returns-3 c = accepted-steps _ _ (omega arith) (accepted _ (c .before .before .before .read-ticket .ensures) (omega arith)) _ (c .run-on .ensures)
+
+pub bench-walk-spec : {M : Type 1} → statement M
+bench-walk-spec = tie.close (tie.spec returns read-ticket-requires returns-2 run-on-requires returns-3)

@@ -1,0 +1,48 @@
+-- The degree that so many steps of a ticket's walk reach.
+use Prim.Native.Nat.{ℕ, zero, suc, _≤_, _<_}
+use native.Mathlib.Omega.{arith}
+use mathlib.Core.Path.{_≡_, refl, sym, ap, _∙_}
+use mathlib.Core.Bool.{Bool, true, false}
+use mathlib.Core.List.{List}
+use lib.Dec.{ltb}
+use borrow.Author.Tests.{lt-ltb, le-ltb}
+use Rattle.definitions.specs.Field.{modulo}
+use Rattle.definitions.specs.Ticket.{Ticket, genus, ticketOf, refusalOf}
+use Rattle.definitions.specs.Walk.{degreeBefore}
+use Rattle.definitions.specs.Answers.{rootOf}
+use Rattle.polynomial.specs.Record.{poly}
+use Rattle.run.specs.State.{rootD}
+use Rattle.engine.specs.Accepted.{Accepted}
+
+unfoldable pub degreeAfter : List ℕ → ℕ → ℕ
+degreeAfter w steps = elim (ltb steps 268435456) [ true ↦ elim (refusalOf w) [ zero ↦ degreeBefore (modulo (ticketOf w .q)) (ticketOf w .D) (rootOf (ticketOf w)) steps | suc k ↦ 0 ] | false ↦ 0 ]
+
+module _ (w : List ℕ) (steps : ℕ) where
+  abbrev after : ℕ → ℕ
+  after r = elim r [ zero ↦ degreeBefore (modulo (ticketOf w .q)) (ticketOf w .D) (rootOf (ticketOf w)) steps | suc k ↦ 0 ]
+
+  abbrev asked : Bool → ℕ
+  asked b = elim b [ true ↦ after (refusalOf w) | false ↦ 0 ]
+
+  pub many-steps : 268435456 ≤ steps → 0 ≡ degreeAfter w steps
+  unfolding degreeAfter
+  many-steps h = sym (ap asked (le-ltb steps 268435456 h))
+
+  few : steps < 268435456 → degreeAfter w steps ≡ after (refusalOf w)
+  unfolding degreeAfter
+  few h = ap asked (lt-ltb steps 268435456 h)
+
+  pub refused-steps : steps < 268435456 → (k : ℕ) → k ≡ refusalOf w → (k ≡ 0 → ⊥) → 0 ≡ degreeAfter w steps
+  refused-steps h k e n = sym (few h ∙ go (refusalOf w) e)
+    where
+      go : (r : ℕ) → k ≡ r → after r ≡ 0
+      go zero z = absurd (n z)
+      go (suc j) z = refl
+
+  pub accepted-steps : steps < 268435456 → {q n : ℕ} {c : List ℕ} {size b : ℕ} → Accepted w q n c size b → (d : ℕ) → d ≡ degreeBefore (modulo q) (poly c size) (rootD q (genus n) (poly c size)) steps → d ≡ degreeAfter w steps
+  unfolding rootOf
+  accepted-steps h a d e = e ∙ ap (λ (t : Ticket). degreeBefore (modulo (t .q)) (t .D) (rootOf t) steps) (sym (a .ticket-is)) ∙ sym (few h ∙ go (refusalOf w) (a .passes))
+    where
+      go : (r : ℕ) → r ≡ 0 → after r ≡ degreeBefore (modulo (ticketOf w .q)) (ticketOf w .D) (rootOf (ticketOf w)) steps
+      go zero z = refl
+      go (suc j) z = absurd (let k : _≡_ {A = ℕ} (suc j) 0 = z in omega arith)

@@ -1,0 +1,33 @@
+-- `foskadoin_unit` meets its contract: the numbers of the engine's outcome, and the lists as the engine leaves them.
+use mathlib.Core.Path.{_∙_}
+use borrow.Author.Needs.{needs}
+use Rattle.foskadoin.specs.Numbers.{plain-same}
+use Rattle.foskadoin.proofs.foskadoin_unit.Statement.{statement}
+use Rattle.foskadoin.proofs.foskadoin_unit.Tie as tie
+
+unit-requires : tie.Need-unit-requires
+unit-requires c κs = search needs
+
+as-numbers-requires : tie.Need-as-numbers-requires
+as-numbers-requires c κs = search needs
+
+same-length : tie.Need-same-length
+same-length c = search needs
+
+same-length-2 : tie.Need-same-length-2
+same-length-2 c = search needs
+
+same-length-3 : tie.Need-same-length-3
+same-length-3 c = search needs
+
+same-length-4 : tie.Need-same-length-4
+same-length-4 c = search needs
+
+returns : tie.Need-returns
+returns c =
+    let e = c .before .before .before .before .before .before .before .before .before .unit .ensures in
+    let n = c .as-numbers .ensures in
+    (n .0 ∙ e .0, (plain-same (e .1 .0) (n .1), e .1 .1 .0))
+
+pub foskadoin-unit-spec : {M : Type 1} → statement M
+foskadoin-unit-spec = tie.close (tie.spec unit-requires as-numbers-requires same-length same-length-2 same-length-3 same-length-4 returns)

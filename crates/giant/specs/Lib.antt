@@ -1,0 +1,6 @@
+pub mod Advance
+pub mod Signed
+pub mod Start
+pub mod Stepped
+pub mod Turn
+pub mod Words

@@ -1,0 +1,26 @@
+// Pairs (Q, P) of polynomials that are ideals: the test of refusal 9, and the product of two of them.
+pub mod multiply;
+pub mod operand;
+
+use polynomial::Poly;
+
+// S with the factors U and W of S = U·Q_1 + V·Q_2 + W·(P_1 + P_2).
+pub struct Multipliers {
+    pub s: Poly,
+    pub u: Poly,
+    pub w: Poly,
+}
+
+// S, and the pair (Q, P).
+pub struct Product {
+    pub s: Poly,
+    pub q: Poly,
+    pub p: Poly,
+}
+
+// A pair (Q, P) that was handed in: whether it is an ideal as refusal 9 asks, and its polynomials, 0 where it is not.
+pub struct Pair {
+    pub ok: bool,
+    pub q: Poly,
+    pub p: Poly,
+}

@@ -1,0 +1,153 @@
+// Calls the static library from C: every stored vector, every lent list to its last place, and what a refusal leaves as it was.
+#include <inttypes.h>
+#include <stdio.h>
+#include <stdlib.h>
+#include <string.h>
+#include "../../include/foskadoin.h"
+
+enum { MOST = 1 << 16, MARK = 0xA5A5A5A5 };
+static uint32_t line[MOST];
+static size_t count, at, jobs, wrong;
+
+static FILE *vectors(const char *folder, const char *name) {
+    char path[4096];
+    snprintf(path, sizeof path, "%s/%s", folder, name);
+    FILE *file = fopen(path, "r");
+    if (!file) perror(path), exit(2);
+    return file;
+}
+
+// The numbers of the next line.
+static int next_line(FILE *file) {
+    count = at = 0;
+    int c;
+    while ((c = getc(file)) != EOF && c != '\n') {
+        if (c == ' ') continue;
+        ungetc(c, file);
+        if (count == MOST || fscanf(file, "%" SCNu32, &line[count++]) != 1) exit(2);
+    }
+    return count > 0;
+}
+
+static uint32_t number(void) {
+    if (at == count) exit(2);
+    return line[at++];
+}
+
+// A list of its own, so that a read or a write outside it is seen; none has a pointer of null.
+static uint32_t *list(size_t length, const uint32_t *from) {
+    uint32_t *l = length ? malloc(length * sizeof *l) : NULL;
+    for (size_t i = 0; i < length; i++) l[i] = from ? from[i] : MARK;
+    return l;
+}
+
+static uint32_t *counted(size_t *length) {
+    *length = number();
+    uint32_t *l = list(*length, line + at);
+    at += *length;
+    return l;
+}
+
+static void expect(int holds, const char *what) {
+    if (!holds && wrong++ < 20) printf("wrong: job %zu: %s\n", jobs, what);
+}
+
+static int marked(const uint32_t *l, size_t from, size_t to) {
+    for (size_t i = from; i < to; i++)
+        if (l[i] != MARK) return 0;
+    return 1;
+}
+
+static int same(struct foskadoin_numbers a, uint64_t words, const uint32_t *four) {
+    return a.words == words && a.number == four[0] && a.first == four[1] && a.second == four[2] && a.third == four[3];
+}
+
+static void regulators(FILE *file) {
+    for (; next_line(file); jobs++) {
+        size_t words;
+        uint32_t *ticket = counted(&words);
+        expect(same(foskadoin_regulator(ticket, words), words, line + at), "regulator");
+        free(ticket);
+    }
+}
+
+// In lists of R + 1 places and 3 more, and with one of the four a place too short.
+static void units(FILE *file) {
+    for (; next_line(file); jobs++) {
+        size_t words;
+        uint32_t *ticket = counted(&words), *four = line + at;
+        size_t R = four[1], places = R + 1;
+        const uint32_t *want[2] = {four + 4, four + 4 + places};
+        for (int shorter = -1; shorter < 4; shorter++) {
+            uint32_t *l[4];
+            size_t length[4];
+            for (int i = 0; i < 4; i++) l[i] = list(length[i] = i == shorter ? R : places + 3, NULL);
+            struct foskadoin_numbers a = foskadoin_unit(ticket, words, l[0], length[0], l[1], length[1], l[2], length[2], l[3], length[3]);
+            if (shorter < 0) {
+                expect(same(a, words, four), "unit");
+                for (int i = 0; i < 2; i++) expect(!memcmp(l[i], want[i], places * 4), "unit's coefficients");
+                for (int i = 2; i < 4; i++)
+                    for (size_t j = 0; j < places; j++) expect(l[i][j] == 0, "work list");
+                for (int i = 0; i < 4; i++) expect(marked(l[i], places, length[i]), "places after the unit");
+            } else {
+                expect(same(a, words, (uint32_t[]){12, 0, 0, 0}), "refusal 12");
+                for (int i = 0; i < 4; i++) expect(marked(l[i], 0, length[i]), "lists after refusal 12");
+            }
+            for (int i = 0; i < 4; i++) free(l[i]);
+        }
+        free(ticket);
+    }
+}
+
+static uint64_t distance(const uint32_t *record) {
+    return (uint64_t)(record[1] & 0xfffffff) << 28 | (record[2] & 0xfffffff);
+}
+
+static int is(struct foskadoin_part part, uint64_t offset, uint64_t length) {
+    return part.offset == offset && part.length == length;
+}
+
+// Every record by its own distance and by the last before the next one.
+static void lookups(const uint32_t *l, size_t length, uint64_t n) {
+    for (size_t o = 0; o < length; o += n + 4) {
+        uint64_t y = distance(l + o), last = o + n + 4 < length ? distance(l + o + n + 4) - 1 : UINT64_MAX;
+        expect(is(foskadoin_lookup(l, length, n, y), o, n + 4), "lookup");
+        expect(is(foskadoin_lookup(l, length, n, last), o, n + 4), "lookup between records");
+    }
+    expect(is(foskadoin_lookup(l, length - 1, n, 0), 0, 0), "lookup in a cut list");
+    expect(is(foskadoin_lookup(l, 0, n, 0), 0, 0), "lookup in no list");
+    expect(is(foskadoin_lookup(l, length, 66, 0), 0, 0), "lookup with n = 66");
+}
+
+static void listings(FILE *file) {
+    for (; next_line(file); jobs++) {
+        size_t words, length;
+        uint32_t *ticket = counted(&words), *four = line + at;
+        at += 4;
+        uint32_t *want = counted(&length);
+        uint32_t *l = list(length + 3, NULL);
+        expect(same(foskadoin_listing(ticket, words, l, length + 3), words, four), "listing");
+        expect(!length || !memcmp(l, want, length * 4), "the records");
+        expect(marked(l, length, length + 3), "words after the records");
+        free(l);
+        if (four[0] == 0) {
+            l = list(length - 1, NULL);
+            expect(same(foskadoin_listing(ticket, words, l, length - 1), words, (uint32_t[]){13, 0, 0, 0}), "refusal 13");
+            expect(marked(l, 0, length - 1), "the list after refusal 13");
+            free(l);
+            lookups(want, length, line[2] & 0xfffffff);
+        }
+        free(want);
+        free(ticket);
+    }
+}
+
+int main(int argc, char **argv) {
+    if (argc != 2) return 2;
+    regulators(vectors(argv[1], "regulators.txt"));
+    units(vectors(argv[1], "units.txt"));
+    listings(vectors(argv[1], "listings.txt"));
+    expect(same(foskadoin_regulator(NULL, 0), 0, (uint32_t[]){1, 0, 0, 0}), "no ticket");
+    printf("C: %zu jobs, %zu wrong\n", jobs, wrong);
+    return wrong != 0;
+}

@@ -1,0 +1,104 @@
+// Calls the static library from Rust: every stored vector.
+use std::fs;
+
+#[repr(C)]
+struct Numbers {
+    words: u64,
+    number: u64,
+    first: u64,
+    second: u64,
+    third: u64,
+}
+
+#[repr(C)]
+struct Part {
+    offset: u64,
+    length: u64,
+}
+
+extern "C" {
+    fn foskadoin_regulator(ticket: *const u32, length: usize) -> Numbers;
+    fn foskadoin_unit(ticket: *const u32, length: usize, p: *mut u32, pn: usize, s: *mut u32, sn: usize, x: *mut u32, xn: usize, y: *mut u32, yn: usize) -> Numbers;
+    fn foskadoin_listing(ticket: *const u32, length: usize, out: *mut u32, n: usize) -> Numbers;
+    fn foskadoin_lookup(list: *const u32, length: usize, n: u64, y: u64) -> Part;
+}
+
+// What a safe caller writes around the calls: slices do not overlap and carry their lengths.
+fn regulator(ticket: &[u32]) -> Numbers {
+    unsafe { foskadoin_regulator(ticket.as_ptr(), ticket.len()) }
+}
+
+fn unit(ticket: &[u32], l: &mut [Vec<u32>; 4]) -> Numbers {
+    let [p, s, x, y] = l;
+    unsafe { foskadoin_unit(ticket.as_ptr(), ticket.len(), p.as_mut_ptr(), p.len(), s.as_mut_ptr(), s.len(), x.as_mut_ptr(), x.len(), y.as_mut_ptr(), y.len()) }
+}
+
+fn listing(ticket: &[u32], out: &mut [u32]) -> Numbers {
+    unsafe { foskadoin_listing(ticket.as_ptr(), ticket.len(), out.as_mut_ptr(), out.len()) }
+}
+
+fn lookup(list: &[u32], n: u64, y: u64) -> &[u32] {
+    let part = unsafe { foskadoin_lookup(list.as_ptr(), list.len(), n, y) };
+    &list[part.offset as usize..][..part.length as usize]
+}
+
+// A line's numbers after each other.
+struct Line(Vec<u32>, usize);
+
+impl Line {
+    fn take(&mut self, n: usize) -> Vec<u32> {
+        self.1 += n;
+        self.0[self.1 - n..self.1].to_vec()
+    }
+
+    fn counted(&mut self) -> Vec<u32> {
+        let n = self.take(1)[0];
+        self.take(n as usize)
+    }
+}
+
+fn lines(folder: &str, name: &str) -> Vec<Line> {
+    let text = fs::read_to_string(format!("{folder}/{name}")).expect(name);
+    text.lines().map(|l| Line(l.split(' ').map(|w| w.parse().unwrap()).collect(), 0)).collect()
+}
+
+fn says(a: &Numbers, ticket: &[u32], four: &[u32]) {
+    assert_eq!(a.words, ticket.len() as u64);
+    assert_eq!([a.number, a.first, a.second, a.third], [four[0] as u64, four[1] as u64, four[2] as u64, four[3] as u64]);
+}
+
+fn main() {
+    let folder = std::env::args().nth(1).expect("the folder of the vectors");
+    let mut jobs = 0;
+    for mut line in lines(&folder, "regulators.txt") {
+        let ticket = line.counted();
+        says(&regulator(&ticket), &ticket, &line.take(4));
+        jobs += 1;
+    }
+    for mut line in lines(&folder, "units.txt") {
+        let (ticket, four) = (line.counted(), line.take(4));
+        let places = four[1] as usize + 1;
+        let mut l = [9, 9, 9, 9].map(|mark| vec![mark; places + 1]);
+        says(&unit(&ticket, &mut l), &ticket, &four);
+        let want = [line.take(places), line.take(places), vec![0; places], vec![0; places]].map(|w| [w, vec![9]].concat());
+        assert_eq!(l, want);
+        jobs += 1;
+    }
+    for mut line in lines(&folder, "listings.txt") {
+        let (ticket, four, want) = (line.counted(), line.take(4), line.counted());
+        let mut out = vec![9; want.len() + 1];
+        says(&listing(&ticket, &mut out), &ticket, &four);
+        assert_eq!(out, [want.clone(), vec![9]].concat());
+        if four[0] == 0 {
+            let n = (ticket[1] % (1 << 28)) as u64;
+            for record in want.chunks(n as usize + 4) {
+                let y = (record[1] as u64 % (1 << 28)) << 28 | record[2] as u64 % (1 << 28);
+                assert_eq!(lookup(&want, n, y).as_ptr(), record.as_ptr());
+                assert_eq!(lookup(&want, n, y), record);
+            }
+            assert!(lookup(&out, n, 0).is_empty());
+        }
+        jobs += 1;
+    }
+    println!("Rust: {jobs} jobs, 0 wrong");
+}
