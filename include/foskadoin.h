@@ -20,6 +20,8 @@
      6  the coefficient of x^n is not 1
      7  the square of some polynomial of degree 1 or more divides D
      8  not a listing (foskadoin_lookup)
+     9  a pair has the wrong number of coefficients or is not an ideal (foskadoin_product, foskadoin_giant_step)
+    10  a distance is above 2^40 (foskadoin_giant_step)
     12  a list of the unit is shorter than R + 1 places (foskadoin_unit)
     13  the list is shorter than m * (n + 4) words (foskadoin_listing)
    11 (regulator, unit, listing), after 1 to 7 and before 12 and 13: spent, the quasi-period m is above b. */
@@ -67,6 +69,29 @@ struct foskadoin_numbers foskadoin_listing(const uint32_t *ticket, size_t ticket
    first m * (n + 4) words. Refusal 8 is the part of no words at the start, 0 and 0: n is odd, below 2 or above 64, or the words are not one or more
    whole records of their kinds, or the first distance is not 0, or the distances do not strictly rise. */
 struct foskadoin_part foskadoin_lookup(const uint32_t *list, size_t list_length, uint64_t n, uint64_t y);
+
+/* The answers of the two calls below. number: 0 or the refusal. A size is the degree + 1, 0 for the zero polynomial. */
+struct foskadoin_product_numbers {
+    uint64_t words, number, s_size, q_size, p_size;
+};
+
+struct foskadoin_giant_step_numbers {
+    uint64_t words, number, q_size, p_size;
+    int64_t f, distance;
+};
+
+/* The product of two ideals (q1, p1) and (q2, p2): lists of n/2 and n/2 - 1 coefficients, from the constant term on. Refusals 1 to 7 and 9; the
+   ticket's budget has no effect. s, q and p are arrays of 129 numbers, and every number of them is written: the coefficients of S, Q and P from the
+   constant term on, zeros above; zeros in all three after a refusal. */
+struct foskadoin_product_numbers foskadoin_product(const uint32_t *ticket, size_t ticket_length, const uint32_t *q1, size_t q1_length, const uint32_t *p1,
+                                                   size_t p1_length, const uint32_t *q2, size_t q2_length, const uint32_t *p2, size_t p2_length,
+                                                   uint32_t *s, uint32_t *q, uint32_t *p);
+
+/* The giant step of two ideals with the distances d1 and d2. Refusals 1 to 7, 9 and 10; the ticket's budget has no effect. q and p are arrays of
+   129 numbers, and every number of them is written, as above. f is 0 or below, distance = d1 + d2 + f may be below 0; after a refusal both are 0. */
+struct foskadoin_giant_step_numbers foskadoin_giant_step(const uint32_t *ticket, size_t ticket_length, const uint32_t *q1, size_t q1_length,
+                                                         const uint32_t *p1, size_t p1_length, uint64_t d1, const uint32_t *q2, size_t q2_length,
+                                                         const uint32_t *p2, size_t p2_length, uint64_t d2, uint32_t *q, uint32_t *p);
 
 #ifdef __cplusplus
 }

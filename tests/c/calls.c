@@ -142,11 +142,49 @@ static void listings(FILE *file) {
     }
 }
 
+// A polynomial in an array of 129 numbers, zeros above its degree.
+static void polynomial(const uint32_t *l, uint64_t size, const char *what) {
+    size_t length;
+    uint32_t *want = counted(&length);
+    expect(size == length && (!length || !memcmp(l, want, length * 4)), what);
+    for (size_t i = length; i < 129; i++) expect(l[i] == 0, what);
+    free(want);
+}
+
+static uint64_t wide(void) {
+    uint64_t high = number();
+    return high << 32 | number();
+}
+
+static void products(FILE *file) {
+    for (; next_line(file); jobs++) {
+        size_t words, nq[2], np[2];
+        uint32_t *ticket = counted(&words), *q[2], *p[2];
+        uint64_t d[2];
+        for (int i = 0; i < 2; i++) q[i] = counted(&nq[i]), p[i] = counted(&np[i]), d[i] = wide();
+        uint32_t *S = list(129, NULL), *Q = list(129, NULL), *P = list(129, NULL);
+        struct foskadoin_product_numbers a = foskadoin_product(ticket, words, q[0], nq[0], p[0], np[0], q[1], nq[1], p[1], np[1], S, Q, P);
+        expect(a.words == words && a.number == number(), "product");
+        polynomial(S, a.s_size, "S"), polynomial(Q, a.q_size, "Q"), polynomial(P, a.p_size, "P");
+        memset(Q, 0xA5, 129 * 4), memset(P, 0xA5, 129 * 4);
+        struct foskadoin_giant_step_numbers b = foskadoin_giant_step(ticket, words, q[0], nq[0], p[0], np[0], d[0], q[1], nq[1], p[1], np[1], d[1], Q, P);
+        expect(b.words == words && b.number == number(), "giant step");
+        polynomial(Q, b.q_size, "Q of the giant step"), polynomial(P, b.p_size, "P of the giant step");
+        expect(b.f == -(int64_t)number(), "f");
+        int negative = number();
+        int64_t distance = (int64_t)wide();
+        expect(b.distance == (negative ? -distance : distance), "distance");
+        for (int i = 0; i < 2; i++) free(q[i]), free(p[i]);
+        free(S), free(Q), free(P), free(ticket);
+    }
+}
+
 int main(int argc, char **argv) {
     if (argc != 2) return 2;
     regulators(vectors(argv[1], "regulators.txt"));
     units(vectors(argv[1], "units.txt"));
     listings(vectors(argv[1], "listings.txt"));
+    products(vectors(argv[1], "products.txt"));
     expect(same(foskadoin_regulator(NULL, 0), 0, (uint32_t[]){1, 0, 0, 0}), "no ticket");
     printf("C: %zu jobs, %zu wrong\n", jobs, wrong);
     return wrong != 0;

@@ -16,7 +16,28 @@ struct Part {
     length: u64,
 }
 
+#[repr(C)]
+struct ProductNumbers {
+    words: u64,
+    number: u64,
+    s_size: u64,
+    q_size: u64,
+    p_size: u64,
+}
+
+#[repr(C)]
+struct GiantStepNumbers {
+    words: u64,
+    number: u64,
+    q_size: u64,
+    p_size: u64,
+    f: i64,
+    distance: i64,
+}
+
 extern "C" {
+    fn foskadoin_product(ticket: *const u32, length: usize, q1: *const u32, q1n: usize, p1: *const u32, p1n: usize, q2: *const u32, q2n: usize, p2: *const u32, p2n: usize, s: &mut [u32; 129], q: &mut [u32; 129], p: &mut [u32; 129]) -> ProductNumbers;
+    fn foskadoin_giant_step(ticket: *const u32, length: usize, q1: *const u32, q1n: usize, p1: *const u32, p1n: usize, d1: u64, q2: *const u32, q2n: usize, p2: *const u32, p2n: usize, d2: u64, q: &mut [u32; 129], p: &mut [u32; 129]) -> GiantStepNumbers;
     fn foskadoin_regulator(ticket: *const u32, length: usize) -> Numbers;
     fn foskadoin_unit(ticket: *const u32, length: usize, p: *mut u32, pn: usize, s: *mut u32, sn: usize, x: *mut u32, xn: usize, y: *mut u32, yn: usize) -> Numbers;
     fn foskadoin_listing(ticket: *const u32, length: usize, out: *mut u32, n: usize) -> Numbers;
@@ -54,6 +75,19 @@ impl Line {
     fn counted(&mut self) -> Vec<u32> {
         let n = self.take(1)[0];
         self.take(n as usize)
+    }
+
+    fn wide(&mut self) -> u64 {
+        let l = self.take(2);
+        (l[0] as u64) << 32 | l[1] as u64
+    }
+
+    // The next counted polynomial stands in the array, with zeros above its degree.
+    fn polynomial(&mut self, places: &[u32; 129], size: u64) {
+        let want = self.counted();
+        assert_eq!(size, want.len() as u64);
+        assert_eq!(places[..want.len()], want);
+        assert!(places[want.len()..].iter().all(|c| *c == 0));
     }
 }
 
@@ -98,6 +132,24 @@ fn main() {
             }
             assert!(lookup(&out, n, 0).is_empty());
         }
+        jobs += 1;
+    }
+    for mut line in lines(&folder, "products.txt") {
+        let t = line.counted();
+        let (q1, p1, d1, q2, p2, d2) = (line.counted(), line.counted(), line.wide(), line.counted(), line.counted(), line.wide());
+        let (mut s, mut q, mut p) = ([9; 129], [9; 129], [9; 129]);
+        let a = unsafe { foskadoin_product(t.as_ptr(), t.len(), q1.as_ptr(), q1.len(), p1.as_ptr(), p1.len(), q2.as_ptr(), q2.len(), p2.as_ptr(), p2.len(), &mut s, &mut q, &mut p) };
+        assert_eq!([a.words, a.number], [t.len() as u64, line.take(1)[0] as u64]);
+        line.polynomial(&s, a.s_size);
+        line.polynomial(&q, a.q_size);
+        line.polynomial(&p, a.p_size);
+        let b = unsafe { foskadoin_giant_step(t.as_ptr(), t.len(), q1.as_ptr(), q1.len(), p1.as_ptr(), p1.len(), d1, q2.as_ptr(), q2.len(), p2.as_ptr(), p2.len(), d2, &mut q, &mut p) };
+        assert_eq!([b.words, b.number], [t.len() as u64, line.take(1)[0] as u64]);
+        line.polynomial(&q, b.q_size);
+        line.polynomial(&p, b.p_size);
+        assert_eq!(b.f, -(line.take(1)[0] as i64));
+        let sign = if line.take(1)[0] == 1 { -1 } else { 1 };
+        assert_eq!(b.distance, sign * line.wide() as i64);
         jobs += 1;
     }
     println!("Rust: {jobs} jobs, 0 wrong");

@@ -1,4 +1,6 @@
 // The calls for C and Rust: lists are a pointer and a length, answers are plain numbers. None relies on its caller.
+pub mod pairs;
+
 ghost use mathlib.Core.Path.{_≡_};
 ghost use lib.ListN.{length};
 ghost use Rattle.definitions.specs.Answers.{said, regulatorOf};

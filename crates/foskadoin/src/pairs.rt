@@ -1,0 +1,97 @@
+// The calls `product` and `giant_step`: their polynomials go into lent arrays of 129 numbers, with their sizes in the answer.
+ghost use mathlib.Core.Path.{_≡_};
+ghost use lib.ListN.{length};
+ghost use Rattle.definitions.specs.Ticket.{ticketOf};
+ghost use Rattle.definitions.specs.Products.{productAnswer, giantAnswer};
+ghost use Rattle.engine.specs.Products.{ProductSays, GiantSays, pairOf};
+use counters::Distance;
+use engine::giant_step::giant_step;
+use engine::product::product;
+
+// The number of words handed in, the number of a refusal or 0, and the sizes of S (divisor), Q (first) and P (second): the degree + 1, or 0 for the zero polynomial.
+#[repr(C)]
+pub struct ProductNumbers {
+    pub words: u64,
+    pub number: u64,
+    pub divisor: u64,
+    pub first: u64,
+    pub second: u64,
+}
+
+// The number of words handed in, the number of a refusal or 0, the sizes of Q (first) and P (second), f and the distance.
+#[repr(C)]
+pub struct GiantStepNumbers {
+    pub words: u64,
+    pub number: u64,
+    pub first: u64,
+    pub second: u64,
+    pub f: i64,
+    pub distance: i64,
+}
+
+// The product of two ideals.
+#[no_mangle]
+pub extern "C" fn foskadoin_product(
+    ticket: &[u32],
+    q1: &[u32],
+    p1: &[u32],
+    q2: &[u32],
+    p2: &[u32],
+    s: &mut [u32; 129],
+    q: &mut [u32; 129],
+    p: &mut [u32; 129],
+) -> ProductNumbers
+    ensures words { λ r. ⌜ r .words ≡ length (now (ticket .entry)) ⌝ }
+    ensures says { λ r. ⌜ ProductSays (ticketOf (now (ticket .entry)) .q) (productAnswer (now (ticket .entry)) (pairOf (now (q1 .entry)) (now (p1 .entry))) (pairOf (now (q2 .entry)) (now (p2 .entry)))) (r .number) (now (s .exit)) (r .divisor) (now (q .exit)) (r .first) (now (p .exit)) (r .second) ⌝ }
+{
+    let a = product(ticket, q1, p1, q2, p2);
+    let x = a.s;
+    let y = a.q;
+    let z = a.p;
+    let places_s = x.c;
+    *s = places_s;
+    let places_q = y.c;
+    *q = places_q;
+    let places_p = z.c;
+    *p = places_p;
+    ProductNumbers {
+        words: a.words,
+        number: a.number as u64,
+        divisor: x.size as u64,
+        first: y.size as u64,
+        second: z.size as u64,
+    }
+}
+
+// The giant step of two ideals with their distances.
+#[no_mangle]
+pub extern "C" fn foskadoin_giant_step(
+    ticket: &[u32],
+    q1: &[u32],
+    p1: &[u32],
+    d1: u64,
+    q2: &[u32],
+    p2: &[u32],
+    d2: u64,
+    q: &mut [u32; 129],
+    p: &mut [u32; 129],
+) -> GiantStepNumbers
+    ensures words { λ r. ⌜ r .words ≡ length (now (ticket .entry)) ⌝ }
+    ensures says { λ r. ⌜ GiantSays (ticketOf (now (ticket .entry)) .q) (giantAnswer (now (ticket .entry)) (pairOf (now (q1 .entry)) (now (p1 .entry))) d1 (pairOf (now (q2 .entry)) (now (p2 .entry))) d2) (r .number) (now (q .exit)) (r .first) (now (p .exit)) (r .second) (r .f) (r .distance) ⌝ }
+{
+    let a = giant_step(ticket, q1, p1, Distance(d1), q2, p2, Distance(d2));
+    let y = a.q;
+    let z = a.p;
+    let places_q = y.c;
+    *q = places_q;
+    let places_p = z.c;
+    *p = places_p;
+    GiantStepNumbers {
+        words: a.words,
+        number: a.number as u64,
+        first: y.size as u64,
+        second: z.size as u64,
+        f: a.f,
+        distance: a.distance,
+    }
+}
