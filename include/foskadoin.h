@@ -5,8 +5,8 @@
    - The lists of one call must not overlap, where the call writes one of them. A call keeps no pointer after it returns.
    - Any words and any lengths have their answer: no call relies on its caller for more than the two lines above. No call allocates memory,
      keeps a state or calls another library, so calls may run at the same time in several threads.
-   - A call needs at most FOSKADOIN_STACK bytes of stack. That is measured with the stored vectors (n up to 64), not proved: most of it is the
-     greatest common divisor of D and its derivative, which has a level for each division, at most n of them.
+   - A call needs at most FOSKADOIN_STACK bytes of stack. That is measured with the stored vectors (n up to 64), not proved: the
+     greatest common divisor of D and its derivative is recursive, with a level for each division, at most n of them.
 
    A ticket is n + 5 words, a kind times 2^28 plus a value: 1|q, 2|n, then 3|c for each coefficient of D from the constant term on, 4|b with the budget b,
    15|n + 4.

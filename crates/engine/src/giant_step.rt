@@ -11,7 +11,7 @@ ghost use Rattle.polynomial.specs.Record.{poly, Held, Is};
 ghost use Rattle.ideal.specs.Operand.{Operand};
 ghost use Rattle.run.specs.Outcome.{ticket};
 ghost use Rattle.engine.specs.Products.{GiantSays, pairOf, heldPair, giantNear};
-use crate::product::both;
+use crate::pairs::both;
 use counters::Distance;
 use giant::root::root_of;
 use giant::step::giant;

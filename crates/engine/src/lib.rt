@@ -1,6 +1,7 @@
 // The public calls. None relies on its caller: every list of words has its answer, and every lent list is said at exit.
 pub mod giant_step;
 pub mod listing;
+mod pairs;
 pub mod product;
 pub mod unit;
 

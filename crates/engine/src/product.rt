@@ -1,6 +1,5 @@
 // The call `product`: two pairs of any words, tested, then multiplied.
 ghost use mathlib.Core.Path.{_≡_};
-ghost use mathlib.Core.Bool.{_&&_};
 ghost use mathlib.Core.List.{[]};
 ghost use Prim.Native.Nat.{ℕ};
 ghost use lib.ListN.{length};
@@ -8,6 +7,7 @@ ghost use Rattle.definitions.specs.Ticket.{ticketOf};
 ghost use Rattle.definitions.specs.Products.{productAnswer};
 ghost use Rattle.polynomial.specs.Record.{Is};
 ghost use Rattle.engine.specs.Products.{ProductSays, pairOf};
+use crate::pairs::both;
 use ideal::operand::pair;
 use polynomial::Poly;
 use polynomial::linear::zero;
@@ -35,13 +35,6 @@ fn refused(words: u64, number: u32) -> ProductAnswer
         q: z,
         p: z,
     }
-}
-
-// Both.
-pub fn both(a: bool, b: bool) -> bool
-    ensures { λ r. ⌜ r ≡ (a && b) ⌝ }
-{
-    if a { b } else { false }
 }
 
 // The product of two ideals for a ticket of any words and any length; the pairs are lists of any words and any length. The ticket's budget has no effect.
