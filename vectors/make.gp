@@ -320,6 +320,20 @@ products() =
     \\ powers
     L = someideal(D, q, 1); go(L, L); I2 = times(D, L, L); if (poldegree(I2[2]) <= g, go(I2[2 .. 3], L))));
   badpairs();
+  deepest(4093, 31); deepest(3, 31);
+};
+
+\\ Two ideals of degree g with coprime Q and quotients of degree 1 all through Euclid's algorithm: g + 1 divisions, the most that a product takes.
+\\ D is found from them: P^2 modulo Q and U^2 modulo T.
+deepest(q, g) =
+{
+  my(f = poly([], q), h = poly([1], q), Q, T, P, U, D);
+  for (i = 1, g, [f, h] = [h, poly([random(q), 1 + random(q - 1)], q) * h + f]);
+  T = monic(h); Q = monic(h + f);
+  until (nosquare(numbers(D), q),
+    P = poly(chance(g, q), q); U = poly(chance(g, q), q);
+    D = lift(chinese(Mod(P^2, Q), Mod(U^2, T))) + Q * T * poly(concat(chance(2, q), [1]), q));
+  combine(ticket(q, numbers(D), 0), pair([Q, P], g), 2^40, pair([T, U], g), 1);
 };
 
 \\ Refusals of pairs and distances, beside what is allowed.

@@ -152,5 +152,6 @@ fn main() {
         assert_eq!(b.distance, sign * line.wide() as i64);
         jobs += 1;
     }
+    assert_eq!(jobs, 1767);
     println!("Rust: {jobs} jobs, 0 wrong");
 }
