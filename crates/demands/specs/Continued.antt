@@ -4,7 +4,7 @@
 use Prim.Native.Nat.{ℕ, zero, suc, _+_, _-_, _%_, _≤_, _<_}
 use native.Mathlib.Nat.{mod-eq-of-lt}
 use native.Mathlib.Omega.{arith}
-use mathlib.Core.Path.{_≡_, refl, sym, ap, _∙_, subst}
+use mathlib.Core.Path.{_≡_, refl, sym, ap, ap₂, _∙_, subst}
 use mathlib.Core.Logic.{_≢_}
 use mathlib.Core.List.{List, [], _∷_}
 use mathlib.Core.Option.{Option, none, some}
@@ -12,7 +12,8 @@ use lib.ListN.{length, getD}
 use Rattle.algebra.specs.Field.{Field}
 use Rattle.algebra.specs.Polynomial.{F, Px, low-path}
 use Rattle.algebra.specs.Root.{IsRoot, root-unique}
-use Rattle.ring.specs.Series.{addS, negS, conv}
+use Rattle.ring.specs.Identity.{ring-from, times, quote}
+use Rattle.ring.specs.Series.{Series, addS, negS, conv}
 use Rattle.ring.specs.Residues.{Fq}
 use Rattle.definitions.specs.Field.{modulo}
 use Rattle.definitions.specs.Polynomials.{size, deg, add, sub, mul, root}
@@ -21,14 +22,13 @@ use Rattle.definitions.specs.Walk.{quasiPeriod, degreeBefore, constantOf}
 use Rattle.definitions.specs.Walk as walk
 use Rattle.definitions.specs.Answers.{Outcome, found, spent, refused, opsOf, rootOf, outcomeOf, wordsOutcome}
 use Rattle.bridge.specs.Model.{Model, series}
-use Rattle.bridge.specs.Trim.{below-size, size-le, size-is}
-use Rattle.bridge.specs.Arithmetic.{series-sub, series-mul}
+use Rattle.bridge.specs.Trim.{below-size, size-le, size-is, size-series}
+use Rattle.bridge.specs.Arithmetic.{series-add, series-sub, series-mul}
 use Rattle.bridge.specs.Residues.{pos, model, field, to-path, to-val}
 use Rattle.bridge.specs.Degree.{monic-size, deg-is}
-use Rattle.bridge.specs.Root as roots
-use Rattle.laws.specs.Surd.{Surd, Q-zero, Q-trim, a-trim}
-use Rattle.laws.specs.Fraction.{Q-some, Q-length}
-use Rattle.laws.specs.Walk.{a-length}
+use Rattle.laws.specs.Surd.{Surd, Q-zero, Q-trim, a-trim, r-trim, r as remainder}
+use Rattle.laws.specs.Fraction.{Q-some, Q-length, divide}
+use Rattle.laws.specs.Walk.{a-length, r-length}
 use Rattle.laws.specs.Convergents.{degree-zero, degree-suc}
 use Rattle.laws.specs.Signs.{signed, normOf}
 use Rattle.laws.specs.Norms as norms
@@ -75,14 +75,15 @@ module _ (q : ℕ) (D d : List ℕ) where
   abbrev s : ℕ → List ℕ
   s = walk.sBefore (modulo q) D d
 
-  -- at every index i: `product` is Q_i·Q_{i+1} = D − P_{i+1}², `sum` is P_{i+1} + P_i = a_i·Q_i, `norm` is p_{i−1}² − D·s_{i−1}² = (−1)^i·Q_i,
-  -- `determinant` is p_i·s_{i−1} − p_{i−1}·s_i = (−1)^{i+1}, and `degree` is deg p_i = (g + 1) + deg a_1 + .. + deg a_i
+  -- at every index i: `product` is Q_i·Q_{i+1} = D − P_{i+1}², `sum` is P_{i+1} + P_i = a_i·Q_i, `quotient` is deg((P_i + d) − a_i·Q_i) < deg Q_i, so that a_i is the quotient
+  -- of P_i + d by Q_i, `norm` is p_{i−1}² − D·s_{i−1}² = (−1)^i·Q_i, `determinant` is p_i·s_{i−1} − p_{i−1}·s_i = (−1)^{i+1}, and `degree` is deg p_i = (g + 1) + deg a_1 + .. + deg a_i
   pub record Continued (g : ℕ) : Type 0 where
     pub root : RootOf q g D d
     pub root-only : (f : List ℕ) → RootOf q g D f → Same q f d
     pub Q-not-zero : (i : ℕ) → size (modulo q) (Q i) ≢ 0
     pub product : (i : ℕ) → Q i ⊗ Q (suc i) ≡ D ⊖ P (suc i) ⊗ P (suc i)
     pub sum : (i : ℕ) → P (suc i) ⊕ P i ≡ a i ⊗ Q i
+    pub quotient : (i : ℕ) → size (modulo q) (P i ⊕ d ⊖ a i ⊗ Q i) < size (modulo q) (Q i)
     pub norm : (i : ℕ) → p i ⊗ p i ⊖ D ⊗ (s i ⊗ s i) ≡ signed (modulo q) i (Q i)
     pub determinant : (i : ℕ) → p (suc i) ⊗ s i ⊖ p i ⊗ s (suc i) ≡ signed (modulo q) (suc i) (1 ∷ [])
     pub degree : (i : ℕ) → deg (modulo q) (p (suc i)) ≡ suc g + sumTo (λ j. deg (modulo q) (a j)) i
@@ -155,6 +156,22 @@ module _ {q g : ℕ} {D : List ℕ} (h : Admitted q g D) where
   size-Q : (i : ℕ) → size (modulo q) (walk.Q (modulo q) D d i) ≡ length (walk.Q (modulo q) D d i)
   size-Q i = size-is M _ ∙ ap length (Q-trim z i)
 
+  -- what a_i leaves of P_i + d is the remainder
+  rest : ℕ → List ℕ
+  rest i = sub (modulo q) (add (modulo q) (walk.P (modulo q) D d i) d) (mul (modulo q) (walk.a (modulo q) D d i) (walk.Q (modulo q) D d i))
+
+  rest-series : (i : ℕ) → series M (rest i) ≡ series M (remainder z i)
+  unfolding rest
+  rest-series i =
+      let P : List ℕ = walk.P (modulo q) D d i in
+      let a : List ℕ = walk.a (modulo q) D d i in
+      let Q : List ℕ = walk.Q (modulo q) D d i in
+      series-sub M (add (modulo q) P d) (mul (modulo q) a Q) ∙ ap₂ (λ (u v : Px K). addS (F K) u (negS (F K) v)) (series-add M P d) (series-mul M a Q)
+      ∙ ring-from (Series (F K)) (series M P ∷ series M d ∷ series M a ∷ series M Q ∷ series M (remainder z i) ∷ []) (times (Series (F K)) (Series (F K) .one) (divide z i)) (search quote depth 40 fits 9999) tt
+
+  rest-less : (i : ℕ) → size (modulo q) (rest i) < size (modulo q) (walk.Q (modulo q) D d i)
+  rest-less i = let e = size-series M (rest i) (remainder z i) (rest-series i) in let k = size-is M (rest i) in let t = ap length (r-trim z i) in let l = r-length z i in let u = size-Q i in omega arith
+
   degrees : (i : ℕ) → degreeBefore (modulo q) D d (suc i) ≡ suc g + sumTo (λ j. deg (modulo q) (walk.a (modulo q) D d j)) i
   unfolding sumTo
   degrees zero = let e = degree-suc z 0 in let k = degree-zero z in let l : length (walk.Q (modulo q) D d 0) ≡ 1 = ap length (Q-zero z) in omega arith
@@ -169,13 +186,14 @@ module _ {q g : ℕ} {D : List ℕ} (h : Admitted q g D) where
       omega arith
 
   continued : Continued q D d g
-  unfolding normOf degreeBefore
+  unfolding normOf degreeBefore rest
   continued = record {
     root = root-of;
     root-only = only;
     Q-not-zero = λ i e. let k = Q-some z i in let l = size-Q i in omega arith;
     product = norms.Q-product z;
     sum = norms.P-product z;
+    quotient = rest-less;
     norm = norms.norm-is z;
     determinant = λ i. norms.determinant-is z i ∙ ap (λ (c : ℕ). signed (modulo q) (suc i) (c ∷ [])) one-is;
     degree = degrees;

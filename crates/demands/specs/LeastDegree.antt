@@ -15,7 +15,6 @@ use Rattle.ring.specs.Residues.{Fq, to, val-path}
 use Rattle.algebra.specs.Field.{Field}
 use Rattle.algebra.specs.Polynomial.{F, Px}
 use Rattle.surd.specs.Units.{Scaled}
-use Rattle.surd.specs.Convergents as convergents
 use Rattle.definitions.specs.Field.{modulo}
 use Rattle.definitions.specs.Polynomials.{size, deg, sub, mul, scale, root}
 use Rattle.definitions.specs.Ticket.{Ticket, genus, ticketOf, refusalOf}

@@ -4,6 +4,7 @@ pub mod Readings
 pub mod Squares
 pub mod FirstRefusal
 pub mod LeastDegree
+pub mod Arithmetic
 pub mod Continued
 pub mod Products
 pub mod Example

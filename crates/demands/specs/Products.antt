@@ -6,7 +6,7 @@ use native.Mathlib.Omega.{arith}
 use mathlib.Core.Path.{_≡_, refl, sym, ap, ap₂, _∙_, subst}
 use mathlib.Core.Bool.{Bool, true, false}
 use mathlib.Core.List.{List, []}
-use lib.IntN.{ℤ, pos as posℤ, negℤ, _+ℤ_}
+use lib.IntN.{pos as posℤ, negℤ, _+ℤ_}
 use lib.Signed.{_≤ℤ_}
 use Rattle.algebra.specs.Field.{Field}
 use Rattle.algebra.specs.Polynomial.{F, Monic}
@@ -37,6 +37,7 @@ use Rattle.laws.specs.Product as product
 use Rattle.laws.specs.Reduction.{next-divides, stated, Q-size, a-size, turns-first}
 use Rattle.laws.specs.Reduced.{reduced-ideal}
 use Rattle.laws.specs.Shift.{turns-few, shift-not-positive, shift-least}
+use Rattle.demands.specs.Arithmetic.{Divides, rem-divides}
 
 module _ (q : ℕ) where
   infixl 6 _⊕_ _⊖_
@@ -50,10 +51,6 @@ module _ (q : ℕ) where
   abbrev _⊗_ : List ℕ → List ℕ → List ℕ
   f ⊗ h = mul (modulo q) f h
 
-  -- f divides h
-  abbrev pub Divides : List ℕ → List ℕ → Type 0
-  Divides f h = rem (modulo q) h f ≡ []
-
   -- S = U·Q_1 + V·Q_2 + W·(P_1 + P_2)
   abbrev pub Combines : Ideal ℕ → Ideal ℕ → List ℕ → List ℕ → List ℕ → List ℕ → Type 0
   Combines x y S u v w = S ≡ u ⊗ x .q ⊕ v ⊗ y .q ⊕ w ⊗ (x .p ⊕ y .p)
@@ -66,13 +63,13 @@ module _ (q : ℕ) where
   pub record IsPair (D Q P : List ℕ) : Type 0 where
     pub monic : lead (modulo q) Q ≡ 1
     pub less : size (modulo q) P < size (modulo q) Q
-    pub divides : Divides Q (D ⊖ P ⊗ P)
+    pub divides : Divides q Q (D ⊖ P ⊗ P)
 
   pub record IsProduct (g : ℕ) (D : List ℕ) (x y : Ideal ℕ) (S Q P : List ℕ) : Type 0 where
     pub S-monic : lead (modulo q) S ≡ 1
-    pub S-first : Divides S (x .q)
-    pub S-second : Divides S (y .q)
-    pub S-sum : Divides S (x .p ⊕ y .p)
+    pub S-first : Divides q S (x .q)
+    pub S-second : Divides q S (y .q)
+    pub S-sum : Divides q S (x .p ⊕ y .p)
     pub S-combines : (u : List ℕ) × (v : List ℕ) × (w : List ℕ) × Combines x y S u v w
     pub Q-square : Q ⊗ (S ⊗ S) ≡ x .q ⊗ y .q
     pub Q-most : deg (modulo q) Q ≤ g + g
@@ -88,7 +85,7 @@ module _ (q : ℕ) where
     P j = steps (modulo q) D d s j .p
 
     pub record ReducesAt (k : ℕ) : Type 0 where
-      pub exact : (j : ℕ) → Divides (Q j) (D ⊖ P (suc j) ⊗ P (suc j))
+      pub exact : (j : ℕ) → Divides q (Q j) (D ⊖ P (suc j) ⊗ P (suc j))
       pub not-zero : (j : ℕ) → 0 < size (modulo q) (Q j)
       pub partial-deg : (j : ℕ) → 0 < deg (modulo q) (partial (modulo q) D d (steps (modulo q) D d s (suc j)))
       pub reduced : deg (modulo q) (Q k) ≤ g
@@ -141,6 +138,9 @@ module _ {q g : ℕ} {D : List ℕ} (h : Admitted q g D) {x y : Ideal ℕ} (px :
   abbrev hy : IsIdeal K M D y
   hy = pair-ideal h py
 
+  exact : (l f : List ℕ) → rem (modulo q) l f ≡ [] → Divides q f l
+  exact = rem-divides q (h .prime) (h .odd)
+
   -- the leading coefficient of a monic list
   lead-is-one : (l : List ℕ) {n : ℕ} → Oks M l → Monic K (series M l) n → lead (modulo q) l ≡ 1
   lead-is-one l {n} k m = M .inj (lead (modulo q) l) 1 (subst (λ (a : ℕ). a < q) (sym (lead-is M l)) (k _)) (let e = h .odd in omega arith) (ap (M .φ) (lead-is M l) ∙ ap (series M l) (let e = monic-size K M l m in omega arith) ∙ m .top)
@@ -149,7 +149,7 @@ module _ {q g : ℕ} {D : List ℕ} (h : Admitted q g D) {x y : Ideal ℕ} (px :
   is-pair {s} k i = record {
     monic = lead-is-one (s .q) k (i .monic);
     less = let a = monic-size K M (s .q) (i .monic) in let b = size-le M (s .p) (i .κ) (i .low) in let c = size-is M (s .q) in let e = size-is M (s .p) in omega arith;
-    divides = i .divides;
+    divides = exact _ (s .q) (i .divides);
   }
 
   gives : (u v w : List ℕ) → Combines q x y (commonOf (modulo q) x y) u v w → Gives K M I D x y u v w
@@ -174,9 +174,9 @@ module _ {q g : ℕ} {D : List ℕ} (h : Admitted q g D) {x y : Ideal ℕ} (px :
   is-product : IsProduct q g D x y S Q₀ P₀
   is-product = record {
     S-monic = lead-is-one S (oks-gcd M I _ _) (common K M I D hx hy .monic);
-    S-first = S-divides K M I D hx hy .0;
-    S-second = S-divides K M I D hx hy .1;
-    S-sum = S-divides K M I D hx hy .2;
+    S-first = exact (x .q) S (S-divides K M I D hx hy .0);
+    S-second = exact (y .q) S (S-divides K M I D hx hy .1);
+    S-sum = exact _ S (S-divides K M I D hx hy .2);
     S-combines = (bezoutU (modulo q) x y, bezoutV (modulo q) x y, bezoutW (modulo q) x y, combines _ _ _ (bezout-gives K M I D x y));
     Q-square = Q-product K M I D hx hy;
     Q-most = let e = product.Q-size K M I D hx hy in let e′ = deg-is K M Q₀ in let a = pair-degree h px in let b = pair-degree h py in omega arith;
@@ -191,7 +191,7 @@ module _ {q g : ℕ} {D : List ℕ} (h : Admitted q g D) {x y : Ideal ℕ} (px :
   reduces-at : ReducesAt q g D d (r .ideal) (turnsOf (modulo q) D d g (r .ideal))
   unfolding steps
   reduces-at = record {
-    exact = λ j. next-divides z (steps (modulo q) D d (r .ideal) j) (stated z (r .ideal) st j .state);
+    exact = λ j. exact _ (steps (modulo q) D d (r .ideal) j .q) (next-divides z (steps (modulo q) D d (r .ideal) j) (stated z (r .ideal) st j .state));
     not-zero = λ j. let e = Q-size z (r .ideal) st j in let e′ = size-is M (steps (modulo q) D d (r .ideal) j .q) in omega arith;
     partial-deg = λ j. let e = a-size z (r .ideal) st j in let e′ = deg-is K M (partial (modulo q) D d (steps (modulo q) D d (r .ideal) (suc j))) in omega arith;
     reduced = turns-first z (r .ideal) st .0;

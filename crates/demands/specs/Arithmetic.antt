@@ -1,0 +1,82 @@
+-- "Div and mod are division with remainder": for every allowed q and all lists, a = quo·b + rem with a remainder of lower degree than b, and 1/a is the inverse of a.
+-- What it is to divide is said with a factor, not with a remainder; both say the same. Polynomials are lists of any numbers and any length, read modulo q.
+use Prim.Native.Nat.{ℕ, _*_, _%_, _<_}
+use native.Mathlib.Nat.{eq-zero-or-pos}
+use native.Mathlib.Omega.{arith}
+use mathlib.Core.Path.{_≡_, sym, ap, _∙_, fun-ext}
+use mathlib.Core.Logic.{_≢_, ⊎-elim}
+use mathlib.Core.List.{List, [], _∷_}
+use lib.ListN.{length}
+use Rattle.ring.specs.Residues.{Fq}
+use Rattle.ring.specs.Identity.{ring, quote}
+use Rattle.ring.specs.Series.{Series, addS, conv}
+use Rattle.algebra.specs.Field.{Field}
+use Rattle.algebra.specs.Polynomial.{F, Px}
+use Rattle.definitions.specs.Field.{modulo, inverse}
+use Rattle.definitions.specs.Polynomials.{size, add, mul, quo, rem}
+use Rattle.bridge.specs.Model.{Model, series, series-nil}
+use Rattle.bridge.specs.Trim.{below-length, size-is}
+use Rattle.bridge.specs.Arithmetic.{series-add, series-mul}
+use Rattle.bridge.specs.Division.{series-quo-rem, rem-less, trim-rem}
+use Rattle.bridge.specs.Euclid.{divides-rem-none}
+use Rattle.bridge.specs.Prime.{Prime, odd-prime-more}
+use Rattle.bridge.specs.Residues.{pos, model, field, inverts, inverse-mul, to-path, to-val}
+use Rattle.demands.specs.Sentences.{AllowedPrime}
+use Rattle.demands.specs.Readings.{prime-allowed}
+use Rattle.demands.specs.LeastDegree.{Same}
+
+-- f divides h: f·e = h for some e
+abbrev pub Divides : ℕ → List ℕ → List ℕ → Type 0
+Divides q f h = (e : List ℕ) × Same q h (mul (modulo q) f e)
+
+-- a = quo·b + rem, and deg rem < deg b
+pub record Divided (q : ℕ) (a b : List ℕ) : Type 0 where
+  pub is : Same q a (add (modulo q) (mul (modulo q) (quo (modulo q) a b) b) (rem (modulo q) a b))
+  pub less : size (modulo q) (rem (modulo q) a b) < size (modulo q) b
+
+abbrev pub Division : Type 0
+Division = (q : ℕ) → AllowedPrime q → (a b : List ℕ) → size (modulo q) b ≢ 0 → Divided q a b
+
+abbrev pub Inverse : Type 0
+Inverse = (q : ℕ) → AllowedPrime q → (a : ℕ) → a % q ≢ 0 → (inverse q a * a) % q ≡ 1
+
+-- ---- the proof
+module _ (q : ℕ) (p : Prime q) (more : 2 < q) where
+  abbrev K : Field (Fq q)
+  K = field q p more
+
+  abbrev M : Model (modulo q) (F K)
+  M = model q (pos q p)
+
+  series-same : (f h : List ℕ) → series M f ≡ series M h → Same q f h
+  series-same f h e i = to-val q (pos q p) _ _ (ap (λ (u : Px K). u i) e)
+
+  same-series : (f h : List ℕ) → Same q f h → series M f ≡ series M h
+  same-series f h e = fun-ext (λ i. to-path q (pos q p) _ _ (e i))
+
+  -- a factor where nothing remains, and back
+  pub rem-divides : (h f : List ℕ) → rem (modulo q) h f ≡ [] → Divides q f h
+  rem-divides h f e =
+      let c : List ℕ = quo (modulo q) h f in
+      (c, series-same h (mul (modulo q) f c) (series-quo-rem M h f ∙ ap (addS (F K) (conv (F K) (series M c) (series M f))) (ap (series M) e ∙ series-nil M) ∙ ring (Series (F K)) (series M c ∷ series M f ∷ []) (search quote depth 40 fits 9999) tt ∙ sym (series-mul M f c)))
+
+  pub divides-rem : (h f : List ℕ) → Divides q f h → rem (modulo q) h f ≡ []
+  divides-rem h f (e, s) = divides-rem-none K M (inverts q (pos q p) p) h f (record { by = series M e; size = length e; low = below-length M e; is = same-series h (mul (modulo q) f e) s ∙ series-mul M f e })
+
+  divided : (a b : List ℕ) → size (modulo q) b ≢ 0 → Divided q a b
+  divided a b some = record {
+    is = series-same a (add (modulo q) (mul (modulo q) c b) r) (series-quo-rem M a b ∙ sym (series-add M (mul (modulo q) c b) r ∙ ap (λ (u : Px K). addS (F K) u (series M r)) (series-mul M c b)));
+    less = let e = size-is M b in let k = rem-less M (inverts q (pos q p) p) a b (omega arith) in let l = size-is M r in let t = ap length (trim-rem M a b) in omega arith;
+  }
+    where
+      c : List ℕ
+      c = quo (modulo q) a b
+
+      r : List ℕ
+      r = rem (modulo q) a b
+
+pub division : Division
+division q r a b some = let o = prime-allowed q .1 r in divided q (o .prime) (odd-prime-more q o) a b some
+
+pub inverse-is : Inverse
+inverse-is q r a some = let p = prime-allowed q .1 r .prime in inverse-mul q (pos q p) p a (⊎-elim (λ e. absurd (some e)) (λ l. l) (eq-zero-or-pos (a % q)))
