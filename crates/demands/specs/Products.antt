@@ -6,7 +6,7 @@ use native.Mathlib.Omega.{arith}
 use mathlib.Core.Path.{_≡_, refl, sym, ap, ap₂, _∙_, subst}
 use mathlib.Core.Bool.{Bool, true, false}
 use mathlib.Core.List.{List, []}
-use lib.IntN.{pos as posℤ, negℤ, _+ℤ_}
+use lib.IntN.{pos as posℤ, negℤ, _+ℤ_, _-ℤ_}
 use lib.Signed.{_≤ℤ_}
 use Rattle.algebra.specs.Field.{Field}
 use Rattle.algebra.specs.Polynomial.{F, Monic}
@@ -19,7 +19,7 @@ use Rattle.definitions.specs.Ticket.{Ticket, genus, ticketOf, refusalOf}
 use Rattle.definitions.specs.Walk.{Ideal, partial, steps}
 use Rattle.definitions.specs.Answers.{opsOf, rootOf}
 use Rattle.definitions.specs.Listing.{idealOf}
-use Rattle.definitions.specs.Products.{Product, productOf, turnsOf, ProductAnswer, GiantStepAnswer, wrongPair, wrongDistance, productDone, giantDone, productRefused, giantRefused, productAnswer, giantAnswer}
+use Rattle.definitions.specs.Products.{Product, productOf, turnsOf, degreeSum, shiftOf, ProductAnswer, GiantStepAnswer, wrongPair, wrongDistance, productDone, giantDone, productRefused, giantRefused, productAnswer, giantAnswer}
 use Rattle.bridge.specs.Model.{Model, Inverts, Oks, series}
 use Rattle.bridge.specs.Trim.{size-is, size-le, lead-is, series-ext}
 use Rattle.bridge.specs.Arithmetic.{series-add, series-mul, trim-add, oks-add}
@@ -38,6 +38,7 @@ use Rattle.laws.specs.Reduction.{next-divides, stated, Q-size, a-size, turns-fi
 use Rattle.laws.specs.Reduced.{reduced-ideal}
 use Rattle.laws.specs.Shift.{turns-few, shift-not-positive, shift-least}
 use Rattle.demands.specs.Arithmetic.{Divides, rem-divides}
+use Rattle.demands.specs.Continued.{sumTo}
 
 module _ (q : ℕ) where
   infixl 6 _⊕_ _⊖_
@@ -96,14 +97,15 @@ pub record Multiplies (t : Ticket) (x y : Ideal ℕ) (r : ProductAnswer) : Type 
   pub number : r .number ≡ 0
   pub is : IsProduct (t .q) (genus (t .n)) (t .D) x y (r .s) (r .q) (r .p)
 
--- with the distances d and e; s is the product's pair
-pub record Steps (t : Ticket) (x : Ideal ℕ) (d : ℕ) (y : Ideal ℕ) (e : ℕ) (s : Ideal ℕ) (r : GiantStepAnswer) : Type 0 where
+-- with the distances d and e; S and the pair s are the product's; `f-is` is f = deg Q_k − deg Q + (deg a_1 + .. + deg a_k) − deg S
+pub record Steps (t : Ticket) (x : Ideal ℕ) (d : ℕ) (y : Ideal ℕ) (e : ℕ) (S : List ℕ) (s : Ideal ℕ) (r : GiantStepAnswer) : Type 0 where
   pub number : r .number ≡ 0
   pub k : ℕ
   pub reduces : ReducesAt (t .q) (genus (t .n)) (t .D) (rootOf t) s k
   pub Q-is : r .q ≡ monic (opsOf t) (steps (opsOf t) (t .D) (rootOf t) s k .q)
   pub P-is : r .p ≡ rem (opsOf t) (steps (opsOf t) (t .D) (rootOf t) s k .p) (r .q)
   pub ideal : IsPair (t .q) (t .D) (r .q) (r .p)
+  pub f-is : r .f ≡ posℤ (deg (opsOf t) (steps (opsOf t) (t .D) (rootOf t) s k .q)) -ℤ posℤ (deg (opsOf t) (s .q)) +ℤ posℤ (sumTo (λ j. deg (opsOf t) (partial (opsOf t) (t .D) (rootOf t) (steps (opsOf t) (t .D) (rootOf t) s j))) k) -ℤ posℤ (deg (opsOf t) S)
   pub f-most : r .f ≤ℤ posℤ 0
   pub f-least : negℤ (posℤ (genus (t .n) + genus (t .n))) ≤ℤ r .f
   pub distance : r .distance ≡ posℤ (d + e) +ℤ r .f
@@ -113,7 +115,7 @@ T2Products = (w : List ℕ) → refusalOf w ≡ 0 → (x y : Ideal ℕ) → wron
 
 abbrev pub T2GiantSteps : Type 0
 T2GiantSteps = (w : List ℕ) → refusalOf w ≡ 0 → (x y : Ideal ℕ) → wrongPair (ticketOf w) x y ≡ false → (d e : ℕ) → wrongDistance d e ≡ false
-    → Steps (ticketOf w) x d y e (record { q = productAnswer w x y .q; p = productAnswer w x y .p }) (giantAnswer w x d y e)
+    → Steps (ticketOf w) x d y e (productAnswer w x y .s) (record { q = productAnswer w x y .q; p = productAnswer w x y .p }) (giantAnswer w x d y e)
 
 -- ---- the proof, for a D that is admitted and two pairs that pass
 module _ {q g : ℕ} {D : List ℕ} (h : Admitted q g D) {x y : Ideal ℕ} (px : Passes q g D x) (py : Passes q g D y) where
@@ -212,8 +214,13 @@ module _ (t : Ticket) (h : Admitted (t .q) (genus (t .n)) (t .D)) {x y : Ideal �
   unfolding productDone
   multiplies = record { number = refl; is = subst (λ (p : Product ℕ). IsProduct (t .q) (genus (t .n)) (t .D) x y (p .s) (p .ideal .q) (p .ideal .p)) (sym of-lists) (is-product h px py) }
 
-  steps-are : (d e : ℕ) → Steps t x d y e (productOf (opsOf t) (t .D) x y .ideal) (giantDone t x d y e)
-  unfolding giantDone idealOf rootOf
+  sum-is : (s : Ideal ℕ) (k : ℕ) → degreeSum (opsOf t) (t .D) (rootOf t) (genus (t .n)) s k ≡ sumTo (λ j. deg (opsOf t) (partial (opsOf t) (t .D) (rootOf t) (steps (opsOf t) (t .D) (rootOf t) s j))) k
+  unfolding degreeSum sumTo
+  sum-is s zero = refl
+  sum-is s (suc k) = ap (λ (n : ℕ). n + deg (opsOf t) (partial (opsOf t) (t .D) (rootOf t) (steps (opsOf t) (t .D) (rootOf t) s (suc k)))) (sum-is s k)
+
+  steps-are : (d e : ℕ) → Steps t x d y e (productOf (opsOf t) (t .D) x y .s) (productOf (opsOf t) (t .D) x y .ideal) (giantDone t x d y e)
+  unfolding giantDone idealOf rootOf shiftOf
   steps-are d e = record {
     number = refl;
     k = turnsOf (opsOf t) (t .D) (rootOf t) (genus (t .n)) (productOf (opsOf t) (t .D) x y .ideal);
@@ -221,6 +228,7 @@ module _ (t : Ticket) (h : Admitted (t .q) (genus (t .n)) (t .D)) {x y : Ideal �
     Q-is = refl;
     P-is = refl;
     ideal = subst (λ (p : Product ℕ). let i = idealOf (opsOf t) (steps (opsOf t) (t .D) (rootOf t) (p .ideal) (turnsOf (opsOf t) (t .D) (rootOf t) (genus (t .n)) (p .ideal))) in IsPair (t .q) (t .D) (i .q) (i .p)) (sym of-lists) (answer-pair h px py (turnsOf (opsOf t) (t .D) (rootOf t) (genus (t .n)) (r h px py .ideal)));
+    f-is = ap (λ (n : ℕ). posℤ (deg (opsOf t) (steps (opsOf t) (t .D) (rootOf t) (productOf (opsOf t) (t .D) x y .ideal) (turnsOf (opsOf t) (t .D) (rootOf t) (genus (t .n)) (productOf (opsOf t) (t .D) x y .ideal)) .q)) -ℤ posℤ (deg (opsOf t) (productOf (opsOf t) (t .D) x y .ideal .q)) +ℤ posℤ n -ℤ posℤ (deg (opsOf t) (productOf (opsOf t) (t .D) x y .s))) (sum-is (productOf (opsOf t) (t .D) x y .ideal) _);
     f-most = shift-not-positive (surd-of h) (pair-ideal h px) (pair-ideal h py) (pair-degree h px) (pair-degree h py);
     f-least = shift-least (surd-of h) (pair-ideal h px) (pair-ideal h py) (pair-degree h px) (pair-degree h py);
     distance = refl;
@@ -250,5 +258,5 @@ pub t2-giant-steps : T2GiantSteps
 unfolding productDone
 t2-giant-steps w k x y k′ d e k″ =
     let p = pairs-pass (ticketOf w) x y k′ in
-    subst (Steps (ticketOf w) x d y e (record { q = productAnswer w x y .q; p = productAnswer w x y .p })) (sym (giant-done w x y d e k k′ k″))
-    (subst (λ (a : ProductAnswer). Steps (ticketOf w) x d y e (record { q = a .q; p = a .p }) (giantDone (ticketOf w) x d y e)) (sym (product-done w x y k k′)) (steps-are (ticketOf w) (admitted w k) (pair-passes (ticketOf w) x (p .0)) (pair-passes (ticketOf w) y (p .1)) d e))
+    subst (Steps (ticketOf w) x d y e (productAnswer w x y .s) (record { q = productAnswer w x y .q; p = productAnswer w x y .p })) (sym (giant-done w x y d e k k′ k″))
+    (subst (λ (a : ProductAnswer). Steps (ticketOf w) x d y e (a .s) (record { q = a .q; p = a .p }) (giantDone (ticketOf w) x d y e)) (sym (product-done w x y k k′)) (steps-are (ticketOf w) (admitted w k) (pair-passes (ticketOf w) x (p .0)) (pair-passes (ticketOf w) y (p .1)) d e))
