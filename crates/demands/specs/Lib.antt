@@ -6,6 +6,7 @@ pub mod FirstRefusal
 pub mod LeastDegree
 pub mod Arithmetic
 pub mod Continued
+pub mod Pairs
 pub mod Products
 pub mod Example
 pub mod Written

@@ -1,10 +1,10 @@
--- T2, the part on products: for a ticket past its refusals and two pairs past refusal 9, S is the greatest common divisor, Q·S² is Q_1·Q_2, P is document 01's for ANY U, V, W
+-- T2, the part on products: for a ticket past its refusals and two pairs as document 01 describes them, S is the greatest common divisor, Q·S² is Q_1·Q_2, P is document 01's for ANY U, V, W
 -- with S = U·Q_1 + V·Q_2 + W·(P_1 + P_2), and Q divides D − P². The giant step's reduction divides exactly, ends at the first reduced index, and −2g ≤ f ≤ 0.
 -- Polynomials are lists of coefficients, read modulo q. The proof reads the product of ideals over the field of q elements off as equations of lists.
 use Prim.Native.Nat.{ℕ, zero, suc, _+_, _≤_, _<_}
 use native.Mathlib.Omega.{arith}
 use mathlib.Core.Path.{_≡_, refl, sym, ap, ap₂, _∙_, subst}
-use mathlib.Core.Bool.{Bool, true, false}
+use mathlib.Core.Bool.{false}
 use mathlib.Core.List.{List, []}
 use lib.IntN.{pos as posℤ, negℤ, _+ℤ_, _-ℤ_}
 use lib.Signed.{_≤ℤ_}
@@ -19,7 +19,7 @@ use Rattle.definitions.specs.Ticket.{Ticket, genus, ticketOf, refusalOf}
 use Rattle.definitions.specs.Walk.{Ideal, partial, steps}
 use Rattle.definitions.specs.Answers.{opsOf, rootOf}
 use Rattle.definitions.specs.Listing.{idealOf}
-use Rattle.definitions.specs.Products.{Product, productOf, turnsOf, degreeSum, shiftOf, ProductAnswer, GiantStepAnswer, wrongPair, wrongDistance, productDone, giantDone, productRefused, giantRefused, productAnswer, giantAnswer}
+use Rattle.definitions.specs.Products.{Product, productOf, turnsOf, degreeSum, shiftOf, ProductAnswer, GiantStepAnswer, productDone, giantDone, productAnswer, giantAnswer}
 use Rattle.bridge.specs.Model.{Model, Inverts, Oks, series}
 use Rattle.bridge.specs.Trim.{size-is, size-le, lead-is, series-ext}
 use Rattle.bridge.specs.Arithmetic.{series-add, series-mul, trim-add, oks-add}
@@ -38,7 +38,9 @@ use Rattle.laws.specs.Reduction.{next-divides, stated, Q-size, a-size, turns-fi
 use Rattle.laws.specs.Reduced.{reduced-ideal}
 use Rattle.laws.specs.Shift.{turns-few, shift-not-positive, shift-least}
 use Rattle.demands.specs.Arithmetic.{Divides, rem-divides}
+use Rattle.demands.specs.Tests.{tests-none}
 use Rattle.demands.specs.Continued.{sumTo}
+use Rattle.demands.specs.Pairs.{IsPair, GivenPair, WrongDistance, pairs-passed, tests-distances, product-by, giant-by}
 
 module _ (q : ℕ) where
   infixl 6 _⊕_ _⊖_
@@ -60,12 +62,6 @@ module _ (q : ℕ) where
   abbrev pub paperP : List ℕ → Ideal ℕ → Ideal ℕ → List ℕ → List ℕ → List ℕ → List ℕ → List ℕ
   paperP D x y S Q u w = rem (modulo q) (x .p ⊕ quo (modulo q) (x .q) S ⊗ (u ⊗ (y .p ⊖ x .p) ⊕ w ⊗ quo (modulo q) (D ⊖ x .p ⊗ x .p) (x .q))) Q
 
-  -- Q is monic, deg P < deg Q, and Q divides D − P²
-  pub record IsPair (D Q P : List ℕ) : Type 0 where
-    pub monic : lead (modulo q) Q ≡ 1
-    pub less : size (modulo q) P < size (modulo q) Q
-    pub divides : Divides q Q (D ⊖ P ⊗ P)
-
   pub record IsProduct (g : ℕ) (D : List ℕ) (x y : Ideal ℕ) (S Q P : List ℕ) : Type 0 where
     pub S-monic : lead (modulo q) S ≡ 1
     pub S-first : Divides q S (x .q)
@@ -75,7 +71,7 @@ module _ (q : ℕ) where
     pub Q-square : Q ⊗ (S ⊗ S) ≡ x .q ⊗ y .q
     pub Q-most : deg (modulo q) Q ≤ g + g
     pub P-any : (u v w : List ℕ) → Combines x y S u v w → P ≡ paperP D x y S Q u w
-    pub ideal : IsPair D Q P
+    pub ideal : IsPair q D Q P
 
   -- the steps from (Q, P), of which the k-th is the first that is reduced
   module _ (g : ℕ) (D d : List ℕ) (s : Ideal ℕ) where
@@ -111,10 +107,10 @@ pub record Steps (t : Ticket) (x : Ideal ℕ) (d : ℕ) (y : Ideal ℕ) (e : ℕ
   pub distance : r .distance ≡ posℤ (d + e) +ℤ r .f
 
 abbrev pub T2Products : Type 0
-T2Products = (w : List ℕ) → refusalOf w ≡ 0 → (x y : Ideal ℕ) → wrongPair (ticketOf w) x y ≡ false → Multiplies (ticketOf w) x y (productAnswer w x y)
+T2Products = (w : List ℕ) → refusalOf w ≡ 0 → (x y : Ideal ℕ) → GivenPair (ticketOf w) x → GivenPair (ticketOf w) y → Multiplies (ticketOf w) x y (productAnswer w x y)
 
 abbrev pub T2GiantSteps : Type 0
-T2GiantSteps = (w : List ℕ) → refusalOf w ≡ 0 → (x y : Ideal ℕ) → wrongPair (ticketOf w) x y ≡ false → (d e : ℕ) → wrongDistance d e ≡ false
+T2GiantSteps = (w : List ℕ) → refusalOf w ≡ 0 → (x y : Ideal ℕ) → GivenPair (ticketOf w) x → GivenPair (ticketOf w) y → (d e : ℕ) → ¬ WrongDistance d e
     → Steps (ticketOf w) x d y e (productAnswer w x y .s) (record { q = productAnswer w x y .q; p = productAnswer w x y .p }) (giantAnswer w x d y e)
 
 -- ---- the proof, for a D that is admitted and two pairs that pass
@@ -234,29 +230,18 @@ module _ (t : Ticket) (h : Admitted (t .q) (genus (t .n)) (t .D)) {x y : Ideal �
     distance = refl;
   }
 
--- ---- past the refusals the calls answer so
-product-done : (w : List ℕ) (x y : Ideal ℕ) → refusalOf w ≡ 0 → wrongPair (ticketOf w) x y ≡ false → productAnswer w x y ≡ productDone (ticketOf w) x y
-unfolding productAnswer
-product-done w x y e e′ =
-    ap (λ (k : ℕ). elim k [ zero ↦ elim (wrongPair (ticketOf w) x y) [ true ↦ productRefused 9 | false ↦ productDone (ticketOf w) x y ] | suc k ↦ productRefused (suc k) ]) e
-    ∙ ap (λ (b : Bool). elim b [ true ↦ productRefused 9 | false ↦ productDone (ticketOf w) x y ]) e′
-
-giant-done : (w : List ℕ) (x y : Ideal ℕ) (d e : ℕ) → refusalOf w ≡ 0 → wrongPair (ticketOf w) x y ≡ false → wrongDistance d e ≡ false → giantAnswer w x d y e ≡ giantDone (ticketOf w) x d y e
-unfolding giantAnswer
-giant-done w x y d e h h′ h″ =
-    ap (λ (k : ℕ). elim k [ zero ↦ elim (wrongPair (ticketOf w) x y) [ true ↦ giantRefused 9 | false ↦ distances (wrongDistance d e) ] | suc k ↦ giantRefused (suc k) ]) h
-    ∙ ap (λ (b : Bool). elim b [ true ↦ giantRefused 9 | false ↦ distances (wrongDistance d e) ]) h′
-    ∙ ap distances h″
-  where
-    distances : Bool → GiantStepAnswer
-    distances b = elim b [ true ↦ giantRefused 10 | false ↦ giantDone (ticketOf w) x d y e ]
-
 pub t2-products : T2Products
-t2-products w e x y e′ = let p = pairs-pass (ticketOf w) x y e′ in subst (Multiplies (ticketOf w) x y) (sym (product-done w x y e e′)) (multiplies (ticketOf w) (admitted w e) (pair-passes (ticketOf w) x (p .0)) (pair-passes (ticketOf w) y (p .1)))
+t2-products w k x y px py =
+    let h = admitted w k in
+    let n = pairs-passed (ticketOf w) h x y px py in
+    let p = pairs-pass (ticketOf w) x y n in
+    subst (Multiplies (ticketOf w) x y) (sym (product-by w x y 0 false k n)) (multiplies (ticketOf w) h (pair-passes (ticketOf w) x (p .0)) (pair-passes (ticketOf w) y (p .1)))
 
 pub t2-giant-steps : T2GiantSteps
 unfolding productDone
-t2-giant-steps w k x y k′ d e k″ =
-    let p = pairs-pass (ticketOf w) x y k′ in
-    subst (Steps (ticketOf w) x d y e (productAnswer w x y .s) (record { q = productAnswer w x y .q; p = productAnswer w x y .p })) (sym (giant-done w x y d e k k′ k″))
-    (subst (λ (a : ProductAnswer). Steps (ticketOf w) x d y e (a .s) (record { q = a .q; p = a .p }) (giantDone (ticketOf w) x d y e)) (sym (product-done w x y k k′)) (steps-are (ticketOf w) (admitted w k) (pair-passes (ticketOf w) x (p .0)) (pair-passes (ticketOf w) y (p .1)) d e))
+t2-giant-steps w k x y px py d e far =
+    let h = admitted w k in
+    let n = pairs-passed (ticketOf w) h x y px py in
+    let p = pairs-pass (ticketOf w) x y n in
+    subst (Steps (ticketOf w) x d y e (productAnswer w x y .s) (record { q = productAnswer w x y .q; p = productAnswer w x y .p })) (sym (giant-by w x y d e 0 false false k n (tests-none (tests-distances d e) far)))
+    (subst (λ (a : ProductAnswer). Steps (ticketOf w) x d y e (a .s) (record { q = a .q; p = a .p }) (giantDone (ticketOf w) x d y e)) (sym (product-by w x y 0 false k n)) (steps-are (ticketOf w) h (pair-passes (ticketOf w) x (p .0)) (pair-passes (ticketOf w) y (p .1)) d e))

@@ -28,10 +28,19 @@ pub tests-not : {b : Bool} {P : Type 0} → Tests b P → Tests (not b) (¬ P)
 tests-not {b = true} t = (λ e. absurd (false≢true e), λ h. absurd (h (t .0 refl)))
 tests-not {b = false} t = (λ e p. absurd (false≢true (t .1 p)), λ h. refl)
 
+-- what does not hold tests false
+pub tests-none : {b : Bool} {P : Type 0} → Tests b P → ¬ P → b ≡ false
+tests-none {b = true} t h = absurd (h (t .0 refl))
+tests-none {b = false} t h = refl
+
 -- what is tested and not false is true
 pub tests-stable : {b : Bool} {P : Type 0} → Tests b P → ¬ ¬ P → P
 tests-stable {b = true} t h = t .0 refl
 tests-stable {b = false} t h = absurd (h (λ p. absurd (false≢true (t .1 p))))
+
+pub tests-either : {a b : Bool} {P Q : Type 0} → Tests a P → Tests b Q → Tests (a || b) (P ⊎ Q)
+tests-either {a = true} s t = (λ e. inl (s .0 refl), λ h. refl)
+tests-either {a = false} s t = (λ e. inr (t .0 e), ⊎-elim (λ p. absurd (false≢true (s .1 p))) (t .1))
 
 -- the second test may count on the first being false
 pub tests-or : {a b c : Bool} {P Q R : Type 0} → Tests a P → (¬ P → Tests b Q) → Tests c R → Tests (a || b || c) (P ⊎ Q ⊎ R)
