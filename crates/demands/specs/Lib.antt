@@ -6,7 +6,9 @@ pub mod FirstRefusal
 pub mod LeastDegree
 pub mod Arithmetic
 pub mod Continued
+pub mod Records
 pub mod Pairs
+pub mod Listings
 pub mod Products
 pub mod Example
 pub mod Written

@@ -2,22 +2,27 @@
 -- where none applies. The sentences have no test in them; "dividing" is said with a factor.
 use Prim.Native.Nat.{ℕ, zero, suc, _<_}
 use native.Mathlib.Omega.{arith}
-use mathlib.Core.Path.{_≡_, refl, sym, ap, ap₂, _∙_}
+use mathlib.Core.Path.{_≡_, refl, sym, ap, ap₂, _∙_, subst}
 use mathlib.Core.Logic.{_≢_, _⊎_, ⊎-elim}
 use mathlib.Core.Bool.{Bool, true, false, not, _&&_}
-use mathlib.Core.List.{List}
+use mathlib.Core.List.{List, []}
 use lib.ListN.{length, getD}
 use borrow.Author.Tests.{eq-eqb, lt-ltb}
-use Rattle.ring.specs.Residues.{FqRing}
+use Rattle.ring.specs.Residues.{Fq}
+use Rattle.algebra.specs.Field.{Field}
+use Rattle.algebra.specs.Polynomial.{F, Monic}
 use Rattle.definitions.specs.Field.{modulo}
-use Rattle.definitions.specs.Polynomials.{trim, size, lead, sub, mul}
+use Rattle.definitions.specs.Polynomials.{trim, size, lead, sub, mul, rem}
 use Rattle.definitions.specs.Words.{someFrom}
 use Rattle.definitions.specs.Ticket.{Ticket, genus, ticketOf, refusalOf}
 use Rattle.definitions.specs.Walk.{Ideal}
 use Rattle.definitions.specs.Products.{ProductAnswer, GiantStepAnswer, isPair, wrongPair, wrongDistance, productDone, giantDone, productRefused, giantRefused, productAnswer, giantAnswer}
-use Rattle.bridge.specs.Model.{Model}
-use Rattle.bridge.specs.Residues.{pos, model}
+use Rattle.bridge.specs.Model.{Model, Oks, series}
+use Rattle.bridge.specs.Trim.{size-is, size-le, lead-is}
+use Rattle.bridge.specs.Degree.{monic-size}
+use Rattle.bridge.specs.Residues.{pos, model, field}
 use Rattle.laws.specs.Admitted.{Admitted, admitted}
+use Rattle.laws.specs.Pairs.{IsIdeal}
 use Rattle.laws.specs.PairTest.{Passes, pair-passes, pair-q-below, pair-p-below, pair-ideal}
 use Rattle.demands.specs.Tests.{Tests, tests-lt, tests-not, tests-either, tests-none, tests-some}
 use Rattle.demands.specs.Arithmetic.{Divides, rem-divides, divides-rem}
@@ -55,6 +60,28 @@ pub record PairRefusals (w : List ℕ) (x : Ideal ℕ) (d : ℕ) (y : Ideal ℕ)
 abbrev pub T1Pairs : Type 0
 T1Pairs = (w : List ℕ) (x : Ideal ℕ) (d : ℕ) (y : Ideal ℕ) (e : ℕ) → PairRefusals w x d y e
 
+-- ---- ideals over the field are pairs, for a D that is admitted
+module _ {q g : ℕ} {D : List ℕ} (h : Admitted q g D) where
+  abbrev K : Field (Fq q)
+  K = field q (h .prime) (h .odd)
+
+  abbrev M : Model (modulo q) (F K)
+  M = model q (pos q (h .prime))
+
+  pub exact : (l f : List ℕ) → rem (modulo q) l f ≡ [] → Divides q f l
+  exact = rem-divides q (h .prime) (h .odd)
+
+  -- the leading coefficient of a monic list
+  pub lead-is-one : (l : List ℕ) {n : ℕ} → Oks M l → Monic K (series M l) n → lead (modulo q) l ≡ 1
+  lead-is-one l {n} k m = M .inj (lead (modulo q) l) 1 (subst (λ (a : ℕ). a < q) (sym (lead-is M l)) (k _)) (let e = h .odd in omega arith) (ap (M .φ) (lead-is M l) ∙ ap (series M l) (let e = monic-size K M l m in omega arith) ∙ m .top)
+
+  pub is-pair : {s : Ideal ℕ} → Oks M (s .q) → IsIdeal K M D s → IsPair q D (s .q) (s .p)
+  is-pair {s} k i = record {
+    monic = lead-is-one (s .q) k (i .monic);
+    less = let a = monic-size K M (s .q) (i .monic) in let b = size-le M (s .p) (i .κ) (i .low) in let c = size-is M (s .q) in let e = size-is M (s .p) in omega arith;
+    divides = exact _ (s .q) (i .divides);
+  }
+
 -- ---- the tests are those of the sentences
 and-true : {a b : Bool} → a ≡ true → b ≡ true → (a && b) ≡ true
 and-true e f = ap₂ _&&_ e f
@@ -63,9 +90,6 @@ below-true : (q : ℕ) (l : List ℕ) → ((i : ℕ) → getD l i 0 < q) → not
 below-true q l low = tests-not (tests-some q l) .1 (λ s. let k = low (s .0) in let m = s .2 in omega arith)
 
 module _ (t : Ticket) (h : Admitted (t .q) (genus (t .n)) (t .D)) where
-  abbrev M : Model (modulo (t .q)) (FqRing (t .q) (pos (t .q) (h .prime)))
-  M = model (t .q) (pos (t .q) (h .prime))
-
   -- D − P²
   abbrev rest : Ideal ℕ → List ℕ
   rest x = sub (modulo (t .q)) (t .D) (mul (modulo (t .q)) (x .p) (x .p))
@@ -76,7 +100,7 @@ module _ (t : Ticket) (h : Admitted (t .q) (genus (t .n)) (t .D)) where
     p-length = p .p-length;
     q-below = pair-q-below h p;
     p-below = pair-p-below h p;
-    is = record { monic = p .lead-one; less = p .less; divides = rem-divides (t .q) (h .prime) (h .odd) (rest x) (x .q) (pair-ideal h p .divides) };
+    is = record { monic = p .lead-one; less = p .less; divides = exact h (rest x) (x .q) (pair-ideal h p .divides) };
   }
 
   given-pair : (x : Ideal ℕ) → GivenPair t x → isPair t x ≡ true

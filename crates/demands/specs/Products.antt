@@ -5,11 +5,11 @@ use Prim.Native.Nat.{ℕ, zero, suc, _+_, _≤_, _<_}
 use native.Mathlib.Omega.{arith}
 use mathlib.Core.Path.{_≡_, refl, sym, ap, ap₂, _∙_, subst}
 use mathlib.Core.Bool.{false}
-use mathlib.Core.List.{List, []}
+use mathlib.Core.List.{List}
 use lib.IntN.{pos as posℤ, negℤ, _+ℤ_, _-ℤ_}
 use lib.Signed.{_≤ℤ_}
 use Rattle.algebra.specs.Field.{Field}
-use Rattle.algebra.specs.Polynomial.{F, Monic}
+use Rattle.algebra.specs.Polynomial.{F}
 use Rattle.surd.specs.Step.{State}
 use Rattle.ring.specs.Residues.{Fq}
 use Rattle.ring.specs.Series.{addS, conv}
@@ -20,12 +20,12 @@ use Rattle.definitions.specs.Walk.{Ideal, partial, steps}
 use Rattle.definitions.specs.Answers.{opsOf, rootOf}
 use Rattle.definitions.specs.Listing.{idealOf}
 use Rattle.definitions.specs.Products.{Product, productOf, turnsOf, degreeSum, shiftOf, ProductAnswer, GiantStepAnswer, productDone, giantDone, productAnswer, giantAnswer}
-use Rattle.bridge.specs.Model.{Model, Inverts, Oks, series}
-use Rattle.bridge.specs.Trim.{size-is, size-le, lead-is, series-ext}
+use Rattle.bridge.specs.Model.{Model, Inverts, series}
+use Rattle.bridge.specs.Trim.{size-is, series-ext}
 use Rattle.bridge.specs.Arithmetic.{series-add, series-mul, trim-add, oks-add}
 use Rattle.bridge.specs.Division.{oks-quo}
 use Rattle.bridge.specs.Monic.{oks-monic}
-use Rattle.bridge.specs.Degree.{deg-is, monic-size}
+use Rattle.bridge.specs.Degree.{deg-is}
 use Rattle.bridge.specs.Bezout.{trim-gcd, oks-gcd}
 use Rattle.bridge.specs.Residues.{pos, model, field, inverts}
 use Rattle.laws.specs.Surd.{Surd}
@@ -37,10 +37,10 @@ use Rattle.laws.specs.Product as product
 use Rattle.laws.specs.Reduction.{next-divides, stated, Q-size, a-size, turns-first}
 use Rattle.laws.specs.Reduced.{reduced-ideal}
 use Rattle.laws.specs.Shift.{turns-few, shift-not-positive, shift-least}
-use Rattle.demands.specs.Arithmetic.{Divides, rem-divides}
+use Rattle.demands.specs.Arithmetic.{Divides}
 use Rattle.demands.specs.Tests.{tests-none}
 use Rattle.demands.specs.Continued.{sumTo}
-use Rattle.demands.specs.Pairs.{IsPair, GivenPair, WrongDistance, pairs-passed, tests-distances, product-by, giant-by}
+use Rattle.demands.specs.Pairs.{IsPair, GivenPair, WrongDistance, exact, lead-is-one, is-pair, pairs-passed, tests-distances, product-by, giant-by}
 
 module _ (q : ℕ) where
   infixl 6 _⊕_ _⊖_
@@ -136,20 +136,6 @@ module _ {q g : ℕ} {D : List ℕ} (h : Admitted q g D) {x y : Ideal ℕ} (px :
   abbrev hy : IsIdeal K M D y
   hy = pair-ideal h py
 
-  exact : (l f : List ℕ) → rem (modulo q) l f ≡ [] → Divides q f l
-  exact = rem-divides q (h .prime) (h .odd)
-
-  -- the leading coefficient of a monic list
-  lead-is-one : (l : List ℕ) {n : ℕ} → Oks M l → Monic K (series M l) n → lead (modulo q) l ≡ 1
-  lead-is-one l {n} k m = M .inj (lead (modulo q) l) 1 (subst (λ (a : ℕ). a < q) (sym (lead-is M l)) (k _)) (let e = h .odd in omega arith) (ap (M .φ) (lead-is M l) ∙ ap (series M l) (let e = monic-size K M l m in omega arith) ∙ m .top)
-
-  is-pair : {s : Ideal ℕ} → Oks M (s .q) → IsIdeal K M D s → IsPair q D (s .q) (s .p)
-  is-pair {s} k i = record {
-    monic = lead-is-one (s .q) k (i .monic);
-    less = let a = monic-size K M (s .q) (i .monic) in let b = size-le M (s .p) (i .κ) (i .low) in let c = size-is M (s .q) in let e = size-is M (s .p) in omega arith;
-    divides = exact _ (s .q) (i .divides);
-  }
-
   gives : (u v w : List ℕ) → Combines q x y (commonOf (modulo q) x y) u v w → Gives K M I D x y u v w
   gives u v w e = record { is = ap (series M) e ∙ series-add M _ _ ∙ ap₂ (addS (F K)) (series-add M _ _ ∙ ap₂ (addS (F K)) (series-mul M u (x .q)) (series-mul M v (y .q))) (series-mul M w _ ∙ ap (conv (F K) (series M w)) (series-add M (x .p) (y .p))) }
 
@@ -171,15 +157,15 @@ module _ {q g : ℕ} {D : List ℕ} (h : Admitted q g D) {x y : Ideal ℕ} (px :
 
   is-product : IsProduct q g D x y S Q₀ P₀
   is-product = record {
-    S-monic = lead-is-one S (oks-gcd M I _ _) (common K M I D hx hy .monic);
-    S-first = exact (x .q) S (S-divides K M I D hx hy .0);
-    S-second = exact (y .q) S (S-divides K M I D hx hy .1);
-    S-sum = exact _ S (S-divides K M I D hx hy .2);
+    S-monic = lead-is-one h S (oks-gcd M I _ _) (common K M I D hx hy .monic);
+    S-first = exact h (x .q) S (S-divides K M I D hx hy .0);
+    S-second = exact h (y .q) S (S-divides K M I D hx hy .1);
+    S-sum = exact h _ S (S-divides K M I D hx hy .2);
     S-combines = (bezoutU (modulo q) x y, bezoutV (modulo q) x y, bezoutW (modulo q) x y, combines _ _ _ (bezout-gives K M I D x y));
     Q-square = Q-product K M I D hx hy;
     Q-most = let e = product.Q-size K M I D hx hy in let e′ = deg-is K M Q₀ in let a = pair-degree h px in let b = pair-degree h py in omega arith;
     P-any = λ u v w e. product-same K M I D hx hy (bezout-gives K M I D x y) (gives u v w e);
-    ideal = is-pair (oks-quo M _ _) (product-ideal K M I D hx hy (bezout-gives K M I D x y));
+    ideal = is-pair h (oks-quo M _ _) (product-ideal K M I D hx hy (bezout-gives K M I D x y));
   }
 
   -- ---- its reduction
@@ -189,7 +175,7 @@ module _ {q g : ℕ} {D : List ℕ} (h : Admitted q g D) {x y : Ideal ℕ} (px :
   reduces-at : ReducesAt q g D d (r .ideal) (turnsOf (modulo q) D d g (r .ideal))
   unfolding steps
   reduces-at = record {
-    exact = λ j. exact _ (steps (modulo q) D d (r .ideal) j .q) (next-divides z (steps (modulo q) D d (r .ideal) j) (stated z (r .ideal) st j .state));
+    exact = λ j. exact h _ (steps (modulo q) D d (r .ideal) j .q) (next-divides z (steps (modulo q) D d (r .ideal) j) (stated z (r .ideal) st j .state));
     not-zero = λ j. let e = Q-size z (r .ideal) st j in let e′ = size-is M (steps (modulo q) D d (r .ideal) j .q) in omega arith;
     partial-deg = λ j. let e = a-size z (r .ideal) st j in let e′ = deg-is K M (partial (modulo q) D d (steps (modulo q) D d (r .ideal) (suc j))) in omega arith;
     reduced = turns-first z (r .ideal) st .0;
@@ -199,7 +185,7 @@ module _ {q g : ℕ} {D : List ℕ} (h : Admitted q g D) {x y : Ideal ℕ} (px :
 
   answer-pair : (k : ℕ) → let i = idealOf (modulo q) (steps (modulo q) D d (r .ideal) k) in IsPair q D (i .q) (i .p)
   unfolding idealOf
-  answer-pair k = is-pair (oks-monic M I (steps (modulo q) D d (r .ideal) k .q)) (reduced-ideal K M I D (steps (modulo q) D d (r .ideal) k) (stated z (r .ideal) st k .state))
+  answer-pair k = is-pair h (oks-monic M I (steps (modulo q) D d (r .ideal) k .q)) (reduced-ideal K M I D (steps (modulo q) D d (r .ideal) k) (stated z (r .ideal) st k .state))
 
 -- ---- for a ticket
 module _ (t : Ticket) (h : Admitted (t .q) (genus (t .n)) (t .D)) {x y : Ideal ℕ} (px : Passes (t .q) (genus (t .n)) (t .D) x) (py : Passes (t .q) (genus (t .n)) (t .D) y) where

@@ -1,0 +1,267 @@
+-- T2, the part on listings and lookup: in every record of a listing nothing is cut, the mirror and the distance make up R, and the pair is an ideal; the words are read back as they
+-- were written, so that lookup takes every listing; and what lookup hands back is the last record with a distance of at most y.
+use Prim.Native.Nat.{ℕ, zero, suc, _+_, _*_, _-_, _/_, _%_, _≤_, _<_}
+use native.Mathlib.Nat.{zero-mul, mul-le-mul, div-add-mod, div-add-mod', eq-or-lt-of-le, eq-zero-or-pos}
+use native.Mathlib.Omega.{arith}
+use mathlib.Core.Path.{_≡_, refl, sym, ap, _∙_, subst}
+use mathlib.Core.Logic.{⊎-elim}
+use mathlib.Core.Bool.{Bool, true, false, not, _||_, false≢true}
+use mathlib.Core.List.{List, map}
+use lib.Dec.{leb, eqb}
+use lib.ListN.{length, getD}
+use borrow.Author.Tests.{eq-eqb, ne-eqb, eqb-true, eqb-false, leb-true, leb-false, not-false}
+use Rattle.ring.specs.Residues.{Fq}
+use Rattle.algebra.specs.Field.{Field}
+use Rattle.algebra.specs.Polynomial.{F, _≺_ as Low, low-up}
+use Rattle.surd.specs.Step.{State}
+use Rattle.surd.specs.Walk.{prior}
+use Rattle.surd.specs.Walk as states
+use Rattle.definitions.specs.Field.{modulo}
+use Rattle.definitions.specs.Polynomials.{trim, monic, rem, root}
+use Rattle.definitions.specs.Words.{kind, high}
+use Rattle.definitions.specs.Ticket.{Ticket, genus, ticketOf, refusalOf, wrongDegree}
+use Rattle.definitions.specs.Walk.{degreeBefore}
+use Rattle.definitions.specs.Walk as walk
+use Rattle.definitions.specs.Answers.{found, wordsOutcome, opsOf, rootOf}
+use Rattle.definitions.specs.Listing.{idealOf, entryOf, mirrorOf, recordOf, listingOf}
+use Rattle.definitions.specs.Lookup.{recordKinds, recordAt, distanceAt, recordCount, rightKinds, rising, wrongListing, lastWithin, lookupOf, placeOf}
+use Rattle.bridge.specs.Model.{Model, Inverts, series}
+use Rattle.bridge.specs.Trim.{below-length}
+use Rattle.bridge.specs.Division.{rem-less, oks-rem}
+use Rattle.bridge.specs.Monic.{trim-monic, oks-monic, length-monic}
+use Rattle.bridge.specs.Residues.{pos, model, field, inverts}
+use Rattle.laws.specs.Surd.{Surd, Q-trim}
+use Rattle.laws.specs.Fraction.{fraction, Q-deg, Q-some, Q-length}
+use Rattle.laws.specs.Convergents.{degree-zero, degree-rise, degree-most}
+use Rattle.laws.specs.Reduced.{reduced-ideal}
+use Rattle.laws.specs.Admitted.{Admitted, surd-of, admitted, passed, degree-of, budget-less}
+use Rattle.demands.specs.Continued.{StopsAt, Walks, t2}
+use Rattle.demands.specs.Pairs.{IsPair, is-pair}
+use Rattle.demands.specs.Records.{kinds-record, count-listing, length-listing, whole-listing, record-listing, distance-listing, kinds-listing, rising-listing}
+
+-- record j + 1: each number fits into its words, no coefficient is left out, and the distance is at most R
+pub record RecordHolds (t : Ticket) (R j : ℕ) : Type 0 where
+  pub index-fits : entryOf t j .index < 268435456
+  pub distance-fits : high (entryOf t j .distance) < 268435456
+  pub mirror-fits : high (mirrorOf R (entryOf t j)) < 268435456
+  pub mirror-is : mirrorOf R (entryOf t j) + entryOf t j .distance ≡ R
+  pub Q-whole : length (entryOf t j .ideal .q) ≤ suc (genus (t .n))
+  pub P-whole : length (entryOf t j .ideal .p) ≤ genus (t .n)
+  pub Q-below : (i : ℕ) → getD (entryOf t j .ideal .q) i 0 < t .q
+  pub P-below : (i : ℕ) → getD (entryOf t j .ideal .p) i 0 < t .q
+  pub ideal : IsPair (t .q) (t .D) (entryOf t j .ideal .q) (entryOf t j .ideal .p)
+
+-- what is read in the list l of the records 1 to m, and that refusal 8 does not apply to it
+pub record ReadBack (t : Ticket) (R m : ℕ) (l : List ℕ) : Type 0 where
+  pub count : recordCount l (t .n) ≡ m
+  pub records : (j : ℕ) → j < m → recordAt l (t .n) j ≡ recordOf t R j
+  pub distances : (j : ℕ) → j < m → distanceAt l (t .n) j ≡ entryOf t j .distance
+  pub accepted : wrongListing l (t .n) ≡ false
+
+abbrev pub T2Listings : Type 0
+T2Listings = (w : List ℕ) → refusalOf w ≡ 0 → (R m c : ℕ) → wordsOutcome w ≡ found R m c → ((j : ℕ) → j < m → RecordHolds (ticketOf w) R j) × ReadBack (ticketOf w) R m (listingOf (ticketOf w) R m)
+
+-- record k + 1 of the list is the last with a distance of at most y; it is the part handed back, at its place
+pub record LooksUp (l : List ℕ) (n y : ℕ) (part : List ℕ) (place : ℕ) : Type 0 where
+  pub k : ℕ
+  pub below : k < recordCount l n
+  pub part-is : part ≡ recordAt l n k
+  pub place-is : place ≡ k * (n + 4)
+  pub within : distanceAt l n k ≤ y
+  pub last : (i : ℕ) → k < i → i < recordCount l n → y < distanceAt l n i
+
+abbrev pub T2Lookups : Type 0
+T2Lookups = (l : List ℕ) (n y : ℕ) → wrongListing l n ≡ false → LooksUp l n y (lookupOf l n y) (placeOf l n y)
+
+-- ---- the ideals of the walk, for a D that is admitted
+module _ {q g : ℕ} {D : List ℕ} (h : Admitted q g D) where
+  abbrev K : Field (Fq q)
+  K = field q (h .prime) (h .odd)
+
+  abbrev M : Model (modulo q) (F K)
+  M = model q (pos q (h .prime))
+
+  abbrev I : Inverts M
+  I = inverts q (pos q (h .prime)) (h .prime)
+
+  abbrev d : List ℕ
+  d = root (modulo q) D (suc g)
+
+  abbrev z : Surd K M g D d
+  z = surd-of h
+
+  abbrev Q : ℕ → List ℕ
+  Q = walk.Q (modulo q) D d
+
+  abbrev P : ℕ → List ℕ
+  P = walk.P (modulo q) D d
+
+  state-at : (i : ℕ) → State K (series M D) (series M (Q i)) (prior K (series M D) (λ j. series M (Q j)) i) (series M (P i))
+  state-at i = record { κ = length (Q i) - 1; deg = Q-deg z i; norm = states.norm K (fraction z) i; size = length (before i) + length (P i); C-low = low i; P-low = low-up K _ (omega arith) (below-length M (P i)) }
+    where
+      before : ℕ → List ℕ
+      before zero = D
+      before (suc i) = Q i
+
+      low : (i : ℕ) → Low K (prior K (series M D) (λ j. series M (Q j)) i) (length (before i) + length (P i))
+      low zero = low-up K _ (omega arith) (below-length M D)
+      low (suc i) = low-up K _ (omega arith) (below-length M (Q i))
+
+  monic-length : (i : ℕ) → length (monic (modulo q) (Q i)) ≡ length (Q i)
+  monic-length i = length-monic M I (Q i) ∙ ap length (Q-trim z i)
+
+  rem-length : (i : ℕ) → length (rem (modulo q) (P i) (monic (modulo q) (Q i))) < length (Q i)
+  rem-length i =
+      let m : List ℕ = monic (modulo q) (Q i) in
+      let t : length (trim (modulo q) m) ≡ length m = ap length (trim-monic M I (Q i)) in
+      let e = monic-length i in
+      let k = Q-some z i in
+      let l = rem-less M I (P i) m (omega arith) in
+      omega arith
+
+  walk-pair : (i : ℕ) → let x = idealOf (modulo q) (walk.walk (modulo q) D d i) in IsPair q D (x .q) (x .p)
+  unfolding idealOf
+  walk-pair i = is-pair h (oks-monic M I (Q i)) (reduced-ideal K M I D (walk.walk (modulo q) D d i) (state-at i))
+
+  -- 2²⁸·32 is far below 2⁵⁶
+  degree-fits : (i : ℕ) → i ≤ 268435456 → degreeBefore (modulo q) D d i ≤ 8589934592
+  degree-fits i l =
+      let k = degree-most z i in
+      let y : suc g ≤ 32 = (let e = h .genus-most in omega arith) in
+      let w : i * suc g ≤ 268435456 * 32 = mul-le-mul l y in
+      omega arith
+
+high-fits : (x : ℕ) → x ≤ 8589934592 → high x < 268435456
+unfolding high
+high-fits x l = let e : 268435456 * (x / 268435456) + x % 268435456 ≡ x = div-add-mod x 268435456 in omega arith
+
+-- ---- the records
+module _ (t : Ticket) (h : Admitted (t .q) (genus (t .n)) (t .D)) (R m : ℕ) (most : m < 268435456) (is : R ≡ degreeBefore (opsOf t) (t .D) (rootOf t) m) where
+  holds : (j : ℕ) → j < m → RecordHolds t R j
+  unfolding entryOf idealOf mirrorOf rootOf
+  holds j l = record {
+    index-fits = omega arith;
+    distance-fits = high-fits _ (degree-fits h j (omega arith));
+    mirror-fits = high-fits _ (let e = is in let k = degree-fits h m (omega arith) in omega arith);
+    mirror-is = let e = is in let k = degree-rise (surd-of h) j m l in omega arith;
+    Q-whole = let e = monic-length h j in let k = Q-length (surd-of h) j in omega arith;
+    P-whole = let e = rem-length h j in let k = Q-length (surd-of h) j in omega arith;
+    Q-below = oks-monic (M h) (I h) (Q h j);
+    P-below = oks-rem (M h) (P h j) (monic (opsOf t) (Q h j));
+    ideal = walk-pair h j;
+  }
+
+  -- ---- their words, read back
+  module _ (positive : 0 < m) (degree : wrongDegree (t .n) ≡ false) where
+    abbrev l : List ℕ
+    l = listingOf t R m
+
+    even : suc (genus (t .n)) + suc (genus (t .n)) ≡ t .n
+    even = degree-of (t .n) degree .0
+
+    distances : (j : ℕ) → j < m → distanceAt l (t .n) j ≡ entryOf t j .distance
+    distances j k = distance-listing t R even m j k (holds j k .distance-fits)
+
+    fits : (j : ℕ) → j < m → map kind (recordOf t R j) ≡ recordKinds (t .n)
+    unfolding recordOf
+    fits j k =
+        let r = holds j k in
+        kinds-record (t .q) (t .n) _ (entryOf t j) (r .index-fits) (r .distance-fits) (r .mirror-fits) (λ i. let a = r .Q-below i in let b = h .small in omega arith) (λ i. let a = r .P-below i in let b = h .small in omega arith)
+
+    first : distanceAt l (t .n) 0 ≡ 0
+    unfolding entryOf rootOf
+    first = distances 0 positive ∙ degree-zero (surd-of h)
+
+    rise : (j : ℕ) → suc j < m → distanceAt l (t .n) j < distanceAt l (t .n) (suc j)
+    unfolding entryOf rootOf
+    rise j k = let a = distances j (omega arith) in let b = distances (suc j) k in let c = degree-rise (surd-of h) j (suc j) (omega arith) in omega arith
+
+    some : length l ≡ 0 → ⊥
+    some e = let a = length-listing t R even m in let b : 1 * (t .n + 4) ≤ m * (t .n + 4) = mul-le-mul positive (let c : t .n + 4 ≤ t .n + 4 = omega arith in c) in omega arith
+
+    read-back : ReadBack t R m l
+    unfolding wrongListing
+    read-back = record {
+      count = count-listing t R even m;
+      records = record-listing t R even m;
+      distances = distances;
+      accepted = simp (wrongListing, degree, ne-eqb (length l) 0 some, eq-eqb (length l % (t .n + 4)) 0 (whole-listing t R even m), kinds, eq-eqb (distanceAt l (t .n) 0) 0 first, rises);
+    }
+      where
+        kinds : rightKinds l (t .n) (recordCount l (t .n)) ≡ true
+        kinds = ap (rightKinds l (t .n)) (count-listing t R even m) ∙ kinds-listing t R even m fits m (omega arith)
+
+        rises : rising l (t .n) (recordCount l (t .n) - 1) ≡ true
+        rises = ap (λ (k : ℕ). rising l (t .n) (k - 1)) (count-listing t R even m) ∙ rising-listing t R even m rise (m - 1) (omega arith)
+
+pub t2-listings : T2Listings
+unfolding degreeBefore
+t2-listings w e R m c f = (holds (ticketOf w) h R m most (s .regulator), read-back (ticketOf w) h R m most (s .regulator) (s .positive) (passed w e .degree))
+  where
+    h : Admitted (ticketOf w .q) (genus (ticketOf w .n)) (ticketOf w .D)
+    h = admitted w e
+
+    s : StopsAt (ticketOf w .q) (ticketOf w .D) (rootOf (ticketOf w)) (ticketOf w .b) R m c
+    s = subst (Walks (ticketOf w)) f (t2 w e) .ends
+
+    most : m < 268435456
+    most = let a = s .within in let b = budget-less w in omega arith
+
+-- ---- lookup
+module _ (l : List ℕ) (n y : ℕ) where
+  -- of records 0 to k, record r is the last within y
+  record Last (k r : ℕ) : Type 0 where
+    most : r ≤ k
+    within : distanceAt l n r ≤ y
+    last : (i : ℕ) → r < i → i ≤ k → y < distanceAt l n i
+
+  last-is : distanceAt l n 0 ≤ y → (k : ℕ) → Last k (lastWithin l n y k)
+  unfolding lastWithin
+  last-is h zero = record { most = omega arith; within = h; last = λ i a b. absurd (omega arith) }
+  last-is h (suc k) = go (leb (distanceAt l n (suc k)) y) refl (last-is h k)
+    where
+      go : (b : Bool) → leb (distanceAt l n (suc k)) y ≡ b → Last k (lastWithin l n y k) → Last (suc k) (elim b [ true ↦ suc k | false ↦ lastWithin l n y k ])
+      go true e s = record { most = omega arith; within = leb-true _ _ e; last = λ i a b. absurd (omega arith) }
+      go false e s = record {
+        most = let a = s .most in omega arith;
+        within = s .within;
+        last = λ i a b. ⊎-elim (λ (f : i ≡ suc k). subst (λ (j : ℕ). y < distanceAt l n j) (sym f) (leb-false _ _ e)) (λ (f : i < suc k). s .last i a (omega arith)) (eq-or-lt-of-le b);
+      }
+
+  or-false : (a b : Bool) → (a || b) ≡ false → (a ≡ false) × (b ≡ false)
+  or-false true b e = absurd (false≢true (sym e))
+  or-false false b e = (refl, e)
+
+  both-false : (a b : Bool) → (elim a [ true ↦ true | false ↦ b ]) ≡ false → (a ≡ false) × (b ≡ false)
+  both-false true b e = absurd (false≢true (sym e))
+  both-false false b e = (refl, e)
+
+  -- a listing that is not refused has records, the first of distance 0
+  some-first : wrongListing l n ≡ false → (0 < recordCount l n) × (distanceAt l n 0 ≡ 0)
+  unfolding wrongListing recordCount
+  some-first h =
+      let a = both-false (wrongDegree n || eqb (length l) 0 || not (eqb (length l % (n + 4)) 0)) (not (rightKinds l n (recordCount l n)) || not (eqb (distanceAt l n 0) 0) || not (rising l n (recordCount l n - 1))) h in
+      let b = or-false (wrongDegree n || eqb (length l) 0) (not (eqb (length l % (n + 4)) 0)) (a .0) in
+      let c = or-false (wrongDegree n) (eqb (length l) 0) (b .0) in
+      let d = or-false (not (rightKinds l n (recordCount l n)) || not (eqb (distanceAt l n 0) 0)) (not (rising l n (recordCount l n - 1))) (a .1) in
+      let e = or-false (not (rightKinds l n (recordCount l n))) (not (eqb (distanceAt l n 0) 0)) (d .0) in
+      let long : length l ≡ 0 → ⊥ = eqb-false (length l) 0 (c .1) in
+      let whole : length l % (n + 4) ≡ 0 = eqb-true _ 0 (not-false _ (b .1)) in
+      let split : length l / (n + 4) * (n + 4) + length l % (n + 4) ≡ length l = div-add-mod' (length l) (n + 4) in
+      (⊎-elim (λ (f : length l / (n + 4) ≡ 0). absurd (long (let g : length l / (n + 4) * (n + 4) ≡ 0 = ap (λ (k : ℕ). k * (n + 4)) f ∙ zero-mul (n + 4) in omega arith))) (λ g. g) (eq-zero-or-pos (length l / (n + 4))), eqb-true _ 0 (not-false _ (e .1)))
+
+pub t2-lookups : T2Lookups
+unfolding lookupOf placeOf
+t2-lookups l n y h =
+    let a = some-first l n y h in
+    let p = a .0 in
+    let f = a .1 in
+    let s = last-is l n y (omega arith) (recordCount l n - 1) in
+    record {
+      k = lastWithin l n y (recordCount l n - 1);
+      below = let b = s .most in omega arith;
+      part-is = simp (lookupOf, h);
+      place-is = simp (placeOf, h);
+      within = s .within;
+      last = λ i b c. s .last i b (omega arith);
+    }
