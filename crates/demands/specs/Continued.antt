@@ -32,7 +32,7 @@ use Rattle.laws.specs.Walk.{a-length, r-length}
 use Rattle.laws.specs.Convergents.{degree-zero, degree-suc}
 use Rattle.laws.specs.Signs.{signed, normOf}
 use Rattle.laws.specs.Norms as norms
-use Rattle.laws.specs.QuasiPeriod.{Quasi, NoQuasi, Says, quasi-says}
+use Rattle.laws.specs.QuasiPeriod.{Quasi, NoQuasi, Says, quasi-says, some-quasi}
 use Rattle.laws.specs.Admitted.{Admitted, surd-of, admitted}
 use Rattle.demands.specs.LeastDegree.{Same}
 
@@ -114,6 +114,10 @@ pub record Walks (t : Ticket) (x : Outcome) : Type 0 where
 
 abbrev pub T2 : Type 0
 T2 = (w : List ℕ) → refusalOf w ≡ 0 → Walks (ticketOf w) (wordsOutcome w)
+
+-- for n = 2 the first Q is constant: m = 1 and R = 1 for every budget from 1 up
+abbrev pub T2Linear : Type 0
+T2Linear = (w : List ℕ) → refusalOf w ≡ 0 → ticketOf w .n ≡ 2 → 0 < ticketOf w .b → (c : ℕ) × (wordsOutcome w ≡ found 1 1 c)
 
 -- ---- the proof, for a D that is admitted
 module _ {q g : ℕ} {D : List ℕ} (h : Admitted q g D) where
@@ -229,3 +233,23 @@ walks t h = record { continued = continued h; ends = go (quasiPeriod (opsOf t) (
 pub t2 : T2
 unfolding wordsOutcome
 t2 w e = subst (λ (k : ℕ). Walks (ticketOf w) (elim k [ zero ↦ outcomeOf (ticketOf w) | suc k ↦ refused (suc k) ])) (sym e) (walks (ticketOf w) (admitted w e))
+
+linear : (t : Ticket) → Admitted (t .q) (genus (t .n)) (t .D) → t .n ≡ 2 → 0 < t .b → (c : ℕ) × (outcomeOf t ≡ found 1 1 c)
+unfolding outcomeOf rootOf
+linear t h two paid = (constantOf (opsOf t) (t .D) d′ 1, ap (λ (x : Option ℕ). elim x [ none ↦ spent (t .b) (degreeBefore (opsOf t) (t .D) d′ (t .b)) | some m ↦ found (degreeBefore (opsOf t) (t .D) d′ m) m (constantOf (opsOf t) (t .D) d′ m) ]) (some-quasi (surd-of h) (t .b) 1 quasi) ∙ ap (λ (R : ℕ). found R 1 (constantOf (opsOf t) (t .D) d′ 1)) degree)
+  where
+    d′ : List ℕ
+    d′ = root (opsOf t) (t .D) (suc (genus (t .n)))
+
+    none-left : genus (t .n) ≡ 0
+    none-left = ap genus two ∙ (unfold genus in refl)
+
+    quasi : Quasi (opsOf t) (t .D) d′ (t .b) 1
+    quasi = record { positive = omega arith; within = paid; constant = let e = Q-length (surd-of h) 1 in let k = Q-some (surd-of h) 1 in omega (arith, none-left); least = λ j l u. absurd (omega arith) }
+
+    degree : degreeBefore (opsOf t) (t .D) d′ 1 ≡ 1
+    degree = let e = degree-suc (surd-of h) 0 in let k = degree-zero (surd-of h) in let l : length (walk.Q (opsOf t) (t .D) d′ 0) ≡ 1 = ap length (Q-zero (surd-of h)) in omega (arith, none-left)
+
+pub t2-linear : T2Linear
+unfolding wordsOutcome
+t2-linear w e two paid = let r = linear (ticketOf w) (admitted w e) two paid in (r .0, ap (λ (k : ℕ). elim k [ zero ↦ outcomeOf (ticketOf w) | suc k ↦ refused (suc k) ]) e ∙ r .1)
