@@ -8,6 +8,7 @@ pub mod Arithmetic
 pub mod Continued
 pub mod Records
 pub mod Pairs
+pub mod Lookups
 pub mod Listings
 pub mod Products
 pub mod Example

@@ -1,15 +1,13 @@
--- T2, the part on listings and lookup: in every record of a listing nothing is cut, the mirror and the distance make up R, and the pair is an ideal; the words are read back as they
--- were written, so that lookup takes every listing; and what lookup hands back is the last record with a distance of at most y.
+-- T2, the part on listings: in every record nothing is cut, the mirror and the distance make up R, and the pair is an ideal; the words are read back as they were written,
+-- and lookup takes the listing.
 use Prim.Native.Nat.{ℕ, zero, suc, _+_, _*_, _-_, _/_, _%_, _≤_, _<_}
-use native.Mathlib.Nat.{zero-mul, mul-le-mul, div-add-mod, div-add-mod', eq-or-lt-of-le, eq-zero-or-pos}
+use native.Mathlib.Nat.{mul-le-mul, div-add-mod}
 use native.Mathlib.Omega.{arith}
-use mathlib.Core.Path.{_≡_, refl, sym, ap, _∙_, subst}
-use mathlib.Core.Logic.{⊎-elim}
-use mathlib.Core.Bool.{Bool, true, false, not, _||_, false≢true}
+use mathlib.Core.Path.{_≡_, sym, ap, _∙_, subst}
+use mathlib.Core.Bool.{true, false, false≢true}
 use mathlib.Core.List.{List, map}
-use lib.Dec.{leb, eqb}
 use lib.ListN.{length, getD}
-use borrow.Author.Tests.{eq-eqb, ne-eqb, eqb-true, eqb-false, leb-true, leb-false, not-false}
+use borrow.Author.Tests.{eq-eqb, ne-eqb}
 use Rattle.ring.specs.Residues.{Fq}
 use Rattle.algebra.specs.Field.{Field}
 use Rattle.algebra.specs.Polynomial.{F, _≺_ as Low, low-up}
@@ -24,7 +22,7 @@ use Rattle.definitions.specs.Walk.{degreeBefore}
 use Rattle.definitions.specs.Walk as walk
 use Rattle.definitions.specs.Answers.{found, wordsOutcome, opsOf, rootOf}
 use Rattle.definitions.specs.Listing.{idealOf, entryOf, mirrorOf, recordOf, listingOf}
-use Rattle.definitions.specs.Lookup.{recordKinds, recordAt, distanceAt, recordCount, rightKinds, rising, wrongListing, lastWithin, lookupOf, placeOf}
+use Rattle.definitions.specs.Lookup.{recordKinds, recordAt, distanceAt, recordCount, rightKinds, rising, wrongListing}
 use Rattle.bridge.specs.Model.{Model, Inverts, series}
 use Rattle.bridge.specs.Trim.{below-length}
 use Rattle.bridge.specs.Division.{rem-less, oks-rem}
@@ -36,6 +34,7 @@ use Rattle.laws.specs.Convergents.{degree-zero, degree-rise, degree-most}
 use Rattle.laws.specs.Reduced.{reduced-ideal}
 use Rattle.laws.specs.Admitted.{Admitted, surd-of, admitted, passed, degree-of, budget-less}
 use Rattle.demands.specs.Continued.{StopsAt, Walks, t2}
+use Rattle.demands.specs.Lookups.{WrongListing, tests-listing}
 use Rattle.demands.specs.Pairs.{IsPair, is-pair}
 use Rattle.demands.specs.Records.{kinds-record, count-listing, length-listing, whole-listing, record-listing, distance-listing, kinds-listing, rising-listing}
 
@@ -56,22 +55,10 @@ pub record ReadBack (t : Ticket) (R m : ℕ) (l : List ℕ) : Type 0 where
   pub count : recordCount l (t .n) ≡ m
   pub records : (j : ℕ) → j < m → recordAt l (t .n) j ≡ recordOf t R j
   pub distances : (j : ℕ) → j < m → distanceAt l (t .n) j ≡ entryOf t j .distance
-  pub accepted : wrongListing l (t .n) ≡ false
+  pub accepted : ¬ WrongListing l (t .n)
 
 abbrev pub T2Listings : Type 0
 T2Listings = (w : List ℕ) → refusalOf w ≡ 0 → (R m c : ℕ) → wordsOutcome w ≡ found R m c → ((j : ℕ) → j < m → RecordHolds (ticketOf w) R j) × ReadBack (ticketOf w) R m (listingOf (ticketOf w) R m)
-
--- record k + 1 of the list is the last with a distance of at most y; it is the part handed back, at its place
-pub record LooksUp (l : List ℕ) (n y : ℕ) (part : List ℕ) (place : ℕ) : Type 0 where
-  pub k : ℕ
-  pub below : k < recordCount l n
-  pub part-is : part ≡ recordAt l n k
-  pub place-is : place ≡ k * (n + 4)
-  pub within : distanceAt l n k ≤ y
-  pub last : (i : ℕ) → k < i → i < recordCount l n → y < distanceAt l n i
-
-abbrev pub T2Lookups : Type 0
-T2Lookups = (l : List ℕ) (n y : ℕ) → wrongListing l n ≡ false → LooksUp l n y (lookupOf l n y) (placeOf l n y)
 
 -- ---- the ideals of the walk, for a D that is admitted
 module _ {q g : ℕ} {D : List ℕ} (h : Admitted q g D) where
@@ -185,7 +172,7 @@ module _ (t : Ticket) (h : Admitted (t .q) (genus (t .n)) (t .D)) (R m : ℕ) (m
       count = count-listing t R even m;
       records = record-listing t R even m;
       distances = distances;
-      accepted = simp (wrongListing, degree, ne-eqb (length l) 0 some, eq-eqb (length l % (t .n + 4)) 0 (whole-listing t R even m), kinds, eq-eqb (distanceAt l (t .n) 0) 0 first, rises);
+      accepted = λ w. false≢true (sym passes ∙ tests-listing l (t .n) .1 w);
     }
       where
         kinds : rightKinds l (t .n) (recordCount l (t .n)) ≡ true
@@ -193,6 +180,9 @@ module _ (t : Ticket) (h : Admitted (t .q) (genus (t .n)) (t .D)) (R m : ℕ) (m
 
         rises : rising l (t .n) (recordCount l (t .n) - 1) ≡ true
         rises = ap (λ (k : ℕ). rising l (t .n) (k - 1)) (count-listing t R even m) ∙ rising-listing t R even m rise (m - 1) (omega arith)
+
+        passes : wrongListing l (t .n) ≡ false
+        passes = simp (wrongListing, degree, ne-eqb (length l) 0 some, eq-eqb (length l % (t .n + 4)) 0 (whole-listing t R even m), kinds, eq-eqb (distanceAt l (t .n) 0) 0 first, rises)
 
 pub t2-listings : T2Listings
 unfolding degreeBefore
@@ -206,62 +196,3 @@ t2-listings w e R m c f = (holds (ticketOf w) h R m most (s .regulator), read-ba
 
     most : m < 268435456
     most = let a = s .within in let b = budget-less w in omega arith
-
--- ---- lookup
-module _ (l : List ℕ) (n y : ℕ) where
-  -- of records 0 to k, record r is the last within y
-  record Last (k r : ℕ) : Type 0 where
-    most : r ≤ k
-    within : distanceAt l n r ≤ y
-    last : (i : ℕ) → r < i → i ≤ k → y < distanceAt l n i
-
-  last-is : distanceAt l n 0 ≤ y → (k : ℕ) → Last k (lastWithin l n y k)
-  unfolding lastWithin
-  last-is h zero = record { most = omega arith; within = h; last = λ i a b. absurd (omega arith) }
-  last-is h (suc k) = go (leb (distanceAt l n (suc k)) y) refl (last-is h k)
-    where
-      go : (b : Bool) → leb (distanceAt l n (suc k)) y ≡ b → Last k (lastWithin l n y k) → Last (suc k) (elim b [ true ↦ suc k | false ↦ lastWithin l n y k ])
-      go true e s = record { most = omega arith; within = leb-true _ _ e; last = λ i a b. absurd (omega arith) }
-      go false e s = record {
-        most = let a = s .most in omega arith;
-        within = s .within;
-        last = λ i a b. ⊎-elim (λ (f : i ≡ suc k). subst (λ (j : ℕ). y < distanceAt l n j) (sym f) (leb-false _ _ e)) (λ (f : i < suc k). s .last i a (omega arith)) (eq-or-lt-of-le b);
-      }
-
-  or-false : (a b : Bool) → (a || b) ≡ false → (a ≡ false) × (b ≡ false)
-  or-false true b e = absurd (false≢true (sym e))
-  or-false false b e = (refl, e)
-
-  both-false : (a b : Bool) → (elim a [ true ↦ true | false ↦ b ]) ≡ false → (a ≡ false) × (b ≡ false)
-  both-false true b e = absurd (false≢true (sym e))
-  both-false false b e = (refl, e)
-
-  -- a listing that is not refused has records, the first of distance 0
-  some-first : wrongListing l n ≡ false → (0 < recordCount l n) × (distanceAt l n 0 ≡ 0)
-  unfolding wrongListing recordCount
-  some-first h =
-      let a = both-false (wrongDegree n || eqb (length l) 0 || not (eqb (length l % (n + 4)) 0)) (not (rightKinds l n (recordCount l n)) || not (eqb (distanceAt l n 0) 0) || not (rising l n (recordCount l n - 1))) h in
-      let b = or-false (wrongDegree n || eqb (length l) 0) (not (eqb (length l % (n + 4)) 0)) (a .0) in
-      let c = or-false (wrongDegree n) (eqb (length l) 0) (b .0) in
-      let d = or-false (not (rightKinds l n (recordCount l n)) || not (eqb (distanceAt l n 0) 0)) (not (rising l n (recordCount l n - 1))) (a .1) in
-      let e = or-false (not (rightKinds l n (recordCount l n))) (not (eqb (distanceAt l n 0) 0)) (d .0) in
-      let long : length l ≡ 0 → ⊥ = eqb-false (length l) 0 (c .1) in
-      let whole : length l % (n + 4) ≡ 0 = eqb-true _ 0 (not-false _ (b .1)) in
-      let split : length l / (n + 4) * (n + 4) + length l % (n + 4) ≡ length l = div-add-mod' (length l) (n + 4) in
-      (⊎-elim (λ (f : length l / (n + 4) ≡ 0). absurd (long (let g : length l / (n + 4) * (n + 4) ≡ 0 = ap (λ (k : ℕ). k * (n + 4)) f ∙ zero-mul (n + 4) in omega arith))) (λ g. g) (eq-zero-or-pos (length l / (n + 4))), eqb-true _ 0 (not-false _ (e .1)))
-
-pub t2-lookups : T2Lookups
-unfolding lookupOf placeOf
-t2-lookups l n y h =
-    let a = some-first l n y h in
-    let p = a .0 in
-    let f = a .1 in
-    let s = last-is l n y (omega arith) (recordCount l n - 1) in
-    record {
-      k = lastWithin l n y (recordCount l n - 1);
-      below = let b = s .most in omega arith;
-      part-is = simp (lookupOf, h);
-      place-is = simp (placeOf, h);
-      within = s .within;
-      last = λ i b c. s .last i b (omega arith);
-    }

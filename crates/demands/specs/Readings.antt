@@ -19,7 +19,7 @@ use Rattle.demands.specs.Tests.{Tests, tests-lt, tests-eq, tests-not, te
 pub prime-allowed : (p : ℕ) → OddPrime p ↔ AllowedPrime p
 prime-allowed p = (λ r. record { odd = r .odd; below = r .small; more = r .prime .two; divisors = prime-divisor p (r .prime) }, λ r. record { prime = prime-of-divisors p (r .more) (r .divisors); odd = r .odd; small = r .below })
 
-tests-odd : (m : ℕ) → (m % 2 ≢ 0) ↔ (m % 2 ≡ 1)
+pub tests-odd : (m : ℕ) → (m % 2 ≢ 0) ↔ (m % 2 ≡ 1)
 tests-odd m = let low : m % 2 < 2 = mod-lt m (omega arith) in (λ h. ⊎-elim (λ l. omega arith) (λ l. absurd (h (omega arith))) (le-or-lt 1 (m % 2)), λ e z. omega arith)
 
 module _ (w : List ℕ) where
