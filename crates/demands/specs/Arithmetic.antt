@@ -1,9 +1,9 @@
--- "Div and mod are division with remainder": for every allowed q and all lists, a = quo·b + rem with a remainder of lower degree than b, and 1/a is the inverse of a.
+-- "Div and mod are division with remainder": for every allowed q and all lists, a = quo·b + rem with a remainder of lower degree than b; 1/a is the inverse of a; gcd has the paper's rule.
 -- What it is to divide is said with a factor, not with a remainder; both say the same. Polynomials are lists of any numbers and any length, read modulo q.
 use Prim.Native.Nat.{ℕ, _*_, _%_, _<_}
 use native.Mathlib.Nat.{eq-zero-or-pos}
 use native.Mathlib.Omega.{arith}
-use mathlib.Core.Path.{_≡_, sym, ap, _∙_, fun-ext}
+use mathlib.Core.Path.{_≡_, sym, ap, _∙_, fun-ext, subst}
 use mathlib.Core.Logic.{_≢_, ⊎-elim}
 use mathlib.Core.List.{List, [], _∷_}
 use lib.ListN.{length}
@@ -11,14 +11,19 @@ use Rattle.ring.specs.Residues.{Fq}
 use Rattle.ring.specs.Identity.{ring, quote}
 use Rattle.ring.specs.Series.{Series, addS, conv}
 use Rattle.algebra.specs.Field.{Field}
-use Rattle.algebra.specs.Polynomial.{F, Px}
+use Rattle.algebra.specs.Polynomial.{F, Px, Monic}
+use Rattle.algebra.specs.Gcd.{gcd-monic}
 use Rattle.definitions.specs.Field.{modulo, inverse}
-use Rattle.definitions.specs.Polynomials.{size, add, mul, quo, rem}
-use Rattle.bridge.specs.Model.{Model, series, series-nil}
-use Rattle.bridge.specs.Trim.{below-length, size-is}
+use Rattle.definitions.specs.Polynomials.{size, lead, add, mul, quo, rem, monic, gcd}
+use Rattle.bridge.specs.Model.{Model, Inverts, Oks, series, series-nil}
+use Rattle.bridge.specs.Trim.{below-length, trim-nil, size-is, lead-is}
 use Rattle.bridge.specs.Arithmetic.{series-add, series-mul}
 use Rattle.bridge.specs.Division.{series-quo-rem, rem-less, trim-rem}
-use Rattle.bridge.specs.Euclid.{divides-rem-none}
+use Rattle.bridge.specs.Monic.{trim-monic, length-monic}
+use Rattle.bridge.specs.Degree.{zero-size, monic-size}
+use Rattle.bridge.specs.Gcd.{gcd-zero, gcd-rule}
+use Rattle.bridge.specs.Bezout.{trim-gcd, oks-gcd}
+use Rattle.bridge.specs.Euclid.{divides-rem-none, gcd-is}
 use Rattle.bridge.specs.Prime.{Prime, odd-prime-more}
 use Rattle.bridge.specs.Residues.{pos, model, field, inverts, inverse-mul, to-path, to-val}
 use Rattle.demands.specs.Sentences.{AllowedPrime}
@@ -39,6 +44,16 @@ Division = (q : ℕ) → AllowedPrime q → (a b : List ℕ) → size (modulo q)
 
 abbrev pub Inverse : Type 0
 Inverse = (q : ℕ) → AllowedPrime q → (a : ℕ) → a % q ≢ 0 → (inverse q a * a) % q ≡ 1
+
+-- "The greatest common divisor of A and B is that of B and the remainder of A by B; it is A made monic where B is zero, and zero where both are. Greatest common divisors are monic."
+pub record GcdRule (q : ℕ) (a b : List ℕ) : Type 0 where
+  pub step : size (modulo q) b ≢ 0 → gcd (modulo q) a b ≡ gcd (modulo q) b (rem (modulo q) a b)
+  pub base : size (modulo q) b ≡ 0 → gcd (modulo q) a b ≡ monic (modulo q) a
+  pub none : size (modulo q) a ≡ 0 → size (modulo q) b ≡ 0 → gcd (modulo q) a b ≡ []
+  pub leads : gcd (modulo q) a b ≢ [] → lead (modulo q) (gcd (modulo q) a b) ≡ 1
+
+abbrev pub Euclid : Type 0
+Euclid = (q : ℕ) → AllowedPrime q → (a b : List ℕ) → GcdRule q a b
 
 -- ---- the proof
 module _ (q : ℕ) (p : Prime q) (more : 2 < q) where
@@ -75,8 +90,29 @@ module _ (q : ℕ) (p : Prime q) (more : 2 < q) where
       r : List ℕ
       r = rem (modulo q) a b
 
+  -- the leading coefficient of a monic list
+  pub lead-is-one : (l : List ℕ) {n : ℕ} → Oks M l → Monic K (series M l) n → lead (modulo q) l ≡ 1
+  lead-is-one l {n} k m = M .inj (lead (modulo q) l) 1 (subst (λ (a : ℕ). a < q) (sym (lead-is M l)) (k _)) (omega arith) (ap (M .φ) (lead-is M l) ∙ ap (series M l) (let e = monic-size K M l m in omega arith) ∙ m .top)
+
+  gcd-rules : (a b : List ℕ) → GcdRule q a b
+  gcd-rules a b = record {
+    step = λ some. gcd-rule M I a b (let e = size-is M b in omega arith);
+    base = zero;
+    none = λ e f. zero f ∙ sym (trim-monic M I a) ∙ trim-nil M (monic (modulo q) a) (let k = length-monic M I a in let l = size-is M a in let t = ap length (trim-monic M I a) in omega arith);
+    leads = λ some. lead-is-one (gcd (modulo q) a b) (oks-gcd M I a b) (gcd-monic K (gcd-is K M I a b) (λ e. some (sym (trim-gcd M I a b) ∙ zero-size K M (gcd (modulo q) a b) e)) .1);
+  }
+    where
+      I : Inverts M
+      I = inverts q (pos q p) p
+
+      zero : size (modulo q) b ≡ 0 → gcd (modulo q) a b ≡ monic (modulo q) a
+      zero f = gcd-zero M I a b (trim-nil M b (sym (size-is M b) ∙ f))
+
 pub division : Division
 division q r a b some = let o = prime-allowed q .1 r in divided q (o .prime) (odd-prime-more q o) a b some
 
 pub inverse-is : Inverse
 inverse-is q r a some = let p = prime-allowed q .1 r .prime in inverse-mul q (pos q p) p a (⊎-elim (λ e. absurd (some e)) (λ l. l) (eq-zero-or-pos (a % q)))
+
+pub euclid : Euclid
+euclid q r a b = let o = prime-allowed q .1 r in gcd-rules q (o .prime) (odd-prime-more q o) a b

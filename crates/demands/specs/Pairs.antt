@@ -2,7 +2,7 @@
 -- where none applies. The sentences have no test in them; "dividing" is said with a factor.
 use Prim.Native.Nat.{ℕ, zero, suc, _<_}
 use native.Mathlib.Omega.{arith}
-use mathlib.Core.Path.{_≡_, refl, sym, ap, ap₂, _∙_, subst}
+use mathlib.Core.Path.{_≡_, refl, sym, ap, ap₂, _∙_}
 use mathlib.Core.Logic.{_≢_, _⊎_, ⊎-elim}
 use mathlib.Core.Bool.{Bool, true, false, not, _&&_}
 use mathlib.Core.List.{List, []}
@@ -10,22 +10,22 @@ use lib.ListN.{length, getD}
 use borrow.Author.Tests.{eq-eqb, lt-ltb}
 use Rattle.ring.specs.Residues.{Fq}
 use Rattle.algebra.specs.Field.{Field}
-use Rattle.algebra.specs.Polynomial.{F, Monic}
+use Rattle.algebra.specs.Polynomial.{F}
 use Rattle.definitions.specs.Field.{modulo}
 use Rattle.definitions.specs.Polynomials.{trim, size, lead, sub, mul, rem}
 use Rattle.definitions.specs.Words.{someFrom}
 use Rattle.definitions.specs.Ticket.{Ticket, genus, ticketOf, refusalOf}
 use Rattle.definitions.specs.Walk.{Ideal}
 use Rattle.definitions.specs.Products.{ProductAnswer, GiantStepAnswer, isPair, wrongPair, wrongDistance, productDone, giantDone, productRefused, giantRefused, productAnswer, giantAnswer}
-use Rattle.bridge.specs.Model.{Model, Oks, series}
-use Rattle.bridge.specs.Trim.{size-is, size-le, lead-is}
+use Rattle.bridge.specs.Model.{Model, Oks}
+use Rattle.bridge.specs.Trim.{size-is, size-le}
 use Rattle.bridge.specs.Degree.{monic-size}
 use Rattle.bridge.specs.Residues.{pos, model, field}
 use Rattle.laws.specs.Admitted.{Admitted, admitted}
 use Rattle.laws.specs.Pairs.{IsIdeal}
 use Rattle.laws.specs.PairTest.{Passes, pair-passes, pair-q-below, pair-p-below, pair-ideal}
 use Rattle.demands.specs.Tests.{Tests, tests-lt, tests-not, tests-either, tests-none, tests-some}
-use Rattle.demands.specs.Arithmetic.{Divides, rem-divides, divides-rem}
+use Rattle.demands.specs.Arithmetic.{Divides, rem-divides, divides-rem, lead-is-one}
 
 -- Q is monic, deg P < deg Q, and Q divides D − P²
 pub record IsPair (q : ℕ) (D Q P : List ℕ) : Type 0 where
@@ -71,13 +71,9 @@ module _ {q g : ℕ} {D : List ℕ} (h : Admitted q g D) where
   pub exact : (l f : List ℕ) → rem (modulo q) l f ≡ [] → Divides q f l
   exact = rem-divides q (h .prime) (h .odd)
 
-  -- the leading coefficient of a monic list
-  pub lead-is-one : (l : List ℕ) {n : ℕ} → Oks M l → Monic K (series M l) n → lead (modulo q) l ≡ 1
-  lead-is-one l {n} k m = M .inj (lead (modulo q) l) 1 (subst (λ (a : ℕ). a < q) (sym (lead-is M l)) (k _)) (let e = h .odd in omega arith) (ap (M .φ) (lead-is M l) ∙ ap (series M l) (let e = monic-size K M l m in omega arith) ∙ m .top)
-
   pub is-pair : {s : Ideal ℕ} → Oks M (s .q) → IsIdeal K M D s → IsPair q D (s .q) (s .p)
   is-pair {s} k i = record {
-    monic = lead-is-one (s .q) k (i .monic);
+    monic = lead-is-one q (h .prime) (h .odd) (s .q) k (i .monic);
     less = let a = monic-size K M (s .q) (i .monic) in let b = size-le M (s .p) (i .κ) (i .low) in let c = size-is M (s .q) in let e = size-is M (s .p) in omega arith;
     divides = exact _ (s .q) (i .divides);
   }

@@ -37,10 +37,10 @@ use Rattle.laws.specs.Product as product
 use Rattle.laws.specs.Reduction.{next-divides, stated, Q-size, a-size, turns-first}
 use Rattle.laws.specs.Reduced.{reduced-ideal}
 use Rattle.laws.specs.Shift.{turns-few, shift-not-positive, shift-least}
-use Rattle.demands.specs.Arithmetic.{Divides}
+use Rattle.demands.specs.Arithmetic.{Divides, lead-is-one}
 use Rattle.demands.specs.Tests.{tests-none}
 use Rattle.demands.specs.Continued.{sumTo}
-use Rattle.demands.specs.Pairs.{IsPair, GivenPair, WrongDistance, exact, lead-is-one, is-pair, pairs-passed, tests-distances, product-by, giant-by}
+use Rattle.demands.specs.Pairs.{IsPair, GivenPair, WrongDistance, exact, is-pair, pairs-passed, tests-distances, product-by, giant-by}
 
 module _ (q : ℕ) where
   infixl 6 _⊕_ _⊖_
@@ -157,7 +157,7 @@ module _ {q g : ℕ} {D : List ℕ} (h : Admitted q g D) {x y : Ideal ℕ} (px :
 
   is-product : IsProduct q g D x y S Q₀ P₀
   is-product = record {
-    S-monic = lead-is-one h S (oks-gcd M I _ _) (common K M I D hx hy .monic);
+    S-monic = lead-is-one q (h .prime) (h .odd) S (oks-gcd M I _ _) (common K M I D hx hy .monic);
     S-first = exact h (x .q) S (S-divides K M I D hx hy .0);
     S-second = exact h (y .q) S (S-divides K M I D hx hy .1);
     S-sum = exact h _ S (S-divides K M I D hx hy .2);
