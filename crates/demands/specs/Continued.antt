@@ -5,9 +5,11 @@ use Prim.Native.Nat.{ℕ, zero, suc, _+_, _-_, _%_, _≤_, _<_}
 use native.Mathlib.Nat.{mod-eq-of-lt}
 use native.Mathlib.Omega.{arith}
 use mathlib.Core.Path.{_≡_, refl, sym, ap, ap₂, _∙_, subst}
+use mathlib.Core.Bool.{true, false}
 use mathlib.Core.Logic.{_≢_}
 use mathlib.Core.List.{List, [], _∷_}
 use mathlib.Core.Option.{Option, none, some}
+use lib.Dec.{eqb}
 use lib.ListN.{length, getD}
 use Rattle.algebra.specs.Field.{Field}
 use Rattle.algebra.specs.Polynomial.{F, Px, low-path}
@@ -15,7 +17,7 @@ use Rattle.algebra.specs.Root.{IsRoot, root-unique}
 use Rattle.ring.specs.Identity.{ring-from, times, quote}
 use Rattle.ring.specs.Series.{Series, addS, negS, conv}
 use Rattle.ring.specs.Residues.{Fq}
-use Rattle.definitions.specs.Field.{modulo}
+use Rattle.definitions.specs.Field.{Ops, modulo}
 use Rattle.definitions.specs.Polynomials.{size, deg, add, sub, mul, root}
 use Rattle.definitions.specs.Ticket.{Ticket, genus, ticketOf, refusalOf}
 use Rattle.definitions.specs.Walk.{quasiPeriod, degreeBefore, constantOf}
@@ -30,7 +32,8 @@ use Rattle.laws.specs.Surd.{Surd, Q-zero, Q-trim, a-trim, r-trim, r as remainde
 use Rattle.laws.specs.Fraction.{Q-some, Q-length, divide}
 use Rattle.laws.specs.Walk.{a-length, r-length}
 use Rattle.laws.specs.Convergents.{degree-zero, degree-suc}
-use Rattle.laws.specs.Signs.{signed, normOf}
+use Rattle.laws.specs.Signs.{normOf}
+use Rattle.laws.specs.Signs as signs
 use Rattle.laws.specs.Norms as norms
 use Rattle.laws.specs.QuasiPeriod.{Quasi, NoQuasi, Says, quasi-says, some-quasi}
 use Rattle.laws.specs.Admitted.{Admitted, surd-of, admitted}
@@ -40,6 +43,10 @@ use Rattle.demands.specs.LeastDegree.{Same}
 unfoldable pub sumTo : (ℕ → ℕ) → ℕ → ℕ
 sumTo f zero = 0
 sumTo f (suc i) = sumTo f i + f (suc i)
+
+-- (−1)^i times a polynomial
+unfoldable pub signed : Ops ℕ → ℕ → List ℕ → List ℕ
+signed o i l = elim (eqb (i % 2) 0) [ true ↦ l | false ↦ sub o [] l ]
 
 -- f is monic of degree g + 1, and D − f² has at most the degree g
 pub record RootOf (q g : ℕ) (D f : List ℕ) : Type 0 where
@@ -190,7 +197,7 @@ module _ {q g : ℕ} {D : List ℕ} (h : Admitted q g D) where
       omega arith
 
   continued : Continued q D d g
-  unfolding normOf degreeBefore rest
+  unfolding signed signs.signed normOf degreeBefore rest
   continued = record {
     root = root-of;
     root-only = only;
@@ -205,7 +212,7 @@ module _ {q g : ℕ} {D : List ℕ} (h : Admitted q g D) where
 
   -- ---- the outcomes
   stops : (b m : ℕ) → Quasi (modulo q) D d b m → StopsAt q D d b (degreeBefore (modulo q) D d m) m (constantOf (modulo q) D d m)
-  unfolding degreeBefore
+  unfolding signed signs.signed degreeBefore
   stops b m f = record {
     positive = f .positive;
     within = f .within;
