@@ -1,14 +1,14 @@
 -- An answer's outcome and the paper's number and values for each of its cases; the answer for a ticket past refusals 1 to 7.
 use Prim.Native.Nat.{ℕ, zero, suc}
-use mathlib.Core.Path.{_≡_, refl, ap}
+use mathlib.Core.Path.{_≡_, ap}
 use mathlib.Core.List.{List, [], _∷_}
-use mathlib.Core.Option.{Option, none, some}
+use mathlib.Core.Option.{none, some}
 use Rattle.definitions.specs.Field.{Ops, modulo}
 use Rattle.definitions.specs.Polynomials.{root}
 use Rattle.definitions.specs.Ticket.{Ticket, genus, ticketOf, refusalOf}
-use Rattle.definitions.specs.Walk.{Ideal, quasiPeriod, degreeBefore, constantOf}
+use Rattle.definitions.specs.Walk.{quasiPeriod, degreeBefore, constantOf}
 
--- "one of three outcomes: found with R, m, c; spent with its counts; refused with its number"
+-- "one of three outcomes: found with R, m, c; spent with its counts; refused with its number"; spent says that the budget is used up
 pub data Outcome : Type 0 where
   found : ℕ → ℕ → ℕ → Outcome
   spent : ℕ → ℕ → Outcome
@@ -44,7 +44,7 @@ opsOf t = modulo (t .q)
 unfoldable pub rootOf : Ticket → List ℕ
 rootOf t = root (opsOf t) (t .D) (suc (genus (t .n)))
 
--- "11: spent; the quasi-period m is above b. Carries the steps made, b, and the degree reached": no Q of index 1 to b is constant
+-- "11 (regulator, unit and listing): spent; the quasi-period m is above b. Carries the steps made, b, and the degree reached.": no Q of index 1 to b is constant
 unfoldable pub outcomeOf : Ticket → Outcome
 outcomeOf t =
     elim (quasiPeriod (opsOf t) (t .D) (rootOf t) (t .b)) [

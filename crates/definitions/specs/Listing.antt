@@ -1,6 +1,6 @@
 -- The call `listing`: the records of the reduced principal ideals, and the lent list at exit.
 use Prim.Native.Nat.{ℕ, zero, suc, _+_, _*_, _-_}
-use mathlib.Core.Bool.{Bool, true, false}
+use mathlib.Core.Bool.{true, false}
 use mathlib.Core.List.{List, [], _∷_, _++_, map}
 use lib.Dec.{leb}
 use lib.ListN.{length, drop}
@@ -25,7 +25,7 @@ pub record ListingAnswer : Type 0 where
 unfoldable pub idealOf : Ops ℕ → Ideal ℕ → Ideal ℕ
 idealOf o s = let m = monic o (s .q) in record { q = m; p = rem o (s .p) m }
 
--- "A record's mirror is R less its distance."
+-- "A record's mirror is R less its distance.": document 01's own term; it is not the distance of the conjugate ideal
 unfoldable pub mirrorOf : ℕ → Entry → ℕ
 mirrorOf R e = R - e .distance
 

@@ -1,6 +1,6 @@
 -- The call `lookup`: refusal 8, and the record of a listing at a distance, with its place in the list.
 use Prim.Native.Nat.{ℕ, zero, suc, _+_, _*_, _/_, _%_, _-_}
-use mathlib.Core.Bool.{Bool, true, false, not, _&&_, _||_}
+use mathlib.Core.Bool.{Bool, true, false, not, _||_}
 use mathlib.Core.List.{List, [], _∷_, _++_, map}
 use lib.Dec.{leb, ltb, eqb}
 use lib.ListN.{length, getD, take, drop, replicate}
@@ -33,7 +33,7 @@ module _ (l : List ℕ) (n : ℕ) where
   rising zero = true
   rising (suc k) = elim (rising k) [ true ↦ ltb (distanceAt k) (distanceAt (suc k)) | false ↦ false ]
 
-  -- "8: n is not allowed by 3, or the words aren't one or more whole records of the kinds below, or the first distance isn't 0, or distances don't strictly rise"
+  -- "8 (lookup only): n is not allowed by 3, or the words aren't one or more whole records of the kinds below, or the first distance isn't 0, or distances don't strictly rise"
   unfoldable pub wrongListing : Bool
   wrongListing =
       elim (wrongDegree n || eqb (length l) 0 || not (eqb (length l % (n + 4)) 0)) [

@@ -1,11 +1,10 @@
 -- The marked table, the printed example and the two sentences on list lengths, shown true of the definitions by one fact.
 -- A job is raw words and bytes; d, m and R are computed, and the records of rows 9 and 10 are cut out of the computed listing.
-use Prim.Native.Nat.{ℕ, zero, suc, _+_, _*_, _/_, _%_, _-_}
+use Prim.Native.Nat.{ℕ, suc, _+_, _/_, _%_, _-_}
 use mathlib.Core.Path.{_≡_, refl}
-use mathlib.Core.Bool.{Bool, true, false}
 use mathlib.Core.List.{List, [], _∷_, _++_, map}
 use lib.IntN.{ℤ, pos, negsuc}
-use lib.ListN.{length, getD, take, drop, replicate}
+use lib.ListN.{length, take, drop, replicate}
 use Rattle.definitions.specs.Field.{inverse, inverseIn}
 use Rattle.definitions.specs.Polynomials.{trim, size, deg, pad, zip, add, sub, scale, mul, lead, put, divide, quo, rem, monic, gcd, gcdIn, bezout, bezoutIn, times, timesFrom, derivative, monomial, root, rootIn}
 use Rattle.definitions.specs.Primes.{oddPrime, noDivisor}
@@ -13,14 +12,14 @@ use Rattle.definitions.specs.Words.{kind, value, word, high, low, joined
 use Rattle.definitions.specs.Ticket.{genus, ticketOf, wrongHead, wrongPrime, wrongDegree, laterKinds, wrongLayout, wrongCoefficient, wrongLead, notSquarefree, firstOf, testsOf, refusalOf}
 use Rattle.definitions.specs.Walk.{Ideal, partial, nextP, next, steps, walk, pBefore, sBefore, constant?, firstFrom, quasiPeriod, degreeBefore, unitOf, constantOf}
 use Rattle.definitions.specs.Answers.{Said, said, rootOf, outcomeOf, wordsOutcome, regulatorOf}
-use Rattle.definitions.specs.Units.{Lists, UnitAnswer, longEnough, written, unitLists, unitFrom, unitAnswer}
+use Rattle.definitions.specs.Units.{UnitAnswer, longEnough, written, unitLists, unitFrom, unitAnswer}
 use Rattle.definitions.specs.Listing.{ListingAnswer, idealOf, mirrorOf, recordWords, entryOf, recordOf, recordsFrom, listingOf, listingFrom, listingAnswer}
 use Rattle.definitions.specs.Lookup.{recordAt, distanceAt}
 use Rattle.definitions.specs.Products.{GiantStepAnswer, productOf, reducedFrom, turnsOf, degreeSum, shiftOf, isPair, wrongPair, wrongDistance, giantDone, giantRefused, giantAnswer}
 use Rattle.definitions.specs.Text.{ascii, decimal, decimalIn, spaced, line}
 use Rattle.definitions.specs.Program.{wordsOf, readBytes, cutWord, firstLine, recordLine, recordLines, answerLines, programOf}
 
--- what is asked: the words of a ticket, and for some calls lists of zeros of a length, two records of the ticket's own listing, or bytes
+-- what is asked: the words of a ticket, and for some calls lists of nines of a length, two records of the ticket's own listing, or bytes
 pub data Job : Type 0 where
   regulator : List ℕ → Job
   unit : List ℕ → ℕ → Job
@@ -55,10 +54,10 @@ giant w l i j = giantAnswer w (pairOf l i) (distanceAt l 4 (i - 1)) (pairOf l j)
 abbrev pub answerTo : Job → List (List ℕ)
 answerTo (regulator w) = saying (regulatorOf w) ∷ []
 answerTo (unit w k) =
-    let z : List ℕ = replicate k 0 in
+    let z : List ℕ = replicate k 9 in
     let r : UnitAnswer = unitAnswer w (record { first = z; second = z; third = z; fourth = z }) in
     saying (r .says) ∷ r .lists .first ∷ r .lists .second ∷ r .lists .third ∷ r .lists .fourth ∷ []
-answerTo (listing w k) = let r : ListingAnswer = listingAnswer w (replicate k 0) in saying (r .says) ∷ r .list ∷ []
+answerTo (listing w k) = let r : ListingAnswer = listingAnswer w (replicate k 9) in saying (r .says) ∷ r .list ∷ []
 answerTo (giant-step w i j) =
     let r : GiantStepAnswer = giant w (listingAnswer w (replicate 48 0) .list) i j in
     (r .number ∷ []) ∷ r .q ∷ r .p ∷ signed (r .f) ∷ signed (r .distance) ∷ []
@@ -80,8 +79,10 @@ jobs =
     ∷ regulator (ticket 9 (1 ∷ 1 ∷ 0 ∷ 0 ∷ 1 ∷ []) 6)
     ∷ giant-step (example 6) 3 3
     ∷ giant-step (example 6) 2 6
+    ∷ unit (example 6) 9
     ∷ unit (example 6) 7
     ∷ listing (example 6) 48
+    ∷ listing (example 6) 49
     ∷ listing (example 6) 47
     ∷ orders (bytes (example 6))
     ∷ []
@@ -89,6 +90,9 @@ jobs =
 -- a record's words of the example
 abbrev pub row : ℕ → ℕ → ℕ → ℕ → ℕ → ℕ → List ℕ
 row i δ μ q₀ q₁ p₀ = word 5 i ∷ word 6 0 ∷ word 7 δ ∷ word 10 0 ∷ word 11 μ ∷ word 8 q₀ ∷ word 8 q₁ ∷ word 9 p₀ ∷ []
+
+abbrev pub rows : List ℕ
+rows = row 1 0 7 1 0 0 ++ (row 2 2 5 1 1 1 ++ (row 3 3 4 0 1 1 ++ (row 4 4 3 2 1 0 ++ (row 5 5 2 0 1 2 ++ row 6 6 1 1 1 2))))
 
 abbrev pub printed : List (List (List ℕ))
 printed =
@@ -112,12 +116,16 @@ printed =
     ∷ ((0 ∷ []) ∷ (1 ∷ 1 ∷ []) ∷ (2 ∷ []) ∷ (0 ∷ 0 ∷ []) ∷ (0 ∷ 6 ∷ []) ∷ [])
     -- 10. Q = 1, P = 0, f = −1, distance 7
     ∷ ((0 ∷ []) ∷ (1 ∷ []) ∷ [] ∷ (1 ∷ 1 ∷ []) ∷ (0 ∷ 7 ∷ []) ∷ [])
-    -- "7 places are refusal 12"
-    ∷ ((12 ∷ []) ∷ replicate 7 0 ∷ replicate 7 0 ∷ replicate 7 0 ∷ replicate 7 0 ∷ [])
+    -- "Later places keep what they had"
+    ∷ ((0 ∷ 7 ∷ 6 ∷ 1 ∷ []) ∷ (1 ∷ 0 ∷ 2 ∷ 1 ∷ 1 ∷ 2 ∷ 2 ∷ 1 ∷ 9 ∷ []) ∷ (0 ∷ 1 ∷ 2 ∷ 2 ∷ 2 ∷ 1 ∷ 0 ∷ 0 ∷ 9 ∷ []) ∷ (replicate 8 0 ++ (9 ∷ [])) ∷ (replicate 8 0 ++ (9 ∷ [])) ∷ [])
+    -- "7 places are refusal 12"; "Lent lists keep every word"
+    ∷ ((12 ∷ []) ∷ replicate 7 9 ∷ replicate 7 9 ∷ replicate 7 9 ∷ replicate 7 9 ∷ [])
     -- "A listing of 48 words serves the ticket above"
-    ∷ ((0 ∷ 7 ∷ 6 ∷ 1 ∷ []) ∷ (row 1 0 7 1 0 0 ++ (row 2 2 5 1 1 1 ++ (row 3 3 4 0 1 1 ++ (row 4 4 3 2 1 0 ++ (row 5 5 2 0 1 2 ++ row 6 6 1 1 1 2))))) ∷ [])
-    -- "47 is 13"
-    ∷ ((13 ∷ []) ∷ replicate 47 0 ∷ [])
+    ∷ ((0 ∷ 7 ∷ 6 ∷ 1 ∷ []) ∷ rows ∷ [])
+    -- "Words past the last record are untouched."
+    ∷ ((0 ∷ 7 ∷ 6 ∷ 1 ∷ []) ∷ (rows ++ (9 ∷ [])) ∷ [])
+    -- "47 is 13"; "Lent lists keep every word"
+    ∷ ((13 ∷ []) ∷ replicate 47 9 ∷ [])
     -- the printed example
     ∷ (ascii "found 7 6 1\n1 0 7 1 0 0\n2 2 5 1 1 1\n3 3 4 0 1 1\n4 4 3 2 1 0\n5 5 2 0 1 2\n6 6 1 1 1 2\n" ∷ [])
     ∷ []

@@ -1,5 +1,5 @@
--- Polynomials as lists of coefficients, constant term first, over any coefficients. Every result has no zero at its end, so that the degree is the length less 1;
--- an argument may have zeros there: it means the same polynomial without them.
+-- Polynomials as lists of coefficients, constant term first, over any coefficients. Every sum, difference, product, quotient, remainder, gcd, derivative and d has no zero at
+-- its end, so that the degree is the length less 1; an argument may have zeros there: it means the same polynomial without them.
 use Prim.Native.Nat.{ℕ, zero, suc, _+_, _-_}
 use mathlib.Core.Bool.{Bool, true, false}
 use mathlib.Core.List.{List, [], _∷_, map}

@@ -38,7 +38,7 @@ module _ {A : Type 0} (o : Ops A) (D d : List A) (g : ℕ) where
   reducedFrom zero s j = j
   reducedFrom (suc k) s j = elim (leb (size o (steps o D d s j .q)) (suc g)) [ true ↦ j | false ↦ reducedFrom k s (suc j) ]
 
-  -- the degree of Q falls with each step, so that as many turns as Q has coefficients are enough
+  -- the degree of Q falls with each step until it is at most g, so that as many turns as Q has coefficients are enough
   unfoldable pub turnsOf : Ideal A → ℕ
   turnsOf s = reducedFrom (size o (s .q)) s 0
 

@@ -5,11 +5,11 @@ use mathlib.Core.List.{List, [], _∷_, _++_, map}
 use lib.Dec.{eqb}
 use lib.ListN.{length, getD, take, drop, replicate}
 use Rattle.definitions.specs.Words.{value, joined}
-use Rattle.definitions.specs.Ticket.{Ticket, ticketOf}
+use Rattle.definitions.specs.Ticket.{ticketOf}
 use Rattle.definitions.specs.Answers.{Said, said, refused}
 use Rattle.definitions.specs.Listing.{ListingAnswer, listingAnswer}
 use Rattle.definitions.specs.Lookup.{recordAt}
-use Rattle.definitions.specs.Text.{ascii, decimal, spaced, line}
+use Rattle.definitions.specs.Text.{ascii, decimal, line}
 
 -- "Reads words, low byte first": the whole words of some bytes
 unfoldable pub wordsOf : List ℕ → List ℕ

@@ -1,4 +1,4 @@
--- The walk: P, Q, a and the convergents p, s as functions of the index, over any coefficients.
+-- The walk, the expansion of √D as a continued fraction: P, Q, the partial quotients a and the convergents p, s as functions of the index, over any coefficients.
 use Prim.Native.Nat.{ℕ, zero, suc, _%_}
 use mathlib.Core.Bool.{Bool, true, false}
 use mathlib.Core.List.{List, [], _∷_}
@@ -48,13 +48,13 @@ module _ {A : Type 0} (o : Ops A) (D d : List A) where
   abbrev pub a : ℕ → List A
   a i = partial (walk i)
 
-  -- "Convergents: p_{−1} = 1, p_0 = d, then p_i = a_i·p_{i−1} + p_{i−2}": `pBefore i` is p_{i−1}
+  -- "Convergents: p_{−1} = 1, .. p_0 = d, .. then p_i = a_i·p_{i−1} + p_{i−2}": `pBefore i` is p_{i−1}
   unfoldable pub pBefore : ℕ → List A
   pBefore zero = o .one ∷ []
   pBefore (suc zero) = d
   pBefore (suc (suc i)) = add o (mul o (a (suc i)) (pBefore (suc i))) (pBefore i)
 
-  -- "s_{−1} = 0, s_0 = 1, and s_i likewise": `sBefore i` is s_{i−1}
+  -- "s_{−1} = 0, .. s_0 = 1, .. and s_i likewise": `sBefore i` is s_{i−1}
   unfoldable pub sBefore : ℕ → List A
   sBefore zero = []
   sBefore (suc zero) = o .one ∷ []
