@@ -13,3 +13,4 @@ pub mod Listings
 pub mod Products
 pub mod Example
 pub mod Written
+pub mod LentLists

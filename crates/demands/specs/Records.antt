@@ -34,7 +34,7 @@ unfolding joined high low
 joined-back x = div-add-mod' x 268435456
 
 -- ---- lists
-length-pad : (o : Ops ℕ) (k : ℕ) (l : List ℕ) → length (pad o k l) ≡ k
+pub length-pad : (o : Ops ℕ) (k : ℕ) (l : List ℕ) → length (pad o k l) ≡ k
 unfolding pad
 length-pad o zero l = refl
 length-pad o (suc k) [] = ap suc (length-pad o k [])
