@@ -26,9 +26,8 @@ use Rattle.bridge.specs.Bezout.{trim-gcd, oks-gcd}
 use Rattle.bridge.specs.Euclid.{divides-rem-none, gcd-is}
 use Rattle.bridge.specs.Prime.{Prime, odd-prime-more}
 use Rattle.bridge.specs.Residues.{pos, model, field, inverts, inverse-mul, to-path, to-val}
-use Rattle.demands.specs.Sentences.{AllowedPrime}
+use Rattle.demands.specs.Sentences.{AllowedPrime, Same}
 use Rattle.demands.specs.Readings.{prime-allowed}
-use Rattle.demands.specs.LeastDegree.{Same}
 
 -- f divides h: f·e = h for some e
 abbrev pub Divides : ℕ → List ℕ → List ℕ → Type 0

@@ -37,7 +37,7 @@ use Rattle.laws.specs.Signs as signs
 use Rattle.laws.specs.Norms as norms
 use Rattle.laws.specs.QuasiPeriod.{Quasi, NoQuasi, Says, quasi-says, some-quasi}
 use Rattle.laws.specs.Admitted.{Admitted, surd-of, admitted}
-use Rattle.demands.specs.LeastDegree.{Same}
+use Rattle.demands.specs.Sentences.{Same}
 
 -- f(1) + .. + f(i)
 unfoldable pub sumTo : (ℕ → ℕ) → ℕ → ℕ

@@ -2,14 +2,12 @@
 -- Each test is true exactly where its sentence applies, given that no sentence before it does.
 use Prim.Native.Nat.{ℕ, _+_, _≤_, _<_}
 use native.Mathlib.Omega.{arith}
-use mathlib.Core.Path.{_≡_, refl, sym, _∙_, subst}
-use mathlib.Core.Logic.{_↔_, inl, ⊎-elim}
+use mathlib.Core.Path.{_≡_, refl, _∙_}
+use mathlib.Core.Logic.{_↔_, inl}
 use mathlib.Core.List.{List}
-use lib.ListN.{length, getD, List·getD-eq-default}
-use Rattle.ring.specs.Order.{le-or-lt}
+use lib.ListN.{length}
 use Rattle.definitions.specs.Ticket.{ticketOf, testsOf, refusalOf, notSquarefree}
 use Rattle.bridge.specs.Prime.{OddPrime, odd-prime-true, prime-odd-prime, odd-prime-more}
-use Rattle.bridge.specs.Residues.{pos}
 use Rattle.demands.specs.Sentences.{q, n, D, coefficient, Applies, NotSquarefree}
 use Rattle.demands.specs.Tests.{Tests, tests-eq, tests-stable, NoneBelow, Numbered, end, _then_, Answers, first-of, answer-first, answer-none}
 use Rattle.demands.specs.Readings.{prime-allowed, tests-head, tests-prime, tests-degree, tests-layout, tests-coefficient, tests-lead, coefficient-at, length-D}
@@ -36,16 +34,12 @@ module _ (w : List ℕ) where
   unfolding Applies
   words k l none = tests-stable (tests-eq (length w) (n w + 5)) (λ h. none 4 (omega arith) l (inl h))
 
-  below : NoneBelow P 7 → (i : ℕ) → getD (D w) i 0 < q w
-  unfolding Applies
-  below none i = ⊎-elim (λ h. ⊎-elim (λ k. absurd (none 5 (omega arith) (omega arith) (i, h, k))) (λ k. subst (λ c. c < q w) (sym (coefficient-at w i h)) k) (le-or-lt (q w) (coefficient w i))) (λ h. subst (λ c. c < q w) (sym (List·getD-eq-default (D w) 0 (omega (arith, length-D w (words 7 (omega arith) none))))) (pos (q w) (prime none .prime))) (le-or-lt i (n w))
-
   lead : NoneBelow P 7 → coefficient w (n w) ≡ 1
   unfolding Applies
   lead none = tests-stable (tests-eq (coefficient w (n w)) 1) (λ h. none 6 (omega arith) (omega arith) h)
 
   tests-squarefree : NoneBelow P 7 → Tests (notSquarefree (q w) (D w)) (NotSquarefree w)
-  tests-squarefree none = tests-square (q w) (prime none .prime) (odd-prime-more (q w) (prime none)) (D w) (n w) (omega (arith, length-D w (words 7 (omega arith) none))) (coefficient-at w (n w) (omega arith) ∙ lead none) (below none)
+  tests-squarefree none = tests-square (q w) (prime none .prime) (odd-prime-more (q w) (prime none)) (D w) (n w) (omega (arith, length-D w (words 7 (omega arith) none))) (coefficient-at w (n w) (omega arith) ∙ lead none)
 
   numbered : Numbered P 1 (testsOf (ticketOf w) w)
   unfolding testsOf ticketOf Applies

@@ -7,7 +7,7 @@ use mathlib.Core.Path.{_≡_, refl, sym, ap, ap₂, _∙_, fun-ext}
 use mathlib.Core.Logic.{_≢_, _⊎_, inl, inr, ⊎-elim}
 use mathlib.Core.List.{List, [], _∷_}
 use mathlib.Core.Option.{Option, none, some}
-use lib.ListN.{length, getD}
+use lib.ListN.{length}
 use Rattle.ring.specs.Ring.{zer-add}
 use Rattle.ring.specs.Identity.{ring, quote}
 use Rattle.ring.specs.Series.{negS, conv, con, conv-con}
@@ -32,6 +32,7 @@ use Rattle.laws.specs.Norms.{unit-norm}
 use Rattle.laws.specs.QuasiPeriod.{Quasi, NoQuasi, Says, quasi-says}
 use Rattle.laws.specs.Solutions as solutions
 use Rattle.laws.specs.Admitted.{Admitted, surd-of, admitted}
+use Rattle.demands.specs.Sentences.{Same}
 
 -- p² − D·s² modulo q
 abbrev pub norm : ℕ → List ℕ → List ℕ → List ℕ → List ℕ
@@ -41,10 +42,6 @@ norm q D p s = sub (modulo q) (mul (modulo q) p p) (mul (modulo q) D (mul (modul
 pub record Solves (q : ℕ) (D p s : List ℕ) : Type 0 where
   pub some : size (modulo q) s ≢ 0
   pub constant : size (modulo q) (norm q D p s) ≡ 1
-
--- the same polynomial: each coefficient is the same modulo q
-abbrev pub Same : ℕ → List ℕ → List ℕ → Type 0
-Same q f h = (i : ℕ) → getD f i 0 % q ≡ getD h i 0 % q
 
 -- p and s are k times the unit's, for a k from 1 to q − 1, but s may have the other sign
 pub record Multiple (q : ℕ) (u : UnitPair ℕ) (p s : List ℕ) : Type 0 where

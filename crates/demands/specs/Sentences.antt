@@ -6,7 +6,7 @@ use mathlib.Core.Logic.{_≢_, _⊎_}
 use mathlib.Core.List.{List, [], _∷_, map}
 use lib.ListN.{length, getD, take, drop}
 use Rattle.definitions.specs.Field.{modulo}
-use Rattle.definitions.specs.Polynomials.{trim, size, mul}
+use Rattle.definitions.specs.Polynomials.{size, mul}
 use Rattle.definitions.specs.Words.{kind, value}
 
 module _ (w : List ℕ) where
@@ -37,12 +37,16 @@ pub record AllowedPrime (q : ℕ) : Type 0 where
   pub more : 1 < q
   pub divisors : (d : ℕ) → q % d ≡ 0 → (d ≡ 1) ⊎ (d ≡ q)
 
+-- the same polynomial: each coefficient is the same modulo q
+abbrev pub Same : ℕ → List ℕ → List ℕ → Type 0
+Same q f h = (i : ℕ) → getD f i 0 % q ≡ getD h i 0 % q
+
 -- D = h²·e modulo q with h of degree 1 or more; h and e are lists of any length, of any numbers
 pub record SquareDivides (q : ℕ) (D : List ℕ) : Type 0 where
   pub h : List ℕ
   pub e : List ℕ
   pub degree : 2 ≤ size (modulo q) h
-  pub product : trim (modulo q) D ≡ mul (modulo q) (mul (modulo q) h h) e
+  pub product : Same q D (mul (modulo q) (mul (modulo q) h h) e)
 
 module _ (w : List ℕ) where
   -- "1: fewer than 7 words, or word 0 isn't kind 1, or word 1 isn't kind 2"

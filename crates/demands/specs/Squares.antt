@@ -2,7 +2,7 @@
 -- The square factor is carried from lists to polynomials and back.
 use Prim.Native.Nat.{ℕ, suc, _-_ as _-ₙ_, _≤_, _<_}
 use native.Mathlib.Omega.{arith}
-use mathlib.Core.Path.{_≡_, refl, sym, ap, ap₂, _∙_, subst}
+use mathlib.Core.Path.{_≡_, refl, sym, ap, ap₂, _∙_, fun-ext, subst}
 use mathlib.Core.Logic.{_≢_, ⊎-elim, Iff·trans}
 use mathlib.Core.List.{List}
 use lib.ListN.{length, getD}
@@ -10,7 +10,7 @@ use Rattle.ring.specs.Order.{le-or-lt}
 use Rattle.ring.specs.Residues.{Fq, FqRing}
 use Rattle.ring.specs.Series.{conv}
 use Rattle.algebra.specs.Field.{Field}
-use Rattle.algebra.specs.Polynomial.{F, Deg, deg-path, deg-not-zero, monic-deg}
+use Rattle.algebra.specs.Polynomial.{F, Px, Deg, deg-path, deg-not-zero, monic-deg}
 use Rattle.algebra.specs.Gcd.{IsGcd, gcd-zero}
 use Rattle.algebra.specs.Derivative.{derivative as ∂}
 use Rattle.algebra.specs.Squarefree.{SquareFactor, square-gcd, gcd-square}
@@ -18,15 +18,15 @@ use Rattle.algebra.specs.Fermat.{perfect-residues}
 use Rattle.definitions.specs.Field.{modulo}
 use Rattle.definitions.specs.Polynomials.{trim, size, mul, gcd, derivative}
 use Rattle.definitions.specs.Ticket.{notSquarefree}
-use Rattle.bridge.specs.Model.{Model, Oks, series}
-use Rattle.bridge.specs.Trim.{below-length, length-trim, size-is, series-trim, series-ext, trim-idem, oks-trim}
-use Rattle.bridge.specs.Arithmetic.{series-mul, trim-mul, oks-mul}
+use Rattle.bridge.specs.Model.{Model, series}
+use Rattle.bridge.specs.Trim.{below-length, length-trim, size-is}
+use Rattle.bridge.specs.Arithmetic.{series-mul}
 use Rattle.bridge.specs.Degree.{series-deg, series-zero, series-monic-of, deg-size}
 use Rattle.bridge.specs.Coefficients.{coefficients, series-coefficients}
 use Rattle.bridge.specs.Derivative.{series-derivative}
 use Rattle.bridge.specs.Euclid.{gcd-is}
 use Rattle.bridge.specs.Prime.{Prime}
-use Rattle.bridge.specs.Residues.{pos, model, inverts, onto, field}
+use Rattle.bridge.specs.Residues.{pos, model, inverts, onto, field, to-path, to-val}
 use Rattle.demands.specs.Sentences.{SquareDivides}
 use Rattle.demands.specs.Tests.{Tests, tests-eq, tests-not}
 
@@ -48,16 +48,16 @@ module _ (q : ℕ) (p : Prime q) (more : 2 < q) where
       by = series M (s .e);
       size = length (s .e);
       low = below-length M (s .e);
-      is = sym (series-trim M D) ∙ ap (series M) (s .product) ∙ series-mul M (mul (modulo q) (s .h) (s .h)) (s .e) ∙ ap (λ f. conv (F K) f (series M (s .e))) (series-mul M (s .h) (s .h));
+      is = fun-ext (λ i. to-path q (pos q p) _ _ (s .product i)) ∙ series-mul M (mul (modulo q) (s .h) (s .h)) (s .e) ∙ ap (λ f. conv (F K) f (series M (s .e))) (series-mul M (s .h) (s .h));
     };
   }
 
-  square-lists : (D : List ℕ) → Oks M D → SquareFactor K (series M D) → SquareDivides q D
-  square-lists D low s = record {
+  square-lists : (D : List ℕ) → SquareFactor K (series M D) → SquareDivides q D
+  square-lists D s = record {
     h = h;
     e = e;
     degree = omega (arith, s .some, size-is M h, deg-size K M h (deg-path K (s .size) (sym h-is) (s .deg)));
-    product = series-ext M _ _ (trim-idem M D) (trim-mul M (mul (modulo q) h h) e) (oks-trim M D low) (oks-mul M (mul (modulo q) h h) e) same;
+    product = λ i. to-val q (pos q p) _ _ (ap (λ (u : Px K). u i) same);
   }
     where
       h : List ℕ
@@ -72,13 +72,13 @@ module _ (q : ℕ) (p : Prime q) (more : 2 < q) where
       e-is : series M e ≡ s .divides .by
       e-is = series-coefficients M (onto q p) (s .divides .by) (s .divides .size) (s .divides .low)
 
-      same : series M (trim (modulo q) D) ≡ series M (mul (modulo q) (mul (modulo q) h h) e)
-      same = series-trim M D ∙ s .divides .is ∙ sym (series-mul M (mul (modulo q) h h) e ∙ ap₂ (conv (F K)) (series-mul M h h ∙ ap (λ f. conv (F K) f f) h-is) e-is)
+      same : series M D ≡ series M (mul (modulo q) (mul (modulo q) h h) e)
+      same = s .divides .is ∙ sym (series-mul M (mul (modulo q) h h) e ∙ ap₂ (conv (F K)) (series-mul M h h ∙ ap (λ f. conv (F K) f f) h-is) e-is)
 
   -- ---- the gcd of D and D′ is not constant
-  pub tests-square : (D : List ℕ) (n : ℕ) → length D ≤ suc n → getD D n 0 ≡ 1 → ((i : ℕ) → getD D i 0 < q) → Tests (notSquarefree q D) (SquareDivides q D)
+  pub tests-square : (D : List ℕ) (n : ℕ) → length D ≤ suc n → getD D n 0 ≡ 1 → Tests (notSquarefree q D) (SquareDivides q D)
   unfolding notSquarefree
-  tests-square D n long lead low = Iff·trans (tests-not (tests-eq (size (modulo q) G) 1)) (λ h. square-lists D low (some h), λ s e. constant (square-gcd K d is (square-factor D s)) e)
+  tests-square D n long lead = Iff·trans (tests-not (tests-eq (size (modulo q) G) 1)) (λ h. square-lists D (some h), λ s e. constant (square-gcd K d is (square-factor D s)) e)
     where
       d : Deg K (series M D) n
       d = monic-deg K (series-monic-of K M D n (omega (arith, length-trim M D)) (ap (M .φ) lead))

@@ -20,7 +20,8 @@ use Rattle.bridge.specs.Arithmetic.{mul-cong, scale-cong}
 use Rattle.bridge.specs.Residues.{model, to-path}
 use Rattle.laws.specs.Convergents.{s-zero, p-length, s-length}
 use Rattle.laws.specs.Admitted.{Admitted, surd-of, admitted}
-use Rattle.demands.specs.LeastDegree.{norm, Same, Multiple, LeastFound, LeastIn, least-outcome}
+use Rattle.demands.specs.Sentences.{Same}
+use Rattle.demands.specs.LeastDegree.{norm, Multiple, LeastFound, LeastIn, least-outcome}
 
 -- places 0 to R of the first two lists
 abbrev pub unitIn : ℕ → Lists → UnitPair ℕ
