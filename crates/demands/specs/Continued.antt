@@ -37,7 +37,7 @@ use Rattle.laws.specs.Signs as signs
 use Rattle.laws.specs.Norms as norms
 use Rattle.laws.specs.QuasiPeriod.{Quasi, NoQuasi, Says, quasi-says, some-quasi}
 use Rattle.laws.specs.Admitted.{Admitted, surd-of, admitted}
-use Rattle.demands.specs.Sentences.{Same}
+use Rattle.demands.specs.Sentences.{Same, Operators, operators}
 
 -- f(1) + .. + f(i)
 unfoldable pub sumTo : (ℕ → ℕ) → ℕ → ℕ
@@ -55,17 +55,10 @@ pub record RootOf (q g : ℕ) (D f : List ℕ) : Type 0 where
   pub near : size (modulo q) (sub (modulo q) D (mul (modulo q) f f)) ≤ suc g
 
 module _ (q : ℕ) (D d : List ℕ) where
+  open Operators (operators q) using (plus as _⊕_, minus as _⊖_, times as _⊗_)
+
   infixl 6 _⊕_ _⊖_
   infixl 7 _⊗_
-  abbrev _⊕_ : List ℕ → List ℕ → List ℕ
-  f ⊕ h = add (modulo q) f h
-
-  abbrev _⊖_ : List ℕ → List ℕ → List ℕ
-  f ⊖ h = sub (modulo q) f h
-
-  abbrev _⊗_ : List ℕ → List ℕ → List ℕ
-  f ⊗ h = mul (modulo q) f h
-
   abbrev Q : ℕ → List ℕ
   Q = walk.Q (modulo q) D d
 

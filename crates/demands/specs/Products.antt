@@ -14,7 +14,7 @@ use Rattle.surd.specs.Step.{State}
 use Rattle.ring.specs.Residues.{Fq}
 use Rattle.ring.specs.Series.{addS, conv}
 use Rattle.definitions.specs.Field.{modulo}
-use Rattle.definitions.specs.Polynomials.{size, deg, lead, add, sub, mul, quo, rem, monic, root}
+use Rattle.definitions.specs.Polynomials.{size, deg, lead, quo, rem, monic, root}
 use Rattle.definitions.specs.Ticket.{Ticket, genus, ticketOf, refusalOf}
 use Rattle.definitions.specs.Walk.{Ideal, partial, steps}
 use Rattle.definitions.specs.Answers.{opsOf, rootOf}
@@ -37,23 +37,17 @@ use Rattle.laws.specs.Product as product
 use Rattle.laws.specs.Reduction.{next-divides, stated, Q-size, a-size, turns-first}
 use Rattle.laws.specs.Reduced.{reduced-ideal}
 use Rattle.laws.specs.Shift.{turns-few, shift-not-positive, shift-least}
+use Rattle.demands.specs.Sentences.{Operators, operators}
 use Rattle.demands.specs.Arithmetic.{Divides, lead-is-one}
 use Rattle.demands.specs.Tests.{tests-none}
 use Rattle.demands.specs.Continued.{sumTo}
 use Rattle.demands.specs.Pairs.{IsPair, GivenPair, WrongDistance, exact, is-pair, pairs-passed, tests-distances, product-by, giant-by}
 
 module _ (q : ℕ) where
+  open Operators (operators q) using (plus as _⊕_, minus as _⊖_, times as _⊗_)
+
   infixl 6 _⊕_ _⊖_
   infixl 7 _⊗_
-  abbrev _⊕_ : List ℕ → List ℕ → List ℕ
-  f ⊕ h = add (modulo q) f h
-
-  abbrev _⊖_ : List ℕ → List ℕ → List ℕ
-  f ⊖ h = sub (modulo q) f h
-
-  abbrev _⊗_ : List ℕ → List ℕ → List ℕ
-  f ⊗ h = mul (modulo q) f h
-
   -- S = U·Q_1 + V·Q_2 + W·(P_1 + P_2)
   abbrev pub Combines : Ideal ℕ → Ideal ℕ → List ℕ → List ℕ → List ℕ → List ℕ → Type 0
   Combines x y S u v w = S ≡ u ⊗ x .q ⊕ v ⊗ y .q ⊕ w ⊗ (x .p ⊕ y .p)

@@ -6,7 +6,7 @@ use mathlib.Core.Logic.{_≢_, _⊎_}
 use mathlib.Core.List.{List, [], _∷_, map}
 use lib.ListN.{length, getD, take, drop}
 use Rattle.definitions.specs.Field.{modulo}
-use Rattle.definitions.specs.Polynomials.{size, mul}
+use Rattle.definitions.specs.Polynomials.{size, add, sub, mul}
 use Rattle.definitions.specs.Words.{kind, value}
 
 module _ (w : List ℕ) where
@@ -40,6 +40,15 @@ pub record AllowedPrime (q : ℕ) : Type 0 where
 -- the same polynomial: each coefficient is the same modulo q
 abbrev pub Same : ℕ → List ℕ → List ℕ → Type 0
 Same q f h = (i : ℕ) → getD f i 0 % q ≡ getD h i 0 % q
+
+-- sum, difference and product of polynomials modulo q, for infix names
+pub record Operators : Type 0 where
+  pub plus : List ℕ → List ℕ → List ℕ
+  pub minus : List ℕ → List ℕ → List ℕ
+  pub times : List ℕ → List ℕ → List ℕ
+
+abbrev pub operators : ℕ → Operators
+operators q = record { plus = add (modulo q); minus = sub (modulo q); times = mul (modulo q) }
 
 -- D = h²·e modulo q with h of degree 1 or more; h and e are lists of any length, of any numbers
 pub record SquareDivides (q : ℕ) (D : List ℕ) : Type 0 where
