@@ -38,7 +38,7 @@ use Rattle.demands.specs.Lookups.{WrongListing, tests-listing}
 use Rattle.demands.specs.Pairs.{IsPair, is-pair}
 use Rattle.demands.specs.Records.{kinds-record, count-listing, length-listing, whole-listing, record-listing, distance-listing, kinds-listing, rising-listing}
 
--- record j + 1: each number fits into its words, no coefficient is left out, and the distance is at most R
+-- record j + 1: each number fits into its words of 28 bits, no coefficient is left out, mirror and distance make up R, and the pair is an ideal
 pub record RecordHolds (t : Ticket) (R j : ℕ) : Type 0 where
   pub index-fits : entryOf t j .index < 268435456
   pub distance-fits : high (entryOf t j .distance) < 268435456

@@ -49,7 +49,7 @@ WrongPair t x y = (¬ GivenPair t x) ⊎ (¬ GivenPair t y)
 abbrev pub WrongDistance : ℕ → ℕ → Type 0
 WrongDistance d e = (1099511627776 < d) ⊎ (1099511627776 < e)
 
--- "Tested in this order; the first that applies is returned." Of the words T1 speaks.
+-- "Tested in this order; the first that applies is returned.": the words' refusal, which T1 tells, then 9, then 10
 pub record PairRefusals (w : List ℕ) (x : Ideal ℕ) (d : ℕ) (y : Ideal ℕ) (e : ℕ) : Type 0 where
   pub words : refusalOf w ≢ 0 → (productAnswer w x y .number ≡ refusalOf w) × (giantAnswer w x d y e .number ≡ refusalOf w)
   pub pairs : refusalOf w ≡ 0 → WrongPair (ticketOf w) x y → (productAnswer w x y .number ≡ 9) × (giantAnswer w x d y e .number ≡ 9)
