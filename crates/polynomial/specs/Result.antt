@@ -18,7 +18,7 @@ use Rattle.bridge.specs.Prime.{Prime}
 use Rattle.bridge.specs.Residues.{model, inverts}
 use Rattle.polynomial.specs.Record.{poly, Held, Is}
 use Rattle.polynomial.specs.Held.{held-positive, length-poly, is-poly, is-held}
-use Rattle.polynomial.specs.Places.{Top}
+use Rattle.places.specs.Places.{Top}
 use Rattle.polynomial.specs.Linear.{is-result}
 
 pub record Result (q : ℕ) (c : List ℕ) (size : ℕ) (l : List ℕ) : Type 0 where

@@ -4,7 +4,7 @@ use Prim.Native.Nat.{ℕ, _<_}
 use native.Mathlib.Omega.{arith}
 use Rattle.bridge.specs.Residues.{inverse-lt}
 use Rattle.polynomial.specs.Held.{held-length, held-positive}
-use Rattle.polynomial.specs.Places.{at-zeros}
+use Rattle.places.specs.Places.{at-zeros}
 use Rattle.polynomial.specs.Linear.{held-within}
 use Rattle.polynomial.specs.Division.{quo-past, rem-past, is-quo, is-rem}
 use borrow.Author.Needs.{needs}
