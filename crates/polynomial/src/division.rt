@@ -1,8 +1,11 @@
 // Division with remainder.
-ghost use Prim.Native.Nat.{_<_};
+ghost use mathlib.Core.Path.{_≡_};
+ghost use Prim.Native.Nat.{ℕ, _<_, _≤_, _%_};
+ghost use lib.ListN.{getD};
 ghost use Rattle.definitions.specs.Field.{modulo};
 ghost use Rattle.definitions.specs.Polynomials.{quo as quoOf, rem as remOf};
 ghost use Rattle.bridge.specs.Prime.{Prime};
+ghost use Rattle.places.specs.Places.{Places, Top};
 ghost use Rattle.polynomial.specs.Record.{poly, Held, Is};
 use crate::Poly;
 use crate::linear::zero;
@@ -15,6 +18,18 @@ use places::linear::top;
 pub struct Split {
     pub quo: Poly,
     pub rem: Poly,
+}
+
+// x modulo q, whose places from n on are 0 modulo q.
+fn residue(f: Field, x: &[u32; 129], n: usize) -> Poly
+    requires { ⌜ (0 < f .q) × (n ≤ 129) ⌝ }
+    requires { ⌜ ((i : ℕ) → n ≤ i → getD (now x) i 0 % f .q ≡ 0) ⌝ }
+    ensures { λ r. ⌜ Places (r .c) (λ i. getD (now (x .entry)) i 0 % f .q) × Top (r .c) (r .size) ⌝ }
+{
+    let mut c = [0u32; 129];
+    reduce_places(f, x, n, &mut c);
+    let size = top(&c, n);
+    Poly { c, size }
 }
 
 // Division by a polynomial that is not 0.
@@ -31,14 +46,10 @@ pub fn div_by(f: Field, a: Poly, b: Poly) -> Split
     let mut x = a.c;
     let mut z = [0u32; 129];
     let t = clear(f, u, &mut x, &y, &mut z, a.size, n);
-    let mut w = [0u32; 129];
-    reduce_places(f, &x, n - 1, &mut w);
-    let s = top(&z, t);
-    let r = top(&w, n - 1);
-    Split {
-        quo: Poly { c: z, size: s },
-        rem: Poly { c: w, size: r },
-    }
+    let size = top(&z, t);
+    let quo = Poly { c: z, size };
+    let rem = residue(f, &x, n - 1);
+    Split { quo, rem }
 }
 
 // Division with remainder; by 0 the quotient is 0 and the remainder is a.
