@@ -5,7 +5,6 @@ use native.Mathlib.Omega.{arith}
 use mathlib.Core.Path.{_≡_, refl, sym, ap, _∙_}
 use mathlib.Core.Bool.{Bool, true, false}
 use mathlib.Core.List.{List, [], _∷_}
-use lib.ListN.{length}
 use Rattle.ring.specs.Ring.{CRing}
 use Rattle.ring.specs.Identity.{ring-from, times, quote}
 use Rattle.ring.specs.Series.{Series}
@@ -17,7 +16,6 @@ use Rattle.definitions.specs.Polynomials.{at, keep, cons, trim, add, sub, mul, 
 use Rattle.bridge.specs.Model.{Model, Inverts, Oks, series}
 use Rattle.bridge.specs.Trim.{Trim}
 use Rattle.bridge.specs.Arithmetic.{oks-add, trim-add, series-add, series-sub, series-mul}
-use Rattle.bridge.specs.Degree.{monic-size}
 
 module _ {A B : Type 0} {o : Ops A} (K : Field B) (M : Model o (K .scalars)) (I : Inverts M) where
   open CRing (Series (F K)) using (add as _+_, mul as _*_, neg as -_)
@@ -136,6 +134,3 @@ module _ {A B : Type 0} {o : Ops A} (K : Field B) (M : Model o (K .scalars)) (I 
   pub oks-root : (D : List A) (n : ℕ) → Oks M (root o D n)
   unfolding root
   oks-root D n = oks-turns D n n (monomial o (o .one) n) (oks-one n)
-
-  pub length-root : (D : List A) (n : ℕ) → Monic K (series M D) (n +ₙ n) → length (root o D n) ≡ suc n
-  length-root D n lead = sym (ap length (trim-root D n)) ∙ monic-size K M (root o D n) (root-is D n lead .monic)

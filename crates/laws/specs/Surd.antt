@@ -113,9 +113,6 @@ module _ {A B : Type 0} {o : Ops A} {K : Field B} {M : Model o (F K)} {g : ℕ} 
   pub a-trim : (i : ℕ) → Trim M (a i)
   a-trim i = subst (Trim M) (sym (a-is i)) (trim-quo M (add o (P i) d) (Q i))
 
-  pub a-oks : (i : ℕ) → Oks M (a i)
-  a-oks i = subst (Oks M) (sym (a-is i)) (oks-quo M (add o (P i) d) (Q i))
-
   pub r-trim : (i : ℕ) → Trim M (r i)
   r-trim i = trim-rem M (add o (P i) d) (Q i)
 

@@ -1,6 +1,5 @@
 -- The places modulo q, with their size.
 use mathlib.Core.Path.{_∙_}
-use borrow.Author.Needs.{needs}
 use Rattle.polynomial.proofs.division.residue.Statement.{statement}
 use Rattle.polynomial.proofs.division.residue.Tie as tie
 
