@@ -1,6 +1,6 @@
 -- The binomial theorem over a commutative ring, with the coefficients in the ring and by Pascal's rule.
 -- A sum of a^j b^(n - j) over j is the coefficient at n of a product of two series, so no sum is defined here.
-use Prim.Native.Nat.{ℕ, zero, suc, _≤_, _<_}
+use Prim.Native.Nat.{ℕ, zero, suc, _<_}
 use native.Mathlib.Omega.{arith}
 use mathlib.Core.Path.{_≡_, refl, ap, ap₂, _∙_, fun-ext}
 use mathlib.Core.List.{[], _∷_}

@@ -10,7 +10,7 @@ use Rattle.ring.specs.Series.{Series, addS, negS, con}
 use Rattle.ring.specs.Degree.{lead-conv}
 use Rattle.ring.specs.Division.{Quotient, divide}
 use Rattle.algebra.specs.Field.{Field}
-use Rattle.algebra.specs.Polynomial.{F, Px, _≺_ as Low, Deg, equal?, low-up, low-add, low-neg, low-sub, low-zero, low-scale, low-path, low-quotient, cancel, deg-dominant, deg-factor, deg-path, con-inv}
+use Rattle.algebra.specs.Polynomial.{F, Px, _≺_ as Low, Deg, equal?, low-up, low-add, low-neg, low-sub, low-zero, low-scale, cancel, deg-dominant, deg-factor, deg-path, con-inv}
 use Rattle.algebra.specs.Divides.{Divides, divides-zero, divides-sub, divides-multiple, divides-path, rigid}
 
 module _ {A : Type 0} (K : Field A) where
@@ -79,13 +79,6 @@ module _ {A : Type 0} (K : Field A) where
       where
         s : Division f g n d
         s = division n f g d h t
-
-    -- the quotient's bound
-    pub quotient-low : {f : Px K} {k : ℕ} (n : ℕ) → f ≺ n → (a : Division f g k d) → a .quo ≺ n -ₙ d
-    quotient-low {f} {k} n h a = low-quotient K k (a .quo) g (n -ₙ d) d t (a .quo-low) (low-path K ((n -ₙ d) +ₙ d) is (low-sub K f (a .rem) _ (low-up K f (omega arith) h) (low-up K (a .rem) (omega arith) (a .rem-low))))
-      where
-        is : f - a .rem ≡ a .quo * g
-        is = ring-from R[x] (f ∷ a .quo ∷ a .rem ∷ g ∷ []) (times R[x] 𝟙 (a .is)) (search quote depth 40 fits 9999) tt
 
     -- ---- the quotient's degree and leading coefficient
     module _ {f : Px K} {m n : ℕ} (u : Deg K f m) (le : d ≤ m) (a : Division f g n d) where

@@ -1,7 +1,6 @@
 pub mod Associate
 pub mod Binomial
 pub mod Characteristic
-pub mod Coprime
 pub mod Derivative
 pub mod Divides
 pub mod Division
@@ -9,7 +8,6 @@ pub mod Fermat
 pub mod Field
 pub mod Frobenius
 pub mod Gcd
-pub mod GcdSize
 pub mod Multiple
 pub mod Polynomial
 pub mod PowerRoot

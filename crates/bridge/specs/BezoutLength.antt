@@ -86,7 +86,3 @@ module _ {A B : Type 0} {o : Ops A} {R : CRing B} (M : Model o R) (I : Inverts M
 
   pub bezout-v-length : (a b : List A) (n : ℕ) → 1 ≤ n → length (trim o a) ≤ suc n → length (bezout o a b .v) ≤ n
   bezout-v-length a b = short a b .v-short
-
-  -- the product that a step takes off
-  pub bezout-product-length : (a b : List A) (n : ℕ) → 0 < length (trim o b) → length (trim o a) ≤ suc n → length (mul o (quo o a b) (bezout o b (rem o a b) .v)) ≤ n
-  bezout-product-length a b n h l = product-le a b h (bezout o b (rem o a b)) (short b (rem o a b)) n l

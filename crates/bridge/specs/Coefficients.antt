@@ -7,7 +7,7 @@ use Rattle.ring.specs.Ring.{CRing}
 use Rattle.ring.specs.Series.{S, tail}
 use Rattle.ring.specs.Degree.{Below}
 use Rattle.definitions.specs.Field.{Ops}
-use Rattle.bridge.specs.Model.{Model, Oks, series}
+use Rattle.bridge.specs.Model.{Model, series}
 
 -- each element b of the ring is that of the coefficient `back b`
 pub record Onto {A B : Type 0} {o : Ops A} {R : CRing B} (M : Model o R) : Type 0 where
@@ -29,12 +29,6 @@ module _ {A B : Type 0} {o : Ops A} {R : CRing B} (M : Model o R) (T : Onto M) w
 
   pub series-coefficients : (f : S R) (n : ℕ) → Below R f n → series M (coefficients f n) ≡ f
   series-coefficients f n h = fun-ext (coefficients-at f n h)
-
-  pub oks-coefficients : (f : S R) (n : ℕ) → Oks M (coefficients f n)
-  unfolding coefficients
-  oks-coefficients f zero i = M .ok-zer
-  oks-coefficients f (suc n) zero = T .ok-back (f 0)
-  oks-coefficients f (suc n) (suc i) = oks-coefficients (tail R f) n i
 
   pub length-coefficients : (f : S R) (n : ℕ) → length (coefficients f n) ≡ n
   unfolding coefficients

@@ -13,7 +13,7 @@ use Rattle.algebra.specs.Derivative.{derivative as derivativeOf, derivative-at}
 use Rattle.definitions.specs.Field.{Ops}
 use Rattle.definitions.specs.Polynomials.{at, trim, times, timesFrom, derivative}
 use Rattle.bridge.specs.Model.{Model, Oks, series}
-use Rattle.bridge.specs.Trim.{Trim, trim-idem, oks-trim, series-trim, below-size, length-le, series-ext}
+use Rattle.bridge.specs.Trim.{Trim, trim-idem, oks-trim, series-trim, below-size, length-le}
 
 module _ {A B : Type 0} {o : Ops A} {R : CRing B} (M : Model o R) where
   open Model M using (φ, φ-zer, φ-add, Ok, ok-zer, ok-add)
@@ -57,6 +57,3 @@ module _ {A B : Type 0} {o : Ops A} {R : CRing B} (M : Model o R) where
 
   pub length-derivative : (p : List A) → length (derivative o p) ≤ length (trim o p) -ₙ 1
   length-derivative p = length-le M _ _ (trim-derivative p) (λ i h. ap (λ (f : S R). f i) (series-derivative p) ∙ derivative-at R (series M p) i ∙ ap (R .mul _) (below-size M p (suc i) (omega arith)) ∙ mul-zer R _)
-
-  pub derivative-cong : (p q : List A) → series M p ≡ series M q → derivative o p ≡ derivative o q
-  derivative-cong p q e = series-ext M _ _ (trim-derivative p) (trim-derivative q) (oks-derivative p) (oks-derivative q) (series-derivative p ∙ ap (derivativeOf R) e ∙ sym (series-derivative q))

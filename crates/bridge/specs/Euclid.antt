@@ -7,15 +7,15 @@ use mathlib.Core.List.{List, [], _∷_}
 use lib.ListN.{length}
 use Rattle.ring.specs.Identity.{ring, ring-from, times, plus, quote}
 use Rattle.ring.specs.Order.{le-or-lt}
-use Rattle.ring.specs.Series.{Series, addS, conv, zerS, con}
+use Rattle.ring.specs.Series.{Series, conv, zerS, con}
 use Rattle.algebra.specs.Field.{Field}
-use Rattle.algebra.specs.Polynomial.{F, Px}
+use Rattle.algebra.specs.Polynomial.{F}
 use Rattle.algebra.specs.Divides.{Divides}
 use Rattle.algebra.specs.Division.{Division, quotient-deg}
-use Rattle.algebra.specs.Gcd.{IsGcd, gcd-base-zero, gcd-base, gcd-step, gcd-unique}
+use Rattle.algebra.specs.Gcd.{IsGcd, gcd-base-zero, gcd-base, gcd-step}
 use Rattle.definitions.specs.Field.{Ops}
 use Rattle.definitions.specs.Polynomials.{trim, lead, quo, rem, monic, gcd}
-use Rattle.bridge.specs.Model.{Model, Inverts, series, series-nil}
+use Rattle.bridge.specs.Model.{Model, Inverts, series}
 use Rattle.bridge.specs.Trim.{below-length, trim-nil, lead-is, lead-some}
 use Rattle.bridge.specs.Division.{series-quo-rem, rem-below, rem-less, rem-by-zero, trim-rem, trim-quo}
 use Rattle.bridge.specs.Quotient.{quo-length, quo-exact}
@@ -51,14 +51,6 @@ module _ {A B : Type 0} {o : Ops A} (K : Field B) (M : Model o (K .scalars)) (I 
           omega arith
 
   -- ---- divisibility: the remainder is 0
-  pub rem-none-divides : (a b : List A) → rem o a b ≡ [] → Divides K (series M b) (series M a)
-  rem-none-divides a b e = record {
-    by = series M (quo o a b);
-    size = length (quo o a b);
-    low = below-length M (quo o a b);
-    is = series-quo-rem M a b ∙ ap (addS (F K) (conv (F K) (series M (quo o a b)) (series M b))) (ap (series M) e ∙ series-nil M) ∙ ring (Series (F K)) (series M (quo o a b) ∷ series M b ∷ []) (search quote depth 40 fits 9999) tt;
-  }
-
   pub divides-rem-none : (a b : List A) → Divides K (series M b) (series M a) → rem o a b ≡ []
   divides-rem-none a b d = ⊎-elim some none (le-or-lt 1 (length (trim o b)))
     where
@@ -106,7 +98,3 @@ module _ {A B : Type 0} {o : Ops A} (K : Field B) (M : Model o (K .scalars)) (I 
 
   pub gcd-is : (a b : List A) → IsGcd K (series M a) (series M b) (series M (gcd o a b))
   gcd-is a b = gcd-turns (suc (length (trim o b))) a b (omega arith)
-
-  -- there is no other
-  pub gcd-only : (a b : List A) (g : Px K) → IsGcd K (series M a) (series M b) g → series M (gcd o a b) ≡ g
-  gcd-only a b g i = gcd-unique K (gcd-is a b) i

@@ -1,5 +1,5 @@
 -- How long the results are: a bound on the degree gives a bound on the length, as no result has a zero at its end.
-use Prim.Native.Nat.{ℕ, zero, suc, _+_ as _+ₙ_, _≤_}
+use Prim.Native.Nat.{ℕ, suc, _+_ as _+ₙ_, _≤_}
 use native.Mathlib.Omega.{arith}
 use mathlib.Core.Path.{_≡_, sym, ap, _∙_, subst}
 use mathlib.Core.List.{List}
@@ -8,7 +8,7 @@ use Rattle.ring.specs.Ring.{CRing, mul-zer, neg-zer}
 use Rattle.ring.specs.Series.{S, negS}
 use Rattle.ring.specs.Degree.{Below, below-add, below-conv, conv-none}
 use Rattle.definitions.specs.Field.{Ops}
-use Rattle.definitions.specs.Polynomials.{at, trim, add, sub, scale, mul}
+use Rattle.definitions.specs.Polynomials.{trim, add, sub, scale, mul}
 use Rattle.bridge.specs.Model.{Model, series}
 use Rattle.bridge.specs.Trim.{below-size, length-le}
 use Rattle.bridge.specs.Arithmetic.{at-scale, trim-add, trim-sub, trim-scale, trim-mul, series-add, series-sub, series-mul}

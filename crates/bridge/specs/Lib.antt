@@ -10,6 +10,7 @@ pub mod Gcd
 pub mod Lengths
 pub mod Model
 pub mod Monic
+pub mod One
 pub mod Prime
 pub mod Product
 pub mod Quotient

@@ -4,7 +4,7 @@ use Prim.Native.Nat.{ℕ}
 use mathlib.Core.Path.{_≡_, refl, sym, ap, _∙_, fun-ext}
 use mathlib.Core.Bool.{Bool, true, false}
 use mathlib.Core.List.{List, []}
-use Rattle.ring.specs.Ring.{CRing, mul-zer, zer-mul, neg-zer}
+use Rattle.ring.specs.Ring.{CRing, mul-zer}
 use Rattle.ring.specs.Series.{S, zerS}
 use Rattle.definitions.specs.Field.{Ops}
 use Rattle.definitions.specs.Polynomials.{at}
@@ -64,11 +64,5 @@ module _ {A B : Type 0} {o : Ops A} {R : CRing B} (M : Model o R) where
   pub mul-by-zer : (c : A) → o .mul c (o .zer) ≡ o .zer
   mul-by-zer c = inj _ _ (ok-mul _ _) ok-zer (φ-mul _ _ ∙ ap (R .mul (φ c)) φ-zer ∙ mul-zer R (φ c) ∙ sym φ-zer)
 
-  pub zer-by-mul : (c : A) → o .mul (o .zer) c ≡ o .zer
-  zer-by-mul c = inj _ _ (ok-mul _ _) ok-zer (φ-mul _ _ ∙ ap (λ u. R .mul u (φ c)) φ-zer ∙ zer-mul R (φ c) ∙ sym φ-zer)
-
   pub add-zer-right : (a : A) → Ok a → o .add a (o .zer) ≡ a
   add-zer-right a k = inj _ _ (ok-add _ _) k (φ-add _ _ ∙ ap (R .add (φ a)) φ-zer ∙ R .add-zer (φ a))
-
-  pub sub-zer-right : (a : A) → Ok a → o .sub a (o .zer) ≡ a
-  sub-zer-right a k = inj _ _ (ok-sub _ _) k (φ-sub _ _ ∙ ap (λ u. R .add (φ a) (R .neg u)) φ-zer ∙ ap (R .add (φ a)) (neg-zer R) ∙ R .add-zer (φ a))

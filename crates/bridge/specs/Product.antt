@@ -49,10 +49,6 @@ unfoldable pub rows : List ℕ → List ℕ → ℕ → ℕ → ℕ
 rows a b zero k = 0
 rows a b (suc n) k = rows a b n k + getD a n 0 * shifted b n k
 
-pub rows-more : (a b : List ℕ) (n k : ℕ) → rows a b (n + 1) k ≡ rows a b n k + getD a n 0 * shifted b n k
-unfolding rows
-rows-more a b n k = rw add-one
-
 -- ---- no sum is past n terms of m·m, where no coefficient is past m
 pub dots-bound : (a b : List ℕ) (m : ℕ) → ((i : ℕ) → getD a i 0 ≤ m) → ((i : ℕ) → getD b i 0 ≤ m) → (k n : ℕ) → dots a b k n ≤ n * (m * m)
 unfolding dots

@@ -1,7 +1,7 @@
 -- Quotient and remainder of lists are the only ones: so they depend on the polynomials alone, whatever zeros stand at the end. Their lengths.
-use Prim.Native.Nat.{ℕ, zero, _+_ as _+ₙ_, _-_ as _-ₙ_, _≤_, _<_}
+use Prim.Native.Nat.{ℕ, _+_ as _+ₙ_, _-_ as _-ₙ_, _≤_, _<_}
 use native.Mathlib.Omega.{arith}
-use mathlib.Core.Path.{_≡_, refl, sym, ap, ap₂, _∙_, fun-ext, subst}
+use mathlib.Core.Path.{_≡_, refl, sym, ap, _∙_, fun-ext, subst}
 use mathlib.Core.Logic.{⊎-elim}
 use mathlib.Core.List.{List, [], _∷_}
 use lib.ListN.{length, drop}
@@ -13,9 +13,9 @@ use Rattle.ring.specs.Series.{S, Series, addS, conv, negS, zerS, con}
 use Rattle.ring.specs.Degree.{Below, below-add}
 use Rattle.ring.specs.Division.{no-quo}
 use Rattle.definitions.specs.Field.{Ops}
-use Rattle.definitions.specs.Polynomials.{at, trim, divide, lead, quo, rem}
+use Rattle.definitions.specs.Polynomials.{trim, divide, lead, quo, rem}
 use Rattle.bridge.specs.Model.{Model, Inverts, series}
-use Rattle.bridge.specs.Trim.{trim-idem, trim-none, trim-nil, below-length, below-size, length-le, size-series, series-trim, series-ext, lead-some, lead-none, lead-is, lead-trim}
+use Rattle.bridge.specs.Trim.{trim-idem, trim-none, trim-nil, below-length, below-size, length-le, size-series, series-trim, series-ext, lead-some, lead-none, lead-is}
 use Rattle.bridge.specs.Division.{trim-rem, trim-quo, oks-rem, oks-quo, series-quo-rem, rem-by-zero, rem-below, rem-less}
 use Rattle.bridge.specs.Stages.{quo-drop, divide-low-quo, divide-low-rem, divide-none-quo}
 
@@ -31,14 +31,6 @@ module _ {A B : Type 0} {o : Ops A} {R : CRing B} (M : Model o R) where
   below-sub f g n h k = below-add R f (negS R g) n h (λ i p. ap (R .neg) (k i p) ∙ neg-zer R)
 
   -- ---- the divisor alone: its zeros at the end do not matter
-  pub rem-trim-divisor : (a b : List A) → 0 < length (trim o b) → rem o a (trim o b) ≡ rem o a b
-  unfolding rem
-  rem-trim-divisor a b h = ap₂ (λ u (t : List A). divide o (o .inv u) t a .rem) (lead-trim M b h) (trim-idem M b)
-
-  pub quo-trim-divisor : (a b : List A) → 0 < length (trim o b) → quo o a (trim o b) ≡ quo o a b
-  unfolding quo
-  quo-trim-divisor a b h = ap₂ (λ u (t : List A). trim o (divide o (o .inv u) t a .quo)) (lead-trim M b h) (trim-idem M b)
-
   -- ---- lengths
   pub quo-length : (a b : List A) → length (quo o a b) ≤ length (trim o a) +ₙ 1 -ₙ length (trim o b)
   unfolding quo
@@ -105,12 +97,6 @@ module _ {A B : Type 0} {o : Ops A} {R : CRing B} (M : Model o R) where
 
       pub quo-cong : quo o a b ≡ quo o a′ b′
       quo-cong = ⊎-elim (λ p. series-ext M _ _ (trim-quo M a b) (trim-quo M a′ b′) (oks-quo M a b) (oks-quo M a′ b′) (same-both p .0)) (λ p. quo-by-zero a b (none p) ∙ sym (quo-by-zero a′ b′ (none′ p))) (le-or-lt 1 (length (trim o b′)))
-
-    pub rem-trim : (a b : List A) → rem o (trim o a) b ≡ rem o a b
-    rem-trim a b = rem-cong (trim o a) a b b (series-trim M a) refl
-
-    pub quo-trim : (a b : List A) → quo o (trim o a) b ≡ quo o a b
-    quo-trim a b = quo-cong (trim o a) a b b (series-trim M a) refl
 
     -- never longer than the dividend
     pub rem-length : (a b : List A) → length (rem o a b) ≤ length (trim o a)

@@ -3,9 +3,7 @@ use Prim.Native.Nat.{ℕ, zero, suc, _+_ as _+ₙ_, _≤_}
 use native.Mathlib.Nat.{le-of-suc-le-suc}
 use native.Mathlib.Omega.{arith}
 use mathlib.Core.Path.{_≡_, refl, sym, ap, _∙_}
-use mathlib.Core.Bool.{Bool, true, false}
 use mathlib.Core.List.{List, [], _∷_}
-use lib.ListN.{length}
 use Rattle.ring.specs.Ring.{CRing}
 use Rattle.ring.specs.Identity.{ring-from, times, quote}
 use Rattle.ring.specs.Series.{Series}
@@ -13,11 +11,11 @@ use Rattle.algebra.specs.Field.{Field}
 use Rattle.algebra.specs.Polynomial.{F, Px, _≺_, Monic, low-up, low-path, monic-mul, monic-sub, monic-dominant, monic-path}
 use Rattle.algebra.specs.Root.{IsRoot, root-step, root-unique}
 use Rattle.definitions.specs.Field.{Ops}
-use Rattle.definitions.specs.Polynomials.{at, keep, cons, trim, add, sub, mul, monomial, rootIn, root}
+use Rattle.definitions.specs.Polynomials.{at, cons, trim, add, sub, mul, monomial, rootIn, root}
 use Rattle.bridge.specs.Model.{Model, Inverts, Oks, series}
 use Rattle.bridge.specs.Trim.{Trim}
+use Rattle.bridge.specs.One.{trim-one, oks-one}
 use Rattle.bridge.specs.Arithmetic.{oks-add, trim-add, series-add, series-sub, series-mul}
-use Rattle.bridge.specs.Degree.{monic-size}
 
 module _ {A B : Type 0} {o : Ops A} (K : Field B) (M : Model o (K .scalars)) (I : Inverts M) where
   open CRing (Series (F K)) using (add as _+_, mul as _*_, neg as -_)
@@ -41,26 +39,21 @@ module _ {A B : Type 0} {o : Ops A} (K : Field B) (M : Model o (K .scalars)) (I 
   monomial-top c zero = refl
   monomial-top c (suc e) = monomial-top c e
 
-  oks-one : (e : ℕ) → Oks M (monomial o (o .one) e)
+  oks-power : (e : ℕ) → Oks M (monomial o (o .one) e)
   unfolding monomial
-  oks-one zero zero = M .ok-one
-  oks-one zero (suc i) = M .ok-zer
-  oks-one (suc e) zero = M .ok-zer
-  oks-one (suc e) (suc i) = oks-one e i
-
-  one-some : (b : Bool) → o .zer? (o .one) ≡ b → keep o b (o .one) ≡ o .one ∷ []
-  one-some true h = absurd (K .one-not-zero (sym (M .φ-one) ∙ M .zer?-true (o .one) h))
-  one-some false h = refl
+  oks-power zero i = oks-one K M i
+  oks-power (suc e) zero = M .ok-zer
+  oks-power (suc e) (suc i) = oks-power e i
 
   cons-monomial : (a c : A) (e : ℕ) → cons o a (monomial o c e) ≡ a ∷ monomial o c e
   unfolding monomial
   cons-monomial a c zero = refl
   cons-monomial a c (suc e) = refl
 
-  trim-one : (e : ℕ) → Trim M (monomial o (o .one) e)
+  trim-power : (e : ℕ) → Trim M (monomial o (o .one) e)
   unfolding monomial trim
-  trim-one zero = one-some (o .zer? (o .one)) refl
-  trim-one (suc e) = ap (cons o (o .zer)) (trim-one e) ∙ cons-monomial (o .zer) (o .one) e
+  trim-power zero = trim-one K M
+  trim-power (suc e) = ap (cons o (o .zer)) (trim-power e) ∙ cons-monomial (o .zer) (o .one) e
 
   -- ---- half of c
   half : A
@@ -126,7 +119,7 @@ module _ {A B : Type 0} {o : Ops A} (K : Field B) (M : Model o (K .scalars)) (I 
 
   pub trim-root : (D : List A) (n : ℕ) → Trim M (root o D n)
   unfolding root
-  trim-root D n = trim-turns D n n (monomial o (o .one) n) (trim-one n)
+  trim-root D n = trim-turns D n n (monomial o (o .one) n) (trim-power n)
 
   oks-turns : (D : List A) (n e : ℕ) (d : List A) → Oks M d → Oks M (rootIn o D n e d)
   unfolding rootIn
@@ -135,7 +128,4 @@ module _ {A B : Type 0} {o : Ops A} (K : Field B) (M : Model o (K .scalars)) (I 
 
   pub oks-root : (D : List A) (n : ℕ) → Oks M (root o D n)
   unfolding root
-  oks-root D n = oks-turns D n n (monomial o (o .one) n) (oks-one n)
-
-  pub length-root : (D : List A) (n : ℕ) → Monic K (series M D) (n +ₙ n) → length (root o D n) ≡ suc n
-  length-root D n lead = sym (ap length (trim-root D n)) ∙ monic-size K M (root o D n) (root-is D n lead .monic)
+  oks-root D n = oks-turns D n n (monomial o (o .one) n) (oks-power n)

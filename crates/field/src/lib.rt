@@ -10,6 +10,7 @@ pub struct Field {
     pub q: u32,
 }
 
+// a + b.
 pub fn add(f: Field, a: u32, b: u32) -> u32
     requires { ⌜ (f .q < 4096) × (a < f .q) × (b < f .q) ⌝ }
     ensures { λ r. ⌜ r ≡ modulo (f .q) .add a b ⌝ }
@@ -19,6 +20,7 @@ pub fn add(f: Field, a: u32, b: u32) -> u32
     if sum < q { sum } else { sum - q }
 }
 
+// a − b.
 pub fn sub(f: Field, a: u32, b: u32) -> u32
     requires { ⌜ (f .q < 4096) × (a < f .q) × (b < f .q) ⌝ }
     ensures { λ r. ⌜ r ≡ modulo (f .q) .sub a b ⌝ }
@@ -26,6 +28,7 @@ pub fn sub(f: Field, a: u32, b: u32) -> u32
     if b <= a { a - b } else { a + (f.q - b) }
 }
 
+// −a.
 pub fn neg(f: Field, a: u32) -> u32
     requires { ⌜ (f .q < 4096) × (a < f .q) ⌝ }
     ensures { λ r. ⌜ r ≡ modulo (f .q) .sub 0 a ⌝ }
@@ -33,6 +36,7 @@ pub fn neg(f: Field, a: u32) -> u32
     sub(f, 0, a)
 }
 
+// a·b.
 pub fn mul(f: Field, a: u32, b: u32) -> u32
     requires { ⌜ (f .q < 4096) × (a < f .q) × (b < f .q) ⌝ }
     ensures { λ r. ⌜ r ≡ modulo (f .q) .mul a b ⌝ }

@@ -1,6 +1,6 @@
 -- What a ticket past refusals 1 to 7 gives: an odd prime q, the genus g and a monic D of degree 2g + 2 with coefficients below q that is not a square, so that √D has its
 -- continued fraction over the field of q elements.
-use Prim.Native.Nat.{ℕ, zero, suc, _+_, _-_, _*_, _/_, _%_, _≤_, _<_}
+use Prim.Native.Nat.{ℕ, zero, suc, _+_, _*_, _/_, _%_, _≤_, _<_}
 use native.Mathlib.Nat.{mod-lt, div-add-mod}
 use native.Mathlib.Numerals.{add-one}
 use native.Mathlib.Omega.{arith}

@@ -103,12 +103,3 @@ module _ {A B : Type 0} {o : Ops A} {K : Field B} {M : Model o (F K)} {g : ℕ} 
     -- the unit's norm
     pub unit-norm : normOf o D (p m) (s m) ≡ constantOf o D d m ∷ []
     unit-norm = norm-is m ∙ constant-is
-
-    pub constant-some : M .φ (constantOf o D d m) ≡ F K .zer → ⊥
-    constant-some e = norm-deg .top (ap (M .φ) (constant-at m) ∙ e)
-
-    pub constant-not-zero : constantOf o D d m ≡ o .zer → ⊥
-    constant-not-zero e = constant-some (ap (M .φ) e ∙ M .φ-zer)
-
-    pub constant-ok : M .Ok (constantOf o D d m)
-    constant-ok = subst (M .Ok) (constant-at m) (oks-signed K M m (Q m) (Q-oks h m) 0)

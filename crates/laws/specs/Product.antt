@@ -212,9 +212,6 @@ module _ {A B : Type 0} {o : Ops A} (K : Field B) (M : Model o (F K)) (I : Inver
     pub Q-series : series M Q ≡ product-Q K s₁ s₂ common
     Q-series = Q-exact .0
 
-    pub S-square-divides : rem o (mul o (x .q) (y .q)) (mul o S S) ≡ []
-    S-square-divides = Q-exact .1
-
     -- Q·S² = Q_1·Q_2
     pub Q-product : mul o Q (mul o S S) ≡ mul o (x .q) (y .q)
     Q-product = series-ext M _ _ (trim-mul M Q (mul o S S)) (trim-mul M (x .q) (y .q)) (oks-mul M Q (mul o S S)) (oks-mul M (x .q) (y .q)) (series-mul M Q (mul o S S) ∙ ap₂ _*_ Q-series (series-mul M S S) ∙ product-square K s₁ s₂ common ∙ sym (series-mul M (x .q) (y .q)))

@@ -10,7 +10,7 @@ use Rattle.ring.specs.Order.{le-or-lt}
 use Rattle.algebra.specs.Field.{Field}
 use Rattle.algebra.specs.Polynomial.{F, monic-deg}
 use Rattle.definitions.specs.Field.{Ops}
-use Rattle.definitions.specs.Polynomials.{trim, add, sub, mul, quo, gcd, bezout}
+use Rattle.definitions.specs.Polynomials.{trim, add, sub, mul, gcd, bezout}
 use Rattle.definitions.specs.Walk.{Ideal}
 use Rattle.bridge.specs.Model.{Model, Inverts}
 use Rattle.bridge.specs.Trim.{length-trim, trim-nil, size-le}
@@ -21,7 +21,7 @@ use Rattle.bridge.specs.Degree.{deg-size}
 use Rattle.bridge.specs.Bezout.{length-gcd}
 use Rattle.bridge.specs.BezoutLength.{bezout-u-length, bezout-u-constant, bezout-v-length}
 use Rattle.laws.specs.Pairs.{IsIdeal, normAt, cofactorAt}
-use Rattle.laws.specs.Product.{commonOf, productQ, bracket, unreducedP, productP, bezoutU, bezoutW, Q-size, S-size}
+use Rattle.laws.specs.Product.{commonOf, productQ, bracket, unreducedP, productP, bezoutU, bezoutW, Q-size}
 
 module _ {A B : Type 0} {o : Ops A} (K : Field B) (M : Model o (F K)) (I : Inverts M) {D : List A} {g : ℕ} where
   -- the lists of an ideal
@@ -63,9 +63,6 @@ module _ {A B : Type 0} {o : Ops A} (K : Field B) (M : Model o (F K)) (I : Inver
     pub first-u-length : length (bezout o (x .q) (y .q) .u) ≤ g
     first-u-length = let a = ideal-q-size hy ly in let b = bezout-u-length M I (x .q) (y .q) (a .0) in omega arith
 
-    pub first-v-length : length (bezout o (x .q) (y .q) .v) ≤ suc g
-    first-v-length = bezout-v-length M I (x .q) (y .q) (suc g) (omega arith) (let a = ideal-q-size hx lx in omega arith)
-
     -- of their gcd and the sum
     pub second-u-length : length (bezout o G T .u) ≤ suc g
     second-u-length = let b = sum-length in let b′ = length-trim M T in ⊎-elim (λ h. let c = bezout-u-length M I G T h in omega arith) (λ h. let c = bezout-u-constant M I G T (trim-nil M T (omega arith)) in omega arith) (le-or-lt 1 (length (trim o T)))
@@ -77,21 +74,12 @@ module _ {A B : Type 0} {o : Ops A} (K : Field B) (M : Model o (F K)) (I : Inver
     U-length = let a = first-u-length in let a′ = length-trim M (bezout o (x .q) (y .q) .u) in let b = second-u-length in let b′ = length-trim M (bezout o G T .u) in length-mul M (bezout o G T .u) (bezout o (x .q) (y .q) .u) (g +ₙ g) (omega arith)
 
     -- ---- Q
-    pub squares-length : length (mul o (commonOf o x y) (commonOf o x y)) ≤ suc (g +ₙ g)
-    squares-length = let a = common-length in let b = length-trim M (commonOf o x y) in length-mul M (commonOf o x y) (commonOf o x y) (suc (g +ₙ g)) (omega arith)
-
-    pub norms-length : length (mul o (x .q) (y .q)) ≤ suc (g +ₙ g)
-    norms-length = let a = ideal-q-size hx lx in let b = ideal-q-size hy ly in length-mul M (x .q) (y .q) (suc (g +ₙ g)) (omega arith)
-
     pub Q-length : (0 < length (productQ o x y)) × (length (productQ o x y) ≤ suc (g +ₙ g))
     Q-length = let a : length (trim o (productQ o x y)) ≡ length (productQ o x y) = ap length (trim-quo M (mul o (x .q) (y .q)) (mul o (commonOf o x y) (commonOf o x y))) in let e = Q-size K M I D hx hy in (omega arith, omega arith)
 
     -- ---- P
     pub difference-length : length (sub o (y .p) (x .p)) ≤ g
     difference-length = length-sub M (y .p) (x .p) g (ideal-p-size hy ly) (ideal-p-size hx lx)
-
-    pub first-length : length (quo o (x .q) (commonOf o x y)) ≤ suc g
-    first-length = let a = quo-length M (x .q) (commonOf o x y) in let b = ideal-q-size hx lx in let e = S-size K M I D hx hy in omega arith
 
     pub U-product-length : length (mul o (bezoutU o x y) (sub o (y .p) (x .p))) ≤ g +ₙ g +ₙ g
     U-product-length = let a = U-length in let a′ = length-trim M (bezoutU o x y) in let b = difference-length in let b′ = length-trim M (sub o (y .p) (x .p)) in length-mul M (bezoutU o x y) (sub o (y .p) (x .p)) (g +ₙ g +ₙ g) (omega arith)
@@ -107,24 +95,6 @@ module _ {A B : Type 0} {o : Ops A} (K : Field B) (M : Model o (F K)) (I : Inver
           let b = W-product-length in
           let b′ = length-trim M (mul o (bezoutW o x y) (cofactorAt o D x)) in
           length-add M (mul o (bezoutU o x y) (sub o (y .p) (x .p))) (mul o (bezoutW o x y) (cofactorAt o D x)) (3 +ₙ (g +ₙ g +ₙ g)) (omega arith) (omega arith)
-
-      abbrev inner : List A
-      inner = bracket o D x y (bezoutU o x y) (bezoutW o x y)
-
-      pub outer-length : length (mul o (quo o (x .q) (commonOf o x y)) inner) ≤ 3 +ₙ (g +ₙ g +ₙ g +ₙ g)
-      outer-length =
-          let a = first-length in
-          let a′ = length-trim M (quo o (x .q) (commonOf o x y)) in
-          let b = bracket-length in
-          let b′ = length-trim M inner in
-          length-mul M (quo o (x .q) (commonOf o x y)) inner (3 +ₙ (g +ₙ g +ₙ g +ₙ g)) (omega arith)
-
-      pub unreduced-length : length (unreducedP o D x y (bezoutU o x y) (bezoutW o x y)) ≤ 3 +ₙ (g +ₙ g +ₙ g +ₙ g)
-      unreduced-length =
-          let a = ideal-p-size hx lx in
-          let b = outer-length in
-          let b′ = length-trim M (mul o (quo o (x .q) (commonOf o x y)) inner) in
-          length-add M (x .p) (mul o (quo o (x .q) (commonOf o x y)) inner) (3 +ₙ (g +ₙ g +ₙ g +ₙ g)) (omega arith) (omega arith)
 
     pub P-length : length (productP o D x y (bezoutU o x y) (bezoutW o x y)) < length (productQ o x y)
     P-length =

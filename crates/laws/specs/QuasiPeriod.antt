@@ -4,7 +4,7 @@ use native.Mathlib.Nat.{eq-or-lt-of-le}
 use native.Mathlib.Omega.{arith}
 use mathlib.Core.Path.{_≡_, refl, sym, ap, _∙_, subst}
 use mathlib.Core.Bool.{Bool, true, false}
-use mathlib.Core.Logic.{_⊎_, ⊎-elim}
+use mathlib.Core.Logic.{⊎-elim}
 use mathlib.Core.List.{List}
 use mathlib.Core.Option.{Option, none, some}
 use lib.ListN.{length}
@@ -95,9 +95,6 @@ module _ {A B : Type 0} {o : Ops A} {K : Field B} {M : Model o (F K)} {g : ℕ} 
 
   pub quasi-some : (b m : ℕ) → quasiPeriod o D d b ≡ some m → Quasi o D d b m
   quasi-some b m e = subst (Says b) e (quasi-says b)
-
-  pub quasi-none : (b : ℕ) → quasiPeriod o D d b ≡ none → NoQuasi o D d b
-  quasi-none b e = subst (Says b) e (quasi-says b)
 
   pub some-quasi : (b m : ℕ) → Quasi o D d b m → quasiPeriod o D d b ≡ some m
   some-quasi b m h = go (quasiPeriod o D d b) (quasi-says b)

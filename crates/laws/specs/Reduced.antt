@@ -10,9 +10,8 @@ use Rattle.ring.specs.Series.{Series}
 use Rattle.algebra.specs.Field.{Field, some-inv}
 use Rattle.algebra.specs.Polynomial.{F, Px, Monic, low-neg}
 use Rattle.algebra.specs.Divides.{Divides, divides-path, divides-add, divides-neg, divides-mul}
-use Rattle.algebra.specs.Associate.{Associate, associate-sym, associate-divides, divides-associate}
+use Rattle.algebra.specs.Associate.{Associate, associate-sym, associate-divides}
 use Rattle.surd.specs.Step.{State}
-use Rattle.surd.specs.Ideal.{SameIdeal}
 use Rattle.ideals.specs.Finite.{Finite, finite-add}
 use Rattle.definitions.specs.Field.{Ops}
 use Rattle.definitions.specs.Polynomials.{trim, lead, quo, rem, monic}
@@ -67,9 +66,6 @@ module _ {A B : Type 0} {o : Ops A} (K : Field B) (M : Model o (F K)) (I : Inver
     low = low-neg K (series M (quo o (x .p) Q)) _ (below-length M (quo o (x .p) Q));
     is = ring-from R[x] (series M (x .p) ∷ series M P ∷ series M Q ∷ series M (quo o (x .p) Q) ∷ []) (times R[x] (- 𝟙) (series-quo-rem M (x .p) Q)) (search quote depth 40 fits 9999) tt;
   }
-
-  pub reduced-same : SameIdeal K (series M Q) (series M P) (series M (x .q)) (series M (x .p))
-  reduced-same = record { ratio = ratio; congruent = divides-associate K ratio gap }
 
   pub reduced-ideal : IsIdeal K M D (record { q = Q; p = P })
   reduced-ideal = record {

@@ -96,6 +96,3 @@ module _ {A B : Type 0} {o : Ops A} {K : Field B} {M : Model o (F K)} {g : ℕ} 
     pub partial-most : (j : ℕ) → length (a j) +ₙ length (trim o (q-at j)) ≤ 3 +ₙ (g +ₙ g)
     unfolding partial
     partial-most j = let e = sum-most j in let e′ = length-trim M (add o (p-at j) d) in let b = quo-length M (add o (p-at j) d) (q-at j) in let c = Q-most j in omega arith
-
-    pub partial-product-most : (j : ℕ) → length (mul o (a j) (q-at j)) ≤ 2 +ₙ (g +ₙ g)
-    partial-product-most j = let e = partial-most j in let e′ = length-trim M (a j) in length-mul M (a j) (q-at j) (2 +ₙ (g +ₙ g)) (omega arith)

@@ -4,7 +4,6 @@ use native.Mathlib.Omega.{arith}
 use mathlib.Core.Path.{_≡_, refl, sym, ap, _∙_, subst}
 use mathlib.Core.List.{List}
 use lib.Dec.{le→leb}
-use lib.ListN.{length}
 use lib.IntN.{ℤ, pos, negℤ, _+ℤ_, _-ℤ_, +ℤ-assoc, +ℤ-comm, +ℤ-idl, +ℤ-invr, negℤ-+ℤ, pos-+ℤ-pos}
 use lib.Signed.{_≤ℤ_}
 use Rattle.algebra.specs.Field.{Field}
@@ -12,15 +11,14 @@ use Rattle.algebra.specs.Polynomial.{F}
 use Rattle.surd.specs.Step.{State}
 use Rattle.ideals.specs.Steps.{turns-most}
 use Rattle.definitions.specs.Field.{Ops}
-use Rattle.definitions.specs.Polynomials.{trim, deg}
+use Rattle.definitions.specs.Polynomials.{deg}
 use Rattle.definitions.specs.Walk.{Ideal, steps}
 use Rattle.definitions.specs.Products.{Product, productOf, turnsOf, degreeSum, shiftOf}
 use Rattle.bridge.specs.Model.{Model, series}
-use Rattle.bridge.specs.Trim.{size-le}
 use Rattle.bridge.specs.Degree.{deg-is}
 use Rattle.laws.specs.Surd.{Surd}
 use Rattle.laws.specs.Pairs.{IsIdeal, cofactorAt, ideal-state}
-use Rattle.laws.specs.Product.{commonOf, productQ, productP, bezoutU, bezoutW, product-is, bezout-gives, P-low, product-ideal, common-le, σ, κ, S-size, Q-size}
+use Rattle.laws.specs.Product.{commonOf, productQ, productP, bezoutU, bezoutW, product-is, bezout-gives, product-ideal, common-le, σ, κ, S-size, Q-size}
 use Rattle.laws.specs.Reduction.{sequence, turns-first, degree-sum-most}
 
 -- ---- differences of numbers that are not positive
@@ -65,9 +63,6 @@ module _ {A B : Type 0} {o : Ops A} {K : Field B} {M : Model o (F K)} {g : ℕ} 
 
   pub start-most : deg o (r .ideal .q) +ₙ (deg o (r .s) +ₙ deg o (r .s)) ≤ g +ₙ g
   start-most = let l = common-le K M (z .inverts) D hx hy in let e = start-deg in let e′ = common-deg in omega arith
-
-  pub start-p-most : length (trim o (r .ideal .p)) ≤ g +ₙ g
-  start-p-most = let h = start-most in let e = start-deg in let l = size-le M (r .ideal .p) (κ K M (z .inverts) D hx hy) (P-low K M (z .inverts) D hx hy (bezout-gives K M (z .inverts) D x y)) in omega arith
 
   abbrev st : State K (series M D) (series M (r .ideal .q)) (series M (cofactorAt o D (r .ideal))) (series M (r .ideal .p))
   st = ideal-state K M D product-of-ideal

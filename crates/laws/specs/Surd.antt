@@ -1,16 +1,14 @@
--- √D of lists: d is the root of D, and D is not a square. The degree of a list's polynomial by its length, the list of 1, and the definitions of the walk as they are read.
+-- √D of lists: d is the root of D, and D is not a square. The degree of a list's polynomial by its length, and the definitions of the walk as they are read.
 use Prim.Native.Nat.{ℕ, zero, suc}
-use mathlib.Core.Path.{_≡_, refl, sym, ap, _∙_, fun-ext, subst}
-use mathlib.Core.Bool.{Bool, true, false}
+use mathlib.Core.Path.{_≡_, refl, sym, ap, _∙_, subst}
 use mathlib.Core.List.{List, [], _∷_}
 use lib.ListN.{length}
-use Rattle.ring.specs.Series.{con}
 use Rattle.algebra.specs.Field.{Field}
 use Rattle.algebra.specs.Polynomial.{F, Deg}
 use Rattle.algebra.specs.Root.{IsRoot}
 use Rattle.surd.specs.Root.{No-square}
 use Rattle.definitions.specs.Field.{Ops}
-use Rattle.definitions.specs.Polynomials.{keep, trim, add, sub, mul, quo, rem}
+use Rattle.definitions.specs.Polynomials.{trim, add, sub, mul, quo, rem}
 use Rattle.definitions.specs.Walk.{partial, nextP, next, steps, walk}
 use Rattle.definitions.specs.Walk as lists
 use Rattle.bridge.specs.Model.{Model, Inverts, Oks, series}
@@ -18,33 +16,11 @@ use Rattle.bridge.specs.Trim.{Trim}
 use Rattle.bridge.specs.Degree.{deg-size}
 use Rattle.bridge.specs.Arithmetic.{oks-nil, oks-sub, trim-sub}
 use Rattle.bridge.specs.Division.{oks-quo, oks-rem, trim-quo, trim-rem}
+pub use Rattle.bridge.specs.One.{series-one, trim-one, oks-one}
 
 module _ {A B : Type 0} {o : Ops A} (K : Field B) (M : Model o (F K)) where
   pub deg-length : (l : List A) (n : ℕ) → Trim M l → Deg K (series M l) n → length l ≡ suc n
   deg-length l n e t = ap length (sym e) ∙ deg-size K M l t
-
-  pub series-one : series M (o .one ∷ []) ≡ con (F K) (F K .one)
-  unfolding con
-  series-one = fun-ext here
-    where
-      here : (n : ℕ) → series M (o .one ∷ []) n ≡ con (F K) (F K .one) n
-      here zero = M .φ-one
-      here (suc n) = M .φ-zer
-
-  one-some : o .zer? (o .one) ≡ false
-  one-some = go (o .zer? (o .one)) refl
-    where
-      go : (b : Bool) → o .zer? (o .one) ≡ b → o .zer? (o .one) ≡ false
-      go true e = absurd (K .one-not-zero (sym (M .φ-one) ∙ M .zer?-true (o .one) e))
-      go false e = e
-
-  pub trim-one : Trim M (o .one ∷ [])
-  unfolding trim
-  trim-one = ap (λ (b : Bool). keep o b (o .one)) one-some
-
-  pub oks-one : Oks M (o .one ∷ [])
-  oks-one zero = M .ok-one
-  oks-one (suc i) = M .ok-zer
 
   pub record Surd (g : ℕ) (D d : List A) : Type 0 where
     pub inverts : Inverts M
@@ -112,9 +88,6 @@ module _ {A B : Type 0} {o : Ops A} {K : Field B} {M : Model o (F K)} {g : ℕ} 
 
   pub a-trim : (i : ℕ) → Trim M (a i)
   a-trim i = subst (Trim M) (sym (a-is i)) (trim-quo M (add o (P i) d) (Q i))
-
-  pub a-oks : (i : ℕ) → Oks M (a i)
-  a-oks i = subst (Oks M) (sym (a-is i)) (oks-quo M (add o (P i) d) (Q i))
 
   pub r-trim : (i : ℕ) → Trim M (r i)
   r-trim i = trim-rem M (add o (P i) d) (Q i)

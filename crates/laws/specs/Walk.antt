@@ -74,9 +74,6 @@ module _ {A B : Type 0} {o : Ops A} {K : Field B} {M : Model o (F K)} {g : ℕ} 
       omega arith
 
   -- ---- the next P from the remainder
-  pub P-next : (i : ℕ) → P (suc i) ≡ sub o d (r i)
-  P-next i = series-ext M _ _ (P-trim s (suc i)) (trim-sub M d (r i)) (P-oks s (suc i)) (oks-sub M d (r i)) (P-rem K (fraction s) i ∙ sym (series-sub M d (r i)))
-
   -- what is divided at the next step
   pub sum-next : (i : ℕ) → add o (P (suc i)) d ≡ sub o (add o d d) (r i)
   sum-next i = series-ext M _ _ (trim-add M (P (suc i)) d) (trim-sub M (add o d d) (r i)) (oks-add M (P (suc i)) d) (oks-sub M (add o d d) (r i)) (series-add M (P (suc i)) d ∙ same ∙ sym (series-sub M (add o d d) (r i) ∙ ap (λ (f : Px K). f - series M (r i)) (series-add M d d)))

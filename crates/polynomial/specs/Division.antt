@@ -14,9 +14,9 @@ use Rattle.bridge.specs.Residues.{model, inverts}
 use Rattle.polynomial.specs.Record.{poly, Held, Is}
 use Rattle.polynomial.specs.Held.{held-positive, length-poly, at-poly}
 use Rattle.polynomial.specs.Result.{held-size}
-use Rattle.polynomial.specs.Places.{Places, Top}
+use Rattle.places.specs.Places.{Places, Top}
 use Rattle.polynomial.specs.Linear.{is-result, lead-place}
-use Rattle.polynomial.specs.Divided.{Divided}
+use Rattle.places.specs.Divided.{Divided}
 
 module _ (q : ℕ) (a : List ℕ) (m : ℕ) (held-a : Held q a m) (b : List ℕ) (n : ℕ) (held-b : Held q b n) where
   pos : 0 < q

@@ -1,7 +1,7 @@
 -- What is known of a record that is held, and how a result comes to be: by the laws of `pad`, place by place.
 use Prim.Native.Nat.{ℕ, _≤_, _<_}
 use native.Mathlib.Omega.{arith}
-use mathlib.Core.Path.{_≡_, refl, sym, ap, _∙_, subst}
+use mathlib.Core.Path.{_≡_, sym, ap, _∙_, subst}
 use mathlib.Core.List.{List}
 use lib.ListN.{length, getD, take}
 use lib.Seq.{ext-getD, length-take-le}
@@ -28,9 +28,6 @@ module _ (q : ℕ) (c : List ℕ) (size : ℕ) where
       sym (ap (λ (l : List ℕ). getD l i 0) (h .places) ∙ at-pad (modulo q) 129 (poly c size) (omega arith) i)
 
   module _ (l : List ℕ) where
-    pub is-length : Is q c size l → length c ≡ 129
-    is-length h = ap length (h .places) ∙ length-pad (modulo q) 129 l
-
     pub is-poly : Is q c size l → length l ≤ 129 → poly c size ≡ l
     is-poly h s = ap (λ (n : ℕ). take n c) (h .size-is) ∙ ap (take (length l)) (h .places) ∙ take-pad (modulo q) 129 l s
 

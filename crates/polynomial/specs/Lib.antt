@@ -2,12 +2,10 @@ pub mod Record
 pub mod Pad
 pub mod Held
 pub mod Places
+pub mod Row
 pub mod Linear
 pub mod Result
-pub mod Row
 pub mod Product
-pub mod Terms
-pub mod Divided
 pub mod Division
 pub mod Gcd
 pub mod Bezout

@@ -13,14 +13,14 @@ use Rattle.ring.specs.Residues.{Fq, FqRing}
 use Rattle.algebra.specs.Derivative.{derivative-at}
 use Rattle.definitions.specs.Field.{modulo}
 use Rattle.definitions.specs.Polynomials.{trim, add, sub, scale, lead, times, derivative}
-use Rattle.bridge.specs.Model.{series, add-zer-zer, sub-zer-zer, mul-by-zer}
+use Rattle.bridge.specs.Model.{series}
 use Rattle.bridge.specs.Trim.{length-le, lead-is}
 use Rattle.bridge.specs.Arithmetic.{at-add, at-sub, at-scale, trim-add, trim-sub, trim-scale}
 use Rattle.bridge.specs.Derivative.{φ-times, ok-times, series-derivative, oks-derivative, trim-derivative}
 use Rattle.bridge.specs.Residues.{model}
 use Rattle.polynomial.specs.Record.{poly, Held, Is}
 use Rattle.polynomial.specs.Held.{held-positive, length-poly, at-poly, is-of}
-use Rattle.polynomial.specs.Places.{Places, Within, Top, zeros, length-zeros, at-zeros}
+use Rattle.places.specs.Places.{Places, Within, Top, zeros, length-zeros, at-zeros}
 
 -- the size found is the length of the trimmed list
 pub top-length : (q : ℕ) (pos : 0 < q) (c : List ℕ) (n : ℕ) (l : List ℕ) → trim (modulo q) l ≡ l → Places c (λ i. getD l i 0) → Top c n → n ≡ length l
@@ -44,17 +44,6 @@ held-within q c size n h s =
       reduced = h .reduced;
       past = λ i k. sym (at-poly q c size h i) ∙ List·getD-eq-default (poly c size) 0 {n = i} (let e : length (poly c size) ≡ size = length-poly q c size h in omega arith);
     }
-
--- the places' own zeros: what is formed of zeros is 0
-module _ (q : ℕ) (pos : 0 < q) {x y : ℕ} where
-  pub add-zeros : x ≡ 0 → y ≡ 0 → modulo q .add x y ≡ 0
-  add-zeros a b = ap₂ (modulo q .add) a b ∙ add-zer-zer (model q pos)
-
-  pub sub-zeros : x ≡ 0 → y ≡ 0 → modulo q .sub x y ≡ 0
-  sub-zeros a b = ap₂ (modulo q .sub) a b ∙ sub-zer-zer (model q pos)
-
-pub scale-zero : (q : ℕ) (pos : 0 < q) (k : ℕ) {x : ℕ} → x ≡ 0 → modulo q .mul k x ≡ 0
-scale-zero q pos k a = ap (modulo q .mul k) a ∙ mul-by-zer (model q pos) k
 
 -- the derivative's coefficients: (i + 1) times that at i + 1, which the definition forms by adding
 at-derivative : (q : ℕ) (pos : 0 < q) (p : List ℕ) (i : ℕ) → getD (derivative (modulo q) p) i 0 ≡ times (modulo q) (suc i) (getD p (suc i) 0)

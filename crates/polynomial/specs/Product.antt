@@ -1,41 +1,17 @@
--- A product's coefficients as loops form them: the terms in which a factor is past its places may be left out at both ends.
+-- The places of two records' product make the record of their polynomials' product.
 use mathlib.Core.Path.{_≡_, sym, ap, _∙_, fun-ext}
 use mathlib.Core.List.{List}
-use mathlib.Core.Logic.{⊎-elim}
-use Prim.Native.Nat.{ℕ, suc, _+_, _-_, _%_, _<_, _≤_}
-use native.Mathlib.Omega.{arith}
-use lib.ListN.{getD, List·getD-eq-default}
-use Rattle.ring.specs.Order.{le-or-lt}
+use Prim.Native.Nat.{ℕ, _<_}
+use lib.ListN.{getD}
 use Rattle.definitions.specs.Field.{modulo}
 use Rattle.definitions.specs.Polynomials.{mul}
-use Rattle.bridge.specs.Trim.{trim-le}
 use Rattle.bridge.specs.Arithmetic.{trim-mul, mul-cong}
-use Rattle.bridge.specs.Lengths.{length-mul}
 use Rattle.bridge.specs.Residues.{model}
-use Rattle.bridge.specs.Product.{dots, dots-none, dots-mul, dots-mul-short}
+use Rattle.places.specs.Places.{Places, Top}
 use Rattle.polynomial.specs.Record.{poly, Held, Is}
 use Rattle.polynomial.specs.Held.{held-positive, at-poly}
-use Rattle.polynomial.specs.Places.{Places, Top}
 use Rattle.polynomial.specs.Linear.{is-result}
-use Rattle.polynomial.specs.Row.{Ends}
-
--- b has n places: the terms before k + 1 - n are 0
-pub dots-before : (a b : List ℕ) (k n : ℕ) → Ends b n → dots a b k (k + 1 - n) ≡ 0
-unfolding dots
-dots-before a b k n e = ⊎-elim (λ h. dots-none a b k n (k + 1 - n) e (omega arith)) (λ h. ap (dots a b k) (let w : k + 1 - n ≡ 0 = omega arith in w)) (le-or-lt n (k + 1))
-
-module _ (q : ℕ) (pos : 0 < q) (a b : List ℕ) where
-  -- a has m places: the terms up to min (k + 1) m are all
-  pub dots-all : (k m i : ℕ) → Ends a m → k + 1 - (k + 1 - m) ≤ i → i ≤ k + 1 → dots a b k i % q ≡ getD (mul (modulo q) a b) k 0
-  dots-all k m i e h l =
-      ⊎-elim (λ w. dots-mul-short q pos a b k i (λ j v. e j (omega arith)) (omega arith)) (λ w. ap (λ (j : ℕ). dots a b k j % q) (let v : i ≡ suc k = omega arith in v) ∙ dots-mul q pos a b k) (le-or-lt m i)
-
-  -- from m + n - 1 on there is nothing
-  pub mul-past : (m n : ℕ) → Ends a m → Ends b n → (i : ℕ) → m + n - 1 ≤ i → getD (mul (modulo q) a b) i 0 ≡ 0
-  mul-past m n e f i h =
-      let x = trim-le (model q pos) a m e in
-      let y = trim-le (model q pos) b n f in
-      List·getD-eq-default (mul (modulo q) a b) 0 (length-mul (model q pos) a b i (omega arith))
+pub use Rattle.places.specs.Dots.{dots-all}
 
 -- the places of two records, or their polynomials: the product is the same
 module _ (q : ℕ) (a : List ℕ) (m : ℕ) (held-a : Held q a m) (b : List ℕ) (n : ℕ) (held-b : Held q b n) where

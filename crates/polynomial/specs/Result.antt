@@ -1,11 +1,11 @@
 -- What a caller keeps of a result: it is held, and its polynomial is the definition's. By the laws of trimmed lists and their lengths.
 use Prim.Native.Nat.{ℕ, _+_, _-_, _<_, _≤_}
 use native.Mathlib.Omega.{arith}
-use mathlib.Core.Path.{_≡_, refl, sym, ap, _∙_}
-use mathlib.Core.List.{List, []}
+use mathlib.Core.Path.{_≡_, sym, ap, _∙_}
+use mathlib.Core.List.{List}
 use lib.ListN.{length, getD}
 use Rattle.definitions.specs.Field.{modulo}
-use Rattle.definitions.specs.Polynomials.{trim, add, sub, scale, monic, derivative, mul, quo, rem, gcd}
+use Rattle.definitions.specs.Polynomials.{trim, add, sub, scale, monic, mul, quo, rem, gcd}
 use Rattle.bridge.specs.Model.{Inverts}
 use Rattle.bridge.specs.Trim.{trim-idem, length-trim, at-trim, oks-trim}
 use Rattle.bridge.specs.Arithmetic.{trim-add, trim-sub, trim-scale, trim-mul, oks-add, oks-sub, oks-scale, oks-mul}
@@ -13,12 +13,11 @@ use Rattle.bridge.specs.Lengths.{length-add, length-sub, length-scale, length-m
 use Rattle.bridge.specs.Division.{trim-quo, oks-quo, trim-rem, oks-rem, rem-less}
 use Rattle.bridge.specs.Quotient.{quo-length, rem-length}
 use Rattle.bridge.specs.Bezout.{trim-gcd, oks-gcd, length-gcd}
-use Rattle.bridge.specs.Derivative.{trim-derivative, oks-derivative, length-derivative}
 use Rattle.bridge.specs.Prime.{Prime}
 use Rattle.bridge.specs.Residues.{model, inverts}
 use Rattle.polynomial.specs.Record.{poly, Held, Is}
 use Rattle.polynomial.specs.Held.{held-positive, length-poly, is-poly, is-held}
-use Rattle.polynomial.specs.Places.{Top}
+use Rattle.places.specs.Places.{Top}
 use Rattle.polynomial.specs.Linear.{is-result}
 
 pub record Result (q : ℕ) (c : List ℕ) (size : ℕ) (l : List ℕ) : Type 0 where
@@ -34,10 +33,6 @@ held-size q a n h = ap length (h .trimmed) ∙ length-poly q a n h
 
 pub length-held : (q : ℕ) (a : List ℕ) (n : ℕ) → Held q a n → length (trim (modulo q) (poly a n)) ≤ 129
 length-held q a n h = let e : length (trim (modulo q) (poly a n)) ≡ n = held-size q a n h in let s : n ≤ 129 = h .short in omega arith
-
-pub result-zero : (q : ℕ) (c : List ℕ) (size : ℕ) → 0 < q → Is q c size [] → Result q c size []
-unfolding trim
-result-zero q c size pos h = result q c size [] h (omega arith) refl (λ i. pos)
 
 module _ (q : ℕ) (a : List ℕ) (m : ℕ) (held-a : Held q a m) (c : List ℕ) (size : ℕ) where
   pos : 0 < q
@@ -59,12 +54,6 @@ module _ (q : ℕ) (a : List ℕ) (m : ℕ) (held-a : Held q a m) (c : List ℕ)
   pub result-monic : Is q c size (monic (modulo q) (poly a m)) → Result q c size (monic (modulo q) (poly a m))
   unfolding monic
   result-monic h = result-scale _ h
-
-  pub result-derivative : Is q c size (derivative (modulo q) (poly a m)) → Result q c size (derivative (modulo q) (poly a m))
-  result-derivative h =
-      let s = length-derivative (model q pos) (poly a m) in
-      let w = length-held q a m held-a in
-      result q c size _ h (omega arith) (trim-derivative (model q pos) (poly a m)) (oks-derivative (model q pos) (poly a m))
 
 -- 129 reduced places with their size are a record
 pub held-top : (q : ℕ) (c : List ℕ) (size : ℕ) → length c ≡ 129 → ((i : ℕ) → getD c i 0 < q) → Top c size → Held q c size

@@ -12,10 +12,10 @@ use crate::linear::lead;
 use crate::linear::monic;
 use crate::linear::scale;
 use crate::linear::sub;
-use crate::linear::top;
 use crate::linear::zero;
 use crate::product::mul;
 use field::Field;
+use places::linear::top;
 
 // The greatest common divisor of a and b is that of b and the remainder of a by b; it is a made monic where b is 0.
 pub fn gcd(f: Field, a: Poly, b: Poly) -> Poly

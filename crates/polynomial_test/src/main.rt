@@ -1,6 +1,5 @@
 // Products, divisions and greatest common divisors of sample polynomials, written out to be compared with values found by another program.
-ghost use mathlib.Core.Path.{_≡_};
-ghost use Prim.Native.Nat.{ℕ, _+_, _<_, _≤_};
+ghost use Prim.Native.Nat.{_+_, _<_, _≤_};
 ghost use Rattle.bridge.specs.Prime.{Prime};
 ghost use Rattle.polynomial.specs.Record.{Held};
 use field::Field;

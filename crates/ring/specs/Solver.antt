@@ -1,5 +1,4 @@
 -- A solver for identities of commutative rings, by reflection: expressions, a normal form that computes on native numbers, and its soundness.
--- Assumes nothing.
 use Prim.Native.Nat.{ℕ, zero, suc, _+_ as _+ₙ_, _*_ as _*ₙ_, compare, Ordering, Ordering·lt, Ordering·eq, Ordering·gt}
 use native.Mathlib.Nat.{zero-add as zero-addₙ, suc-add as suc-addₙ, zero-mul as zero-mulₙ, suc-mul as suc-mulₙ}
 use mathlib.Core.Path.{_≡_, refl, sym, ap, ap₂, _∙_, subst⁻¹}

@@ -13,5 +13,4 @@ pub mod Same
 pub mod Step
 pub mod Units
 pub mod Walk
-pub mod WalkExists
 pub mod WalkOf

@@ -1,4 +1,4 @@
--- No place past the array is read. Assumes nothing.
+-- No place past the array is read.
 use Prim.Native.Nat.{_≤_, _-_}
 use borrow.Author.Needs.{needs}
 use Rattle.polynomial_test.proofs.show.Statement.{statement}

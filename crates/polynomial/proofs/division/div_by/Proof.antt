@@ -1,10 +1,10 @@
 -- The places that the long division leaves are those of quotient and remainder; their sizes are found from the top.
-use mathlib.Core.Path.{sym, _∙_, subst}
+use mathlib.Core.Path.{sym, subst}
 use Prim.Native.Nat.{ℕ, _<_}
 use native.Mathlib.Omega.{arith}
 use Rattle.bridge.specs.Residues.{inverse-lt}
 use Rattle.polynomial.specs.Held.{held-length, held-positive}
-use Rattle.polynomial.specs.Places.{at-zeros}
+use Rattle.places.specs.Places.{at-zeros}
 use Rattle.polynomial.specs.Linear.{held-within}
 use Rattle.polynomial.specs.Division.{quo-past, rem-past, is-quo, is-rem}
 use borrow.Author.Needs.{needs}
@@ -33,37 +33,29 @@ clear-requires c κs =
     let small = subst (λ (v : ℕ). v < s .args .f .q) (sym (c .before .before .before .before .inverse .ensures)) (inverse-lt _ (held-positive _ _ _ a) _) in
     ((search needs, small, search needs, a .short, b .short, held-length _ _ _ a, search needs), (held-within _ _ _ _ a (omega arith), ((held-within _ _ _ _ b (omega arith), held-length _ _ _ b), λ i h. at-zeros i)))
 
-sub-reduce-places : tie.Need-sub-reduce-places
-sub-reduce-places c = search needs
-
-reduce-places-requires : tie.Need-reduce-places-requires
-reduce-places-requires c κs =
-    let s = c .before .before .before .before .before .before .before .before .before in
-    let b = s .pre .1 .1 .short in
-    ((held-positive _ _ _ (s .pre .1 .0), omega arith), rem-past _ _ _ (s .pre .1 .0) _ _ (s .pre .1 .1) _ (c .before .before .before .before .before .before .before .inverse .ensures) _ _ (c .before .before .clear .ensures .1) (s .pre .0 .0) (search needs))
-
 top-requires : tie.Need-top-requires
 top-requires c κs =
-    let s = c .before .before .before .before .before .before .before .before .before .before .before in
-    let e = c .before .before .before .before .clear .ensures in
+    let s = c .before .before .before .before .before .before .before .before in
+    let e = c .before .clear .ensures in
     let a = s .pre .1 .0 .short in
-    (omega arith, λ i h. quo-past _ _ _ (s .pre .1 .0) _ _ (s .pre .1 .1) _ (c .before .before .before .before .before .before .before .before .before .inverse .ensures) _ _ (e .1) i (omega arith))
+    (omega arith, λ i h. quo-past _ _ _ (s .pre .1 .0) _ _ (s .pre .1 .1) _ (c .before .before .before .before .before .before .inverse .ensures) _ _ (e .1) i (omega arith))
 
-sub-top : tie.Need-sub-top
-sub-top c = search needs
+sub-residue : tie.Need-sub-residue
+sub-residue c = search needs
 
-top-requires-2 : tie.Need-top-requires-2
-top-requires-2 c κs =
-    let s = c .before .before .before .before .before .before .before .before .before .before .before .before .before in
+residue-requires : tie.Need-residue-requires
+residue-requires c κs =
+    let s = c .before .before .before .before .before .before .before .before .before .before in
     let b = s .pre .1 .1 .short in
-    (omega arith, λ i h. c .before .before .before .reduce-places .ensures .at i ∙ rem-past _ _ _ (s .pre .1 .0) _ _ (s .pre .1 .1) _ (c .before .before .before .before .before .before .before .before .before .before .before .inverse .ensures) _ _ (c .before .before .before .before .before .before .clear .ensures .1) (s .pre .0 .0) (search needs) i h)
+    ((held-positive _ _ _ (s .pre .1 .0), omega arith), rem-past _ _ _ (s .pre .1 .0) _ _ (s .pre .1 .1) _ (c .before .before .before .before .before .before .before .before .inverse .ensures) _ _ (c .before .before .before .clear .ensures .1) (s .pre .0 .0) (search needs))
 
 returns : tie.Need-returns
 returns c =
-    let s = c .before .before .before .before .before .before .before .before .before .before .before .before .before .before in
-    let u = c .before .before .before .before .before .before .before .before .before .before .before .before .inverse .ensures in
-    let d = c .before .before .before .before .before .before .before .clear .ensures .1 in
-    (is-quo _ _ _ (s .pre .1 .0) _ _ (s .pre .1 .1) _ u _ _ d _ (c .before .before .top .ensures), is-rem _ _ _ (s .pre .1 .0) _ _ (s .pre .1 .1) _ u _ _ d _ _ (c .before .before .before .before .reduce-places .ensures) (c .top2 .ensures))
+    let s = c .before .before .before .before .before .before .before .before .before .before .before in
+    let u = c .before .before .before .before .before .before .before .before .before .inverse .ensures in
+    let d = c .before .before .before .before .clear .ensures .1 in
+    let r = c .residue .ensures in
+    (is-quo _ _ _ (s .pre .1 .0) _ _ (s .pre .1 .1) _ u _ _ d _ (c .before .before .top .ensures), is-rem _ _ _ (s .pre .1 .0) _ _ (s .pre .1 .1) _ u _ _ d _ _ (r .0) (r .1))
 
 pub div-by-spec : {M : Type 1} → statement M
 div-by-spec =
@@ -74,9 +66,7 @@ div-by-spec =
     array-read-inverse
     inverse-requires
     clear-requires
-    sub-reduce-places
-    reduce-places-requires
     top-requires
-    sub-top
-    top-requires-2
+    sub-residue
+    residue-requires
     returns)

@@ -8,7 +8,7 @@ use Rattle.definitions.specs.Field.{modulo}
 use Rattle.definitions.specs.Polynomials.{trim}
 use Rattle.bridge.specs.Trim.{at-trim, trim-idem}
 use Rattle.bridge.specs.Residues.{model}
-use Rattle.polynomial.specs.Places.{Places, zeros, filled-none, filled-more, filled-all}
+use Rattle.places.specs.Places.{Places, zeros, filled-none, filled-more, filled-all}
 use Rattle.polynomial.specs.Linear.{is-result}
 use borrow.Author.Needs.{needs}
 use Rattle.polynomial.proofs.gcd.constant.Statement.{statement}

@@ -2,7 +2,8 @@
 use mathlib.Core.Path.{_∙_}
 use borrow.Author.Needs.{needs}
 use Rattle.polynomial.specs.Held.{held-positive}
-use Rattle.polynomial.specs.Linear.{held-within, add-zeros, is-add}
+use Rattle.places.specs.Zeros.{add-zeros}
+use Rattle.polynomial.specs.Linear.{held-within, is-add}
 use Rattle.polynomial.proofs.linear.add.Statement.{statement}
 use Rattle.polynomial.proofs.linear.add.Tie as tie
 

@@ -4,7 +4,8 @@ use native.Mathlib.Omega.{arith}
 use mathlib.Core.Path.{_∙_}
 use borrow.Author.Needs.{needs}
 use Rattle.polynomial.specs.Held.{held-positive}
-use Rattle.polynomial.specs.Linear.{held-within, scale-zero, is-derivative}
+use Rattle.places.specs.Zeros.{scale-zero}
+use Rattle.polynomial.specs.Linear.{held-within, is-derivative}
 use Rattle.polynomial.proofs.linear.derivative.Statement.{statement}
 use Rattle.polynomial.proofs.linear.derivative.Tie as tie
 

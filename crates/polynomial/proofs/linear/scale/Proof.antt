@@ -4,7 +4,8 @@ use native.Mathlib.Omega.{arith}
 use mathlib.Core.Path.{_∙_}
 use borrow.Author.Needs.{needs}
 use Rattle.polynomial.specs.Held.{held-positive}
-use Rattle.polynomial.specs.Linear.{held-within, scale-zero, is-scale}
+use Rattle.places.specs.Zeros.{scale-zero}
+use Rattle.polynomial.specs.Linear.{held-within, is-scale}
 use Rattle.polynomial.proofs.linear.scale.Statement.{statement}
 use Rattle.polynomial.proofs.linear.scale.Tie as tie
 

@@ -2,7 +2,8 @@
 use mathlib.Core.Path.{_∙_}
 use borrow.Author.Needs.{needs}
 use Rattle.polynomial.specs.Held.{held-positive}
-use Rattle.polynomial.specs.Linear.{held-within, sub-zeros, is-sub}
+use Rattle.places.specs.Zeros.{sub-zeros}
+use Rattle.polynomial.specs.Linear.{held-within, is-sub}
 use Rattle.polynomial.proofs.linear.sub.Statement.{statement}
 use Rattle.polynomial.proofs.linear.sub.Tie as tie
 

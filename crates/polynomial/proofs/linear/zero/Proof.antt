@@ -1,5 +1,4 @@
 -- The 129 zeros are the record of the zero polynomial.
-use Prim.Native.Nat.{_-_}
 use Rattle.polynomial.specs.Linear.{is-zero}
 use Rattle.polynomial.proofs.linear.zero.Statement.{statement}
 use Rattle.polynomial.proofs.linear.zero.Tie as tie

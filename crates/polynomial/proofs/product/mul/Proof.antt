@@ -3,7 +3,8 @@ use mathlib.Core.Path.{_∙_}
 use native.Mathlib.Omega.{arith}
 use Rattle.polynomial.specs.Held.{held-positive}
 use Rattle.polynomial.specs.Linear.{held-within}
-use Rattle.polynomial.specs.Product.{mul-past, is-mul}
+use Rattle.places.specs.Dots.{mul-past}
+use Rattle.polynomial.specs.Product.{is-mul}
 use borrow.Author.Needs.{needs}
 use Rattle.polynomial.proofs.product.mul.Statement.{statement}
 use Rattle.polynomial.proofs.product.mul.Tie as tie
