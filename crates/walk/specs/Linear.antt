@@ -26,11 +26,11 @@ unfolding rows shifted
 two-rows a b k = let z : 0 + getD a 0 0 * getD b k 0 ≡ getD a 0 0 * getD b k 0 = zero-add _ in ap (λ u. u + getD a 1 0 * shifted b 1 k) z
 
 -- (q − a)·x and a·x make q·x
-complement : (q a x : ℕ) → a ≤ q → (q - a) * x + a * x ≡ x * q
+pub complement : (q a x : ℕ) → a ≤ q → (q - a) * x + a * x ≡ x * q
 complement q a x h = sym (add-mul (q - a) a x) ∙ ap (λ n. n * x) (let e : q - a + a ≡ q = omega arith in e) ∙ mul-comm q x
 
 -- a·(z − r) and a·r make a·z, where q is added
-returned : (q a z r : ℕ) → r ≤ q → a * (z + (q - r)) + a * r ≡ a * z + a * q
+pub returned : (q a z r : ℕ) → r ≤ q → a * (z + (q - r)) + a * r ≡ a * z + a * q
 returned q a z r h = sym (mul-add a (z + (q - r)) r) ∙ ap (λ n. a * n) (let e : z + (q - r) + r ≡ z + q = omega arith in e) ∙ mul-add a z q
 
 -- a product with u, taken term by term

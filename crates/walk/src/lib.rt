@@ -2,3 +2,4 @@
 pub mod linear;
 pub mod reduce;
 pub mod step;
+pub mod terms;

@@ -12,34 +12,34 @@ ghost use Rattle.polynomial.specs.Row.{Bounded};
 ghost use Rattle.walk.specs.Step.{stepQuo, nextRem, Division, Ready, Moved, Stepped};
 use crate::linear::linear;
 use crate::reduce::reduce;
+use crate::terms::change_terms;
+use crate::terms::minus_terms;
 use field::Field;
 use polynomial::linear::top;
-use polynomial::product::terms;
 
-// The coefficient at k of s − r − x·b, x of l places and b of n. The product is taken from 128·q², which is no less.
+// The coefficient at k of s − r − x·b, where x has l places and zeros before `from`.
 fn rest_at(
     f: Field,
     reciprocal: u32,
     s: &[u32; 129],
     r: &[u32; 129],
     x: &[u32; 129],
+    from: usize,
     l: usize,
     b: &[u32; 129],
-    n: usize,
     k: usize,
 ) -> u32
-    requires { ⌜ (f .q < 4096) × (reciprocal ≡ 4294967295 / f .q) × (l ≤ 128) × (k < 128) ⌝ }
-    requires { ⌜ Bounded (f .q) (now s) × Bounded (f .q) (now r) ⌝ }
-    requires { ⌜ Within (f .q) (now x) l ⌝ }
-    requires { ⌜ Within (f .q) (now b) n ⌝ }
+    requires { ⌜ (f .q < 4096) × (reciprocal ≡ 4294967295 / f .q) × (k < 128) × (from ≤ k + 1) ⌝ }
+    requires { ⌜ Bounded (f .q) (now s) × Bounded (f .q) (now r) × Bounded (f .q) (now b) ⌝ }
+    requires { ⌜ Within (f .q) (now x) l × ((i : ℕ) → i < from → getD (now x) i 0 ≡ 0) ⌝ }
     ensures { λ v. ⌜ v ≡ getD (sub (modulo (f .q)) (sub (modulo (f .q)) (now (s .entry)) (now (r .entry))) (mul (modulo (f .q)) (now (x .entry)) (now (b .entry)))) k 0 ⌝ }
 {
     let q = f.q;
-    let t = s[k] + (q - r[k]) + (128 * q * q - terms(f, x, b, k, l, n));
+    let t = s[k] + (q - r[k]) + minus_terms(f, x, from, l, b, k);
     reduce(f, reciprocal, t)
 }
 
-// The coefficient at k of before + a·(z − r), a of l places, z and r of m.
+// The coefficient at k of before + a·(z − r), where a has l places.
 fn next_at(
     f: Field,
     reciprocal: u32,
@@ -48,18 +48,14 @@ fn next_at(
     l: usize,
     z: &[u32; 129],
     r: &[u32; 129],
-    m: usize,
     k: usize,
 ) -> u32
-    requires { ⌜ (f .q < 4096) × (reciprocal ≡ 4294967295 / f .q) × (l ≤ 128) × (k < 128) ⌝ }
-    requires { ⌜ Bounded (f .q) (now before) ⌝ }
+    requires { ⌜ (f .q < 4096) × (reciprocal ≡ 4294967295 / f .q) × (k < 128) ⌝ }
+    requires { ⌜ Bounded (f .q) (now before) × Bounded (f .q) (now z) × Bounded (f .q) (now r) ⌝ }
     requires { ⌜ Within (f .q) (now a) l ⌝ }
-    requires { ⌜ Within (f .q) (now z) m ⌝ }
-    requires { ⌜ Within (f .q) (now r) m ⌝ }
     ensures { λ v. ⌜ v ≡ getD (add (modulo (f .q)) (now (before .entry)) (mul (modulo (f .q)) (now (a .entry)) (sub (modulo (f .q)) (now (z .entry)) (now (r .entry))))) k 0 ⌝ }
 {
-    let q = f.q;
-    let t = before[k] + terms(f, a, z, k, l, m) + (128 * q * q - terms(f, a, r, k, l, m));
+    let t = before[k] + change_terms(f, a, l, z, r, k);
     reduce(f, reciprocal, t)
 }
 
@@ -85,7 +81,7 @@ pub fn quotient(
     let mut k = l;
     while 0 < k {
         k -= 1;
-        let v = rest_at(f, reciprocal, s, r, z, l, b, n, k + n - 1);
+        let v = rest_at(f, reciprocal, s, r, z, k + 1, l, b, k + n - 1);
         z[k] = reduce(f, reciprocal, v * unit);
     }
 }
@@ -112,7 +108,7 @@ fn remainder(
     let l = m + 1 - n;
     let mut k: usize = 0;
     while k < n - 1 {
-        z[k] = rest_at(f, reciprocal, s, r, a, l, b, n, k);
+        z[k] = rest_at(f, reciprocal, s, r, a, 0, l, b, k);
         k += 1;
     }
 }
@@ -129,17 +125,16 @@ fn next(
     m: usize,
     w: &mut [u32; 129],
 )
-    requires { ⌜ (f .q < 4096) × (reciprocal ≡ 4294967295 / f .q) × (l ≤ 128) × (m ≤ 128) ⌝ }
-    requires { ⌜ Bounded (f .q) (now before) ⌝ }
+    requires { ⌜ (f .q < 4096) × (reciprocal ≡ 4294967295 / f .q) × (m ≤ 128) ⌝ }
+    requires { ⌜ Bounded (f .q) (now before) × Bounded (f .q) (now z) × Bounded (f .q) (now r) ⌝ }
     requires { ⌜ Within (f .q) (now a) l ⌝ }
-    requires { ⌜ Within (f .q) (now z) m × Within (f .q) (now r) m ⌝ }
     requires { ⌜ length (add (modulo (f .q)) (now before) (mul (modulo (f .q)) (now a) (sub (modulo (f .q)) (now z) (now r)))) ≤ m ⌝ }
     ensures { λ _. ⌜ Places (now (w .exit)) (λ i. getD (add (modulo (f .q)) (now (before .entry)) (mul (modulo (f .q)) (now (a .entry)) (sub (modulo (f .q)) (now (z .entry)) (now (r .entry))))) i 0) ⌝ }
 {
     *w = [0u32; 129];
     let mut k: usize = 0;
     while k < m {
-        w[k] = next_at(f, reciprocal, before, a, l, z, r, m, k);
+        w[k] = next_at(f, reciprocal, before, a, l, z, r, k);
         k += 1;
     }
 }
