@@ -2,4 +2,3 @@
 pub mod linear;
 pub mod reduce;
 pub mod step;
-pub mod terms;

@@ -12,12 +12,11 @@ ghost use Rattle.polynomial.specs.Row.{Bounded};
 ghost use Rattle.walk.specs.Step.{stepQuo, nextRem, Division, Ready, Moved, Stepped};
 use crate::linear::linear;
 use crate::reduce::reduce;
-use crate::terms::change_terms;
-use crate::terms::minus_terms;
 use field::Field;
 use polynomial::linear::top;
+use polynomial::product::excess;
 
-// The coefficient at k of s − r − x·b, where x has l places and zeros before `from`.
+// The coefficient at k of s − r − x·b, where x has l places and zeros before `from`. q − a stands for −a, so that no sum goes below 0; 128 products of 4,095² are below 2³¹.
 fn rest_at(
     f: Field,
     reciprocal: u32,
@@ -35,11 +34,17 @@ fn rest_at(
     ensures { λ v. ⌜ v ≡ getD (sub (modulo (f .q)) (sub (modulo (f .q)) (now (s .entry)) (now (r .entry))) (mul (modulo (f .q)) (now (x .entry)) (now (b .entry)))) k 0 ⌝ }
 {
     let q = f.q;
-    let t = s[k] + (q - r[k]) + minus_terms(f, x, from, l, b, k);
+    let end = k + 1 - excess(k + 1, l);
+    let mut t = s[k] + (q - r[k]);
+    let mut i = from;
+    while i < end {
+        t += (q - x[i]) * b[k - i];
+        i += 1;
+    }
     reduce(f, reciprocal, t)
 }
 
-// The coefficient at k of before + a·(z − r), where a has l places.
+// The coefficient at k of before + a·(z − r), where a has l places. 128 products of 4,095·8,190 are below 2³².
 fn next_at(
     f: Field,
     reciprocal: u32,
@@ -55,7 +60,14 @@ fn next_at(
     requires { ⌜ Within (f .q) (now a) l ⌝ }
     ensures { λ v. ⌜ v ≡ getD (add (modulo (f .q)) (now (before .entry)) (mul (modulo (f .q)) (now (a .entry)) (sub (modulo (f .q)) (now (z .entry)) (now (r .entry))))) k 0 ⌝ }
 {
-    let t = before[k] + change_terms(f, a, l, z, r, k);
+    let q = f.q;
+    let end = k + 1 - excess(k + 1, l);
+    let mut t = before[k];
+    let mut i: usize = 0;
+    while i < end {
+        t += a[i] * (z[k - i] + (q - r[k - i]));
+        i += 1;
+    }
     reduce(f, reciprocal, t)
 }
 
