@@ -1,9 +1,9 @@
 pub mod Step
 pub mod Reciprocal
-pub mod Full
 pub mod Down
 pub mod Sizes
 pub mod Coefficients
 pub mod Quotient
 pub mod Linear
+pub mod Terms
 pub mod Result

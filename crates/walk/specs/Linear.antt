@@ -1,11 +1,12 @@
 -- The coefficients of one step where the quotient has degree 1: each product has two terms, with the place itself and the place before. q − a serves for −a, so that nothing is below 0.
 use Prim.Native.Nat.{ℕ, zero, suc, _+_, _*_, _-_, _%_, _<_, _≤_}
-use native.Mathlib.Nat.{mul-add, add-mul, mul-comm, zero-add}
+use native.Mathlib.Nat.{mul-add, add-mul, mul-assoc, mul-comm, zero-add, zero-mul, add-mod-mod}
 use native.Mathlib.Numerals.{add-one}
 use native.Mathlib.Omega.{arith}
 use mathlib.Core.Path.{_≡_, refl, sym, ap, ap₂, _∙_}
 use mathlib.Core.List.{List, [], _∷_}
 use lib.ListN.{getD}
+use Rattle.ring.specs.Residues.{mod-mul-mod, mul-mod-mod}
 use Rattle.definitions.specs.Field.{modulo, inverse}
 use Rattle.definitions.specs.Polynomials.{add, sub, mul}
 use Rattle.bridge.specs.Prime.{Prime}
@@ -25,12 +26,18 @@ unfolding rows shifted
 two-rows a b k = let z : 0 + getD a 0 0 * getD b k 0 ≡ getD a 0 0 * getD b k 0 = zero-add _ in ap (λ u. u + getD a 1 0 * shifted b 1 k) z
 
 -- (q − a)·x and a·x make q·x
-complement : (q a x : ℕ) → a ≤ q → (q - a) * x + a * x ≡ x * q
+pub complement : (q a x : ℕ) → a ≤ q → (q - a) * x + a * x ≡ x * q
 complement q a x h = sym (add-mul (q - a) a x) ∙ ap (λ n. n * x) (let e : q - a + a ≡ q = omega arith in e) ∙ mul-comm q x
 
 -- a·(z − r) and a·r make a·z, where q is added
-returned : (q a z r : ℕ) → r ≤ q → a * (z + (q - r)) + a * r ≡ a * z + a * q
+pub returned : (q a z r : ℕ) → r ≤ q → a * (z + (q - r)) + a * r ≡ a * z + a * q
 returned q a z r h = sym (mul-add a (z + (q - r)) r) ∙ ap (λ n. a * n) (let e : z + (q - r) + r ≡ z + q = omega arith in e) ∙ mul-add a z q
+
+-- a product with u, taken term by term
+scaled : (q x c y u : ℕ) → (x * u + c * ((y * u) % q)) % q ≡ ((x + c * y) * u) % q
+scaled q x c y u =
+    sym (add-mod-mod (x * u) (c * ((y * u) % q)) q) ∙ ap (λ v. (x * u + v) % q) (mul-mod-mod c (y * u) q) ∙ add-mod-mod (x * u) (c * (y * u)) q
+    ∙ ap (λ v. v % q) (ap (λ v. x * u + v) (sym (mul-assoc c y u)) ∙ sym (add-mul x (c * y) u))
 
 module _ (q : ℕ) (pos : 0 < q) (a : List ℕ) (two : Ends a 2) (a0 a1 : ℕ) (is0 : a0 ≡ getD a 0 0) (is1 : a1 ≡ getD a 1 0) where
   terms-are : (b : List ℕ) (k : ℕ) → a0 * getD b k 0 + a1 * shifted b 1 k ≡ rows a b 2 k
@@ -60,12 +67,14 @@ module _ {q n : ℕ} {s b r : List ℕ} (p : Prime q) (d : Division q (n + 1) n 
   pub linear-past : (i : ℕ) → 2 ≤ i → getD (stepQuo q s b r) i 0 ≡ 0
   linear-past i h = quo-past p d i (omega arith)
 
-  pub upper-at : (v : ℕ) → v ≡ (getD s n 0 + (q - getD r n 0) + ((q - 0) * getD b n 0 + (q - 0) * getD b (n - 1) 0)) % q → (v * inverse q (getD b (n - 1) 0)) % q ≡ getD (stepQuo q s b r) 1 0
-  upper-at v e =
-      let l = some p d in
-      let back : n - 1 + 1 ≡ n = omega arith in
-      quo-at p d [] 1 (λ i h. sym (linear-past i h)) (λ i h. refl) n v (omega arith)
-      (e ∙ rest-two q (positive p d) [] (λ i h. refl) 0 0 refl refl s r b n (getD b n 0) (getD b (n - 1) 0) (omega arith) (omega arith) (d .r-within .reduced n) refl (sym (shifted-next b (n - 1)) ∙ ap (shifted b 1) back))
+  -- what stands at n, times the inverse of the leading coefficient
+  pub upper-at : ((getD s n 0 + (q - getD r n 0)) * inverse q (getD b (n - 1) 0)) % q ≡ getD (stepQuo q s b r) 1 0
+  unfolding rows
+  upper-at =
+      let t : ℕ = getD s n 0 + (q - getD r n 0) in
+      sym (mod-mul-mod t (inverse q (getD b (n - 1) 0)) q)
+      ∙ quo-at p d [] 1 (λ i h. sym (linear-past i h)) (λ i h. refl) n (t % q) (let l = some p d in omega arith)
+      (rest-is q (positive p d) s r [] b n t 0 0 (d .r-within .reduced n) (rows-mul q (positive p d) [] b 0 n (λ i h. refl)) (omega arith))
 
   module _ (a1 : ℕ) (is : a1 ≡ getD (stepQuo q s b r) 1 0) where
     above : (i : ℕ) → 0 < i → getD (0 ∷ a1 ∷ []) i 0 ≡ getD (stepQuo q s b r) i 0
@@ -82,11 +91,21 @@ module _ {q n : ℕ} {s b r : List ℕ} (p : Prime q) (d : Division q (n + 1) n 
     ends (suc zero) h = absurd (omega arith)
     ends (suc (suc i)) h = refl
 
-    pub lower-at : (v y : ℕ) → y ≡ shifted b 1 (n - 1) → v ≡ (getD s (n - 1) 0 + (q - getD r (n - 1) 0) + ((q - 0) * getD b (n - 1) 0 + (q - a1) * y)) % q → (v * inverse q (getD b (n - 1) 0)) % q ≡ getD (stepQuo q s b r) 0 0
-    lower-at v y f e =
-        let h : getD (stepQuo q s b r) 1 0 < q = quo-reduced p d 1 in
-        quo-at p d (0 ∷ a1 ∷ []) 0 above none (n - 1) v (omega arith)
-        (e ∙ rest-two q (positive p d) (0 ∷ a1 ∷ []) ends 0 a1 refl refl s r b (n - 1) (getD b (n - 1) 0) y (omega arith) (omega arith) (d .r-within .reduced (n - 1)) refl f)
+    -- the same at n − 1, where h is the part of a1·x·b without a1
+    pub lower-at : (h y : ℕ) → y ≡ shifted b 1 (n - 1) → h ≡ (y * inverse q (getD b (n - 1) 0)) % q → ((getD s (n - 1) 0 + (q - getD r (n - 1) 0)) * inverse q (getD b (n - 1) 0) + (q - a1) * h) % q ≡ getD (stepQuo q s b r) 0 0
+    lower-at h y f e =
+        let x : ℕ = getD s (n - 1) 0 + (q - getD r (n - 1) 0) in
+        let u : ℕ = inverse q (getD b (n - 1) 0) in
+        let less : getD (stepQuo q s b r) 1 0 < q = quo-reduced p d 1 in
+        let t : ℕ = x + (q - a1) * y in
+        ap (λ (v : ℕ). (x * u + (q - a1) * v) % q) e ∙ scaled q x (q - a1) y u ∙ sym (mod-mul-mod t u q)
+        ∙ quo-at p d (0 ∷ a1 ∷ []) 0 above none (n - 1) (t % q) (omega arith)
+        (rest-is q (positive p d) s r (0 ∷ a1 ∷ []) b (n - 1) t (a1 * y) y (d .r-within .reduced (n - 1))
+        (ap (λ (v : ℕ). v % q) (ap (λ (v : ℕ). a1 * v) f ∙ one-row) ∙ rows-mul q (positive p d) (0 ∷ a1 ∷ []) b 2 (n - 1) ends)
+        (let w = complement q a1 y (omega arith) in omega arith))
+      where
+        one-row : a1 * shifted b 1 (n - 1) ≡ rows (0 ∷ a1 ∷ []) b 2 (n - 1)
+        one-row = let z : 0 * getD b (n - 1) 0 ≡ 0 = zero-mul _ in let w = two-rows (0 ∷ a1 ∷ []) b (n - 1) in omega arith
 
   -- ---- what the two passes form at k
   module _ (a0 a1 : ℕ) (is0 : a0 ≡ getD (stepQuo q s b r) 0 0) (is1 : a1 ≡ getD (stepQuo q s b r) 1 0) where

@@ -38,6 +38,9 @@ module _ {q m n : ℕ} {s before b r : List ℕ} (p : Prime q) (g : Ready q m n 
   pub next-past : (i : ℕ) → m ≤ i → getD (nextQ q s before b r) i 0 ≡ 0
   next-past i l = List·getD-eq-default (nextQ q s before b r) 0 {n = i} (let e = g .short in omega arith)
 
+  pub moved-past : {z w : List ℕ} → Moved q s before b r z w → (i : ℕ) → m ≤ i → getD w i 0 ≡ 0
+  moved-past h i l = h .q-places .at i ∙ next-past i l
+
   next-trim : trim (modulo q) (nextQ q s before b r) ≡ nextQ q s before b r
   unfolding nextQ
   next-trim = trim-add (model q pos) before _

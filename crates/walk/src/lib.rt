@@ -1,4 +1,4 @@
-// The walk of the continued fraction of √D: one step by the recurrences of source 000, and the run to the first constant Q within a budget.
+// One step of the walk of the continued fraction of √D, by the recurrences of source 000.
 pub mod linear;
 pub mod reduce;
 pub mod step;

@@ -1,4 +1,4 @@
-// One step of the walk where the quotient is a0 + a1·x, the most frequent case by far: the two coefficients directly, and one pass each for the remainder and the next Q.
+// One step of the walk where the quotient is a0 + a1·x, the most frequent case: the two coefficients directly, and one pass each for the remainder and the next Q.
 // Each pass keeps the factor at the place before. q − a stands for −a, so that no sum goes below 0.
 ghost use mathlib.Core.Path.{_≡_};
 ghost use Prim.Native.Nat.{_+_, _*_, _-_, _/_, _%_, _<_, _≤_};
@@ -112,11 +112,11 @@ fn upper(
     requires { ⌜ (0 < n) × (n < 128) × Division (f .q) (n + 1) n (now s) (now b) (now r) ⌝ }
     ensures { λ a. ⌜ a ≡ getD (stepQuo (f .q) (now (s .entry)) (now (b .entry)) (now (r .entry))) 1 0 ⌝ }
 {
-    let v = rest_of(f, reciprocal, s[n], r[n], 0, 0, b[n], b[n - 1]);
-    reduce(f, reciprocal, v * unit)
+    let q = f.q;
+    reduce(f, reciprocal, (s[n] + (q - r[n])) * unit)
 }
 
-// a0, which clears s − r − a1·x·b at the place below.
+// a0, which clears s − r − a1·x·b at the place below. Each term is multiplied by the unit on its own, so that one product alone waits for a1.
 fn lower(
     f: Field,
     reciprocal: u32,
@@ -132,9 +132,14 @@ fn lower(
     requires { ⌜ a1 ≡ getD (stepQuo (f .q) (now s) (now b) (now r)) 1 0 ⌝ }
     ensures { λ a. ⌜ a ≡ getD (stepQuo (f .q) (now (s .entry)) (now (b .entry)) (now (r .entry))) 0 0 ⌝ }
 {
+    let q = f.q;
     let y = below(b, n - 1);
-    let v = rest_of(f, reciprocal, s[n - 1], r[n - 1], 0, a1, b[n - 1], y);
-    reduce(f, reciprocal, v * unit)
+    let h = reduce(f, reciprocal, y * unit);
+    reduce(
+        f,
+        reciprocal,
+        (s[n - 1] + (q - r[n - 1])) * unit + (q - a1) * h,
+    )
 }
 
 // One step where b has one coefficient less than s − r may have; `unit` is the inverse of its leading coefficient.

@@ -14,32 +14,37 @@ use crate::linear::linear;
 use crate::reduce::reduce;
 use field::Field;
 use polynomial::linear::top;
-use polynomial::product::terms;
+use polynomial::product::excess;
 
-// The coefficient at k of s − r − x·b, x of l places and b of n. The product is taken from 128·q², which is no less.
+// The coefficient at k of s − r − x·b, where x has l places and zeros before `from`. q − a stands for −a, so that no sum goes below 0; 128 products of 4,095² are below 2³¹.
 fn rest_at(
     f: Field,
     reciprocal: u32,
     s: &[u32; 129],
     r: &[u32; 129],
     x: &[u32; 129],
+    from: usize,
     l: usize,
     b: &[u32; 129],
-    n: usize,
     k: usize,
 ) -> u32
-    requires { ⌜ (f .q < 4096) × (reciprocal ≡ 4294967295 / f .q) × (l ≤ 128) × (k < 128) ⌝ }
-    requires { ⌜ Bounded (f .q) (now s) × Bounded (f .q) (now r) ⌝ }
-    requires { ⌜ Within (f .q) (now x) l ⌝ }
-    requires { ⌜ Within (f .q) (now b) n ⌝ }
+    requires { ⌜ (f .q < 4096) × (reciprocal ≡ 4294967295 / f .q) × (k < 128) × (from ≤ k + 1) ⌝ }
+    requires { ⌜ Bounded (f .q) (now s) × Bounded (f .q) (now r) × Bounded (f .q) (now b) ⌝ }
+    requires { ⌜ Within (f .q) (now x) l × ((i : ℕ) → i < from → getD (now x) i 0 ≡ 0) ⌝ }
     ensures { λ v. ⌜ v ≡ getD (sub (modulo (f .q)) (sub (modulo (f .q)) (now (s .entry)) (now (r .entry))) (mul (modulo (f .q)) (now (x .entry)) (now (b .entry)))) k 0 ⌝ }
 {
     let q = f.q;
-    let t = s[k] + (q - r[k]) + (128 * q * q - terms(f, x, b, k, l, n));
+    let end = k + 1 - excess(k + 1, l);
+    let mut t = s[k] + (q - r[k]);
+    let mut i = from;
+    while i < end {
+        t += (q - x[i]) * b[k - i];
+        i += 1;
+    }
     reduce(f, reciprocal, t)
 }
 
-// The coefficient at k of before + a·(z − r), a of l places, z and r of m.
+// The coefficient at k of before + a·(z − r), where a has l places. 128 products of 4,095·8,190 are below 2³².
 fn next_at(
     f: Field,
     reciprocal: u32,
@@ -48,18 +53,21 @@ fn next_at(
     l: usize,
     z: &[u32; 129],
     r: &[u32; 129],
-    m: usize,
     k: usize,
 ) -> u32
-    requires { ⌜ (f .q < 4096) × (reciprocal ≡ 4294967295 / f .q) × (l ≤ 128) × (k < 128) ⌝ }
-    requires { ⌜ Bounded (f .q) (now before) ⌝ }
+    requires { ⌜ (f .q < 4096) × (reciprocal ≡ 4294967295 / f .q) × (k < 128) ⌝ }
+    requires { ⌜ Bounded (f .q) (now before) × Bounded (f .q) (now z) × Bounded (f .q) (now r) ⌝ }
     requires { ⌜ Within (f .q) (now a) l ⌝ }
-    requires { ⌜ Within (f .q) (now z) m ⌝ }
-    requires { ⌜ Within (f .q) (now r) m ⌝ }
     ensures { λ v. ⌜ v ≡ getD (add (modulo (f .q)) (now (before .entry)) (mul (modulo (f .q)) (now (a .entry)) (sub (modulo (f .q)) (now (z .entry)) (now (r .entry))))) k 0 ⌝ }
 {
     let q = f.q;
-    let t = before[k] + terms(f, a, z, k, l, m) + (128 * q * q - terms(f, a, r, k, l, m));
+    let end = k + 1 - excess(k + 1, l);
+    let mut t = before[k];
+    let mut i: usize = 0;
+    while i < end {
+        t += a[i] * (z[k - i] + (q - r[k - i]));
+        i += 1;
+    }
     reduce(f, reciprocal, t)
 }
 
@@ -85,7 +93,7 @@ pub fn quotient(
     let mut k = l;
     while 0 < k {
         k -= 1;
-        let v = rest_at(f, reciprocal, s, r, z, l, b, n, k + n - 1);
+        let v = rest_at(f, reciprocal, s, r, z, k + 1, l, b, k + n - 1);
         z[k] = reduce(f, reciprocal, v * unit);
     }
 }
@@ -112,7 +120,7 @@ fn remainder(
     let l = m + 1 - n;
     let mut k: usize = 0;
     while k < n - 1 {
-        z[k] = rest_at(f, reciprocal, s, r, a, l, b, n, k);
+        z[k] = rest_at(f, reciprocal, s, r, a, 0, l, b, k);
         k += 1;
     }
 }
@@ -129,17 +137,16 @@ fn next(
     m: usize,
     w: &mut [u32; 129],
 )
-    requires { ⌜ (f .q < 4096) × (reciprocal ≡ 4294967295 / f .q) × (l ≤ 128) × (m ≤ 128) ⌝ }
-    requires { ⌜ Bounded (f .q) (now before) ⌝ }
+    requires { ⌜ (f .q < 4096) × (reciprocal ≡ 4294967295 / f .q) × (m ≤ 128) ⌝ }
+    requires { ⌜ Bounded (f .q) (now before) × Bounded (f .q) (now z) × Bounded (f .q) (now r) ⌝ }
     requires { ⌜ Within (f .q) (now a) l ⌝ }
-    requires { ⌜ Within (f .q) (now z) m × Within (f .q) (now r) m ⌝ }
     requires { ⌜ length (add (modulo (f .q)) (now before) (mul (modulo (f .q)) (now a) (sub (modulo (f .q)) (now z) (now r)))) ≤ m ⌝ }
     ensures { λ _. ⌜ Places (now (w .exit)) (λ i. getD (add (modulo (f .q)) (now (before .entry)) (mul (modulo (f .q)) (now (a .entry)) (sub (modulo (f .q)) (now (z .entry)) (now (r .entry))))) i 0) ⌝ }
 {
     *w = [0u32; 129];
     let mut k: usize = 0;
     while k < m {
-        w[k] = next_at(f, reciprocal, before, a, l, z, r, m, k);
+        w[k] = next_at(f, reciprocal, before, a, l, z, r, k);
         k += 1;
     }
 }

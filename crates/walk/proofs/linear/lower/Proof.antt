@@ -1,8 +1,9 @@
--- a0 times the leading coefficient is what a1 leaves at the place below the top.
-use Prim.Native.Nat.{ℕ, _-_, _*_, _%_, _≤_, _<_}
+-- a0 is what a1 leaves at the place below the top times the inverse of the leading coefficient.
+use Prim.Native.Nat.{ℕ, _+_, _-_, _*_, _%_, _≤_, _<_}
 use native.Mathlib.Nat.{mod-lt, mul-le-mul}
 use native.Mathlib.Omega.{arith}
-use mathlib.Core.Path.{ap, _∙_}
+use mathlib.Core.Path.{_≡_, ap, _∙_}
+use lib.ListN.{getD}
 use borrow.Author.Needs.{needs}
 use Rattle.bridge.specs.Residues.{inverse-lt}
 use Rattle.walk.specs.Sizes.{positive, quo-reduced}
@@ -10,70 +11,91 @@ use Rattle.walk.specs.Linear.{shifted-less, lower-at}
 use Rattle.walk.proofs.linear.lower.Statement.{statement}
 use Rattle.walk.proofs.linear.lower.Tie as tie
 
+unit-less : (c : tie.Start) → c .args .unit < c .args .f .q
+unit-less c = rw (c .pre .0 .3) (inverse-lt (c .args .f .q) (positive (c .pre .0 .0) (c .pre .1 .0 .2)) (getD (c .args .b .now) (c .args .n - 1) 0))
+
+small : (c : tie.Start) → (getD (c .args .s .now) (c .args .n - 1) 0 + (c .args .f .q - getD (c .args .r .now) (c .args .n - 1) 0)) * c .args .unit ≤ 8190 * 4095
+small c =
+    let hs = c .pre .1 .0 .2 .s-within .reduced (c .args .n - 1) in
+    let u = unit-less c in
+    mul-le-mul {n₂ = 8190} {m₂ = 4095} (omega arith) (omega arith)
+
+-- a1 and what is multiplied by its opposite are below q
+product : (c : tie.Start) (h : ℕ) → h < c .args .f .q → (c .args .f .q - c .args .a1) * h ≤ 4095 * 4095
+product c h l = mul-le-mul {n₂ = 4095} {m₂ = 4095} (omega arith) (omega arith)
+
+residue : (c : tie.After-reduce) → c .reduce .result < c .before .before .args .f .q
+residue c = rw (c .reduce .ensures) (mod-lt _ (positive (c .before .before .pre .0 .0) (c .before .before .pre .1 .0 .2)))
+
 sub-below : tie.Need-sub-below
 sub-below c = search needs
 
 below-requires : tie.Need-below-requires
 below-requires c κs = search needs
 
-sub-rest-of : tie.Need-sub-rest-of
-sub-rest-of c = search needs
-
-mul-rest-of : tie.Need-mul-rest-of
-mul-rest-of c = search needs
-
-element-copy-out-rest-of : tie.Need-element-copy-out-rest-of
-element-copy-out-rest-of c = search needs
-
-sub-rest-of-2 : tie.Need-sub-rest-of-2
-sub-rest-of-2 c = search needs
-
-mul-rest-of-2 : tie.Need-mul-rest-of-2
-mul-rest-of-2 c = search needs
-
-element-copy-out-rest-of-2 : tie.Need-element-copy-out-rest-of-2
-element-copy-out-rest-of-2 c = search needs
-
-sub-rest-of-3 : tie.Need-sub-rest-of-3
-sub-rest-of-3 c = search needs
-
-mul-rest-of-3 : tie.Need-mul-rest-of-3
-mul-rest-of-3 c = search needs
-
-element-copy-out-rest-of-3 : tie.Need-element-copy-out-rest-of-3
-element-copy-out-rest-of-3 c = search needs
-
-rest-of-requires : tie.Need-rest-of-requires
-rest-of-requires c κs =
-    let s = c .before .before .before .before in
-    let p = s .pre .0 .0 in
-    let d = s .pre .1 .0 .2 in
-    let pos = positive p d in
-    let h1 : s .args .a1 < s .args .f .q = rw (s .pre .1 .1) (quo-reduced p d 1) in
-    let hy : c .before .before .before .below .result < s .args .f .q = rw (c .before .before .before .below .ensures) (shifted-less _ pos _ (d .b-within .reduced) (s .args .n - 1)) in
-    ((s .pre .0 .1, s .pre .0 .2), (d .s-within .reduced (s .args .n - 1), d .r-within .reduced (s .args .n - 1), pos, h1, d .b-within .reduced (s .args .n - 1), hy))
-
 mul-reduce : tie.Need-mul-reduce
 mul-reduce c =
-    let s = c .before .before .before .before .before in
-    let p = s .pre .0 .0 in
+    let s = c .before in
     let d = s .pre .1 .0 .2 in
-    let pos = positive p d in
-    let v : c .rest-of .result < s .args .f .q = rw (c .rest-of .ensures) (mod-lt _ pos) in
-    let u : s .args .unit < s .args .f .q = rw (s .pre .0 .3) (inverse-lt (s .args .f .q) pos _) in
-    let small : c .rest-of .result * s .args .unit ≤ 4095 * 4095 = mul-le-mul {n₂ = 4095} {m₂ = 4095} (omega arith) (omega arith) in
+    let hy : c .below .result < s .args .f .q = rw (c .below .ensures) (shifted-less (s .args .f .q) (positive (s .pre .0 .0) d) (s .args .b .now) (d .b-within .reduced) (s .args .n - 1)) in
+    let u = unit-less s in
+    let m : c .below .result * s .args .unit ≤ 4095 * 4095 = mul-le-mul {n₂ = 4095} {m₂ = 4095} (omega arith) (omega arith) in
     omega arith
 
 reduce-requires : tie.Need-reduce-requires
 reduce-requires c κs = search needs
 
+sub-reduce : tie.Need-sub-reduce
+sub-reduce c = search needs
+
+mul-reduce-2 : tie.Need-mul-reduce-2
+mul-reduce-2 c = search needs
+
+element-copy-out-reduce : tie.Need-element-copy-out-reduce
+element-copy-out-reduce c = search needs
+
+sub-reduce-2 : tie.Need-sub-reduce-2
+sub-reduce-2 c = search needs
+
+mul-reduce-3 : tie.Need-mul-reduce-3
+mul-reduce-3 c = search needs
+
+element-copy-out-reduce-2 : tie.Need-element-copy-out-reduce-2
+element-copy-out-reduce-2 c = search needs
+
+sub-reduce-3 : tie.Need-sub-reduce-3
+sub-reduce-3 c = let s = c .before .before .before .before in omega (arith, s .pre .1 .0 .2 .r-within .reduced (s .args .n - 1))
+
+add-reduce : tie.Need-add-reduce
+add-reduce c = let s = c .before .before .before .before in omega (arith, s .pre .1 .0 .2 .s-within .reduced (s .args .n - 1))
+
+mul-reduce-4 : tie.Need-mul-reduce-4
+mul-reduce-4 c = omega (arith, small (c .before .before .before .before))
+
+sub-reduce-4 : tie.Need-sub-reduce-4
+sub-reduce-4 c =
+    let s = c .before .before .before .before in
+    let h : s .args .a1 < s .args .f .q = rw (s .pre .1 .1) (quo-reduced (s .pre .0 .0) (s .pre .1 .0 .2) 1) in
+    omega arith
+
+mul-reduce-5 : tie.Need-mul-reduce-5
+mul-reduce-5 c = omega (arith, product (c .before .before .before .before) (c .before .before .reduce .result) (residue (c .before .before)))
+
+add-reduce-2 : tie.Need-add-reduce-2
+add-reduce-2 c = omega (arith, small (c .before .before .before .before), product (c .before .before .before .before) (c .before .before .reduce .result) (residue (c .before .before)))
+
+reduce-requires-2 : tie.Need-reduce-requires-2
+reduce-requires-2 c κs = search needs
+
 returns : tie.Need-returns
 returns c =
-    let s = c .before .before .before .before .before .before in
-    let p = s .pre .0 .0 in
-    let d = s .pre .1 .0 .2 in
-    let v = c .before .rest-of .result in
-    c .reduce .ensures ∙ ap (λ (u : ℕ). (v * u) % s .args .f .q) (s .pre .0 .3) ∙ lower-at p d (s .args .a1) (s .pre .1 .1) v (c .before .before .before .before .before .below .result) (c .before .before .before .before .before .below .ensures) (c .before .rest-of .ensures)
+    let s = c .before .before .before .before .before in
+    let q = s .args .f .q in
+    let i = s .args .n - 1 in
+    let h = c .before .before .before .reduce .result in
+    let b = c .before .before .before .before .below in
+    c .reduce2 .ensures ∙ ap (λ (u : ℕ). ((getD (s .args .s .now) i 0 + (q - getD (s .args .r .now) i 0)) * u + (q - s .args .a1) * h) % q) (s .pre .0 .3)
+    ∙ lower-at (s .pre .0 .0) (s .pre .1 .0 .2) (s .args .a1) (s .pre .1 .1) h (b .result) (b .ensures) (c .before .before .before .reduce .ensures ∙ ap (λ (u : ℕ). (b .result * u) % q) (s .pre .0 .3))
 
 pub lower-spec : {M : Type 1} → statement M
 lower-spec =
@@ -81,16 +103,19 @@ lower-spec =
     (tie.spec
     sub-below
     below-requires
-    sub-rest-of
-    mul-rest-of
-    element-copy-out-rest-of
-    sub-rest-of-2
-    mul-rest-of-2
-    element-copy-out-rest-of-2
-    sub-rest-of-3
-    mul-rest-of-3
-    element-copy-out-rest-of-3
-    rest-of-requires
     mul-reduce
     reduce-requires
+    sub-reduce
+    mul-reduce-2
+    element-copy-out-reduce
+    sub-reduce-2
+    mul-reduce-3
+    element-copy-out-reduce-2
+    sub-reduce-3
+    add-reduce
+    mul-reduce-4
+    sub-reduce-4
+    mul-reduce-5
+    add-reduce-2
+    reduce-requires-2
     returns)

@@ -29,7 +29,7 @@ next-requires c κs =
     let g = s .pre .1 .1 in
     let a = c .before .before .before .before .before .before .quotient .ensures in
     let z = c .before .before .before .remainder .ensures in
-    ((s .pre .0 .1, s .pre .0 .2, omega arith, s .pre .1 .0 .2), (g .before-reduced, (quo-within p (division g) a, ((rem-within p (division g) (s .pre .1 .0 .1) z, g .r-within), next-short p g a z))))
+    ((s .pre .0 .1, s .pre .0 .2, s .pre .1 .0 .2), ((g .before-reduced, rem-within p (division g) (s .pre .1 .0 .1) z .reduced, g .r-within .reduced), (quo-within p (division g) a, next-short p g a z)))
 
 returns : tie.Need-returns
 returns c =

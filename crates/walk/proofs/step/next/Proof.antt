@@ -20,7 +20,7 @@ loop-holds : tie.Need-loop-holds Inv-loop μ-loop
 loop-holds c = (omega arith, filled-none _)
 
 next-at-requires : tie.Need-next-at-requires Inv-loop μ-loop
-next-at-requires c κs = let s = c .before .before .before in ((s .pre .0 .0, s .pre .0 .1, s .pre .0 .2, omega arith), (s .pre .1 .0, (s .pre .1 .1 .0, (s .pre .1 .1 .1 .0 .0, s .pre .1 .1 .1 .0 .1))))
+next-at-requires c κs = let s = c .before .before .before in ((s .pre .0 .0, s .pre .0 .1, omega arith), (s .pre .1 .0, s .pre .1 .1 .0))
 
 mul-w : tie.Need-mul-w Inv-loop μ-loop
 mul-w c = search needs
@@ -44,7 +44,7 @@ returns c =
     let s = c .before .before .before in
     let l = c .before .loop in
     let o = modulo (s .args .f .q) in
-    let short : length (add o (s .args .before .now) (mul o (s .args .a .now) (sub o (s .args .z .now) (s .args .r .now)))) ≤ s .args .m = s .pre .1 .1 .1 .1 in
+    let short : length (add o (s .args .before .now) (mul o (s .args .a .now) (sub o (s .args .z .now) (s .args .r .now)))) ≤ s .args .m = s .pre .1 .1 .1 in
     filled-all _ (l .w) (l .k) (l .inv .1) (λ i h. List·getD-eq-default (add o (s .args .before .now) (mul o (s .args .a .now) (sub o (s .args .z .now) (s .args .r .now)))) 0 {n = i} (omega arith))
 
 pub next-spec : {M : Type 1} → statement M

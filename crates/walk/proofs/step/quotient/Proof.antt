@@ -41,6 +41,9 @@ sub-k c = search needs
 add-rest-at : tie.Need-add-rest-at Inv-loop μ-loop
 add-rest-at c = search needs
 
+add-rest-at-2 : tie.Need-add-rest-at-2 Inv-loop μ-loop
+add-rest-at-2 c = search needs
+
 sub-rest-at : tie.Need-sub-rest-at Inv-loop μ-loop
 sub-rest-at c = search needs
 
@@ -50,7 +53,7 @@ rest-at-requires c κs =
     let p = s .pre .0 .0 in
     let d = s .pre .1 .1 in
     let l = c .before .before .loop in
-    ((s .pre .0 .1, s .pre .0 .2, omega arith, omega arith), ((d .s-within .reduced, d .r-within .reduced), (quo-within-down p d (l .z) (l .k) (l .inv .0) (l .inv .1), d .b-within)))
+    ((s .pre .0 .1, s .pre .0 .2, omega arith, omega arith), ((d .s-within .reduced, d .r-within .reduced, d .b-within .reduced), (quo-within-down p d (l .z) (l .k) (l .inv .0) (l .inv .1), λ i h. l .inv .1 .rest i (omega arith))))
 
 mul-reduce : tie.Need-mul-reduce Inv-loop μ-loop
 mul-reduce c =
@@ -108,6 +111,7 @@ quotient-spec =
     loop-holds
     sub-k
     add-rest-at
+    add-rest-at-2
     sub-rest-at
     rest-at-requires
     mul-reduce

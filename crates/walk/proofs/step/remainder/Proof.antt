@@ -33,7 +33,7 @@ rest-at-requires c κs =
     let s = c .before .before .before in
     let p = s .pre .0 .0 in
     let d = s .pre .1 .1 .0 in
-    ((s .pre .0 .1, s .pre .0 .2, omega arith, omega arith), ((d .s-within .reduced, d .r-within .reduced), (quo-within p d (s .pre .1 .1 .1), d .b-within)))
+    ((s .pre .0 .1, s .pre .0 .2, omega arith, omega arith), ((d .s-within .reduced, d .r-within .reduced, d .b-within .reduced), (quo-within p d (s .pre .1 .1 .1), λ i h. absurd (omega arith))))
 
 mul-z : tie.Need-mul-z Inv-loop μ-loop
 mul-z c = search needs

@@ -1,9 +1,8 @@
 -- The leading coefficient is below q, so its inverse is in the table.
 use Prim.Native.Nat.{_-_}
 use native.Mathlib.Omega.{arith}
-use mathlib.Core.Path.{_∙_}
 use borrow.Author.Needs.{needs}
-use Rattle.walk.specs.Result.{next-past, stepped}
+use Rattle.walk.specs.Result.{moved-past, stepped}
 use Rattle.walk.proofs.step.step.Statement.{statement}
 use Rattle.walk.proofs.step.step.Tie as tie
 
@@ -35,7 +34,7 @@ top-requires c κs =
     let s = c .before .before .before .before .before .before in
     let p = s .pre .0 .0 in
     let g = s .pre .1 .1 .1 in
-    (omega arith, λ i h. c .before .fill .ensures .q-places .at i ∙ next-past p g i h)
+    (omega arith, moved-past p g (c .before .fill .ensures))
 
 returns : tie.Need-returns
 returns c =
