@@ -1,5 +1,4 @@
 // The run of the walk: what it starts from, the loop to the first constant Q within a budget, and the outcome.
-pub mod advance;
 pub mod start;
 pub mod stride;
 pub mod turn;

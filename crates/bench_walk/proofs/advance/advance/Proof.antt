@@ -7,10 +7,10 @@ use Rattle.definitions.specs.Ticket.{genus}
 use Rattle.definitions.specs.Field.{modulo}
 use Rattle.definitions.specs.Walk.{degreeBefore}
 use Rattle.polynomial.specs.Record.{poly}
 use Rattle.run.specs.Start.{half-degree, top-is}
 use Rattle.run.specs.Steps.{Standing, standing-first, standing-next, round-rise, round-some}
-use Rattle.run.proofs.advance.advance.Statement.{statement}
-use Rattle.run.proofs.advance.advance.Tie as tie
+use Rattle.bench_walk.proofs.advance.advance.Statement.{statement}
+use Rattle.bench_walk.proofs.advance.advance.Tie as tie
 
 abbrev Inv-loop : tie.InvT-loop
 Inv-loop f n big length table d s steps top reciprocal a₀ b₀ c₀ x₀ y₀ z₀ at₀ a b c x y z at =
