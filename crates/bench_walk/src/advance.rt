@@ -6,14 +6,14 @@ ghost use Rattle.definitions.specs.Ticket.{genus};
 ghost use Rattle.definitions.specs.Walk.{degreeBefore};
 ghost use Rattle.laws.specs.Admitted.{Admitted};
 ghost use Rattle.polynomial.specs.Record.{poly, Held};
-ghost use Rattle.run.specs.State.{rootD};
-ghost use Rattle.run.specs.Start.{Prepared};
+ghost use Rattle.state.specs.State.{rootD};
+ghost use Rattle.state.specs.Start.{Prepared};
 use counters::Distance;
 use field::Field;
 use polynomial::Poly;
-use run::start::prepare;
 use run::stride::Progress;
 use run::stride::round;
+use state::start::prepare;
 
 // The degree of p_{steps − 1}: so many steps, past every constant Q. D is the first `length` places of big.
 fn advance(

@@ -14,8 +14,8 @@ use Rattle.definitions.specs.Answers.{rootOf}
 use Rattle.definitions.specs.Units.{Lists, written, unitLists}
 use Rattle.laws.specs.Admitted.{Admitted, surd-of}
 use Rattle.laws.specs.Convergents.{p-length, degree-least}
-use Rattle.run.specs.State.{rootD}
-use Rattle.run.specs.Outcome.{ticket}
+use Rattle.state.specs.State.{rootD}
+use Rattle.state.specs.Start.{ticket}
 use Rattle.convergents.specs.Written.{Written, written-again, written-is}
 use Rattle.convergents.specs.Pair.{Pair, pair-long}
 use Rattle.convergents.specs.Recurrence.{s-short}

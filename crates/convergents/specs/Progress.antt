@@ -16,10 +16,10 @@ use Rattle.laws.specs.Convergents.{p-zero, s-zero, p-oks, s-oks, p-length, degr
 use Rattle.laws.specs.State.{a-next}
 use Rattle.walk.specs.Step.{stepQuo, Division}
 use Rattle.walk.specs.Result.{division}
-use Rattle.run.specs.State.{rootD, quo-next}
-use Rattle.run.specs.Start.{Prepared, half-degree}
-use Rattle.run.specs.Walked.{Walked, degree-next}
-use Rattle.run.specs.Turn.{turn-ready}
+use Rattle.state.specs.State.{rootD, quo-next}
+use Rattle.state.specs.Start.{Prepared, half-degree}
+use Rattle.state.specs.Walked.{Walked, degree-next}
+use Rattle.state.specs.Turn.{turn-ready}
 use Rattle.convergents.specs.Written.{Written}
 use Rattle.convergents.specs.Sum.{BelowTo}
 use Rattle.convergents.specs.Pair.{Pair, Folded, pair-long, pair-below, pair-back, pair-next, pair-last}

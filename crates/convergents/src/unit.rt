@@ -11,9 +11,8 @@ ghost use Rattle.bridge.specs.Prime.{Prime};
 ghost use Rattle.polynomial.specs.Places.{Places, Within};
 ghost use Rattle.polynomial.specs.Record.{poly, Held};
 ghost use Rattle.laws.specs.Admitted.{Admitted};
-ghost use Rattle.run.specs.State.{rootD};
-ghost use Rattle.run.specs.Outcome.{ticket};
-ghost use Rattle.run.specs.Start.{Prepared};
+ghost use Rattle.state.specs.State.{rootD};
+ghost use Rattle.state.specs.Start.{Prepared, ticket};
 ghost use Rattle.walk.specs.Step.{stepQuo, Division};
 ghost use Rattle.convergents.specs.Sum.{BelowTo};
 ghost use Rattle.convergents.specs.Pair.{Pair, Folded};
@@ -23,8 +22,8 @@ use crate::combine::clear;
 use crate::combine::combine;
 use field::Field;
 use polynomial::Poly;
-use run::start::prepare;
-use run::turn::turn;
+use state::start::prepare;
+use state::turn::turn;
 use walk::step::quotient;
 
 // Zeros and 1: with t steps to go, 1 in the list of the last convergent.

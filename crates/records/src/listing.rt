@@ -8,8 +8,7 @@ ghost use Rattle.definitions.specs.Listing.{listingOf};
 ghost use Rattle.bridge.specs.Prime.{Prime};
 ghost use Rattle.polynomial.specs.Record.{poly, Held};
 ghost use Rattle.polynomial.specs.Places.{Within};
-ghost use Rattle.run.specs.Start.{Prepared};
-ghost use Rattle.run.specs.Outcome.{ticket};
+ghost use Rattle.state.specs.Start.{Prepared, ticket};
 ghost use Rattle.records.specs.Stored.{stored};
 ghost use Rattle.records.specs.Records.{recordFrom};
 ghost use Rattle.records.specs.Listed.{Listable};
@@ -19,8 +18,8 @@ use counters::Distance;
 use counters::Index;
 use field::Field;
 use polynomial::Poly;
-use run::start::prepare;
-use run::turn::turn;
+use state::start::prepare;
+use state::turn::turn;
 
 // The record of Q, the first `size` places of b, and P = d − left; r is the regulator.
 fn write_record(

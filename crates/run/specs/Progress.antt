@@ -6,8 +6,8 @@ use lib.ListN.{getD}
 use Rattle.laws.specs.Admitted.{Admitted}
 use Rattle.walk.specs.Step.{Stepped}
 use Rattle.run.specs.declared.stride.Progress.{Progress}
-use Rattle.run.specs.Start.{Prepared}
-use Rattle.run.specs.Walked.{Walked}
+use Rattle.state.specs.Start.{Prepared}
+use Rattle.state.specs.Walked.{Walked}
 
 -- z and w are the next remainder and the next Q; the degree rises by top less the size of Q
 pub record Taken (q top : ℕ) (s c b r z w : List ℕ) (at k : Progress) : Type 0 where

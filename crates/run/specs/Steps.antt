@@ -15,8 +15,8 @@ use Rattle.laws.specs.QuasiPeriod.{Quasi}
 use Rattle.polynomial.specs.Record.{poly, Held}
 use Rattle.polynomial.specs.Places.{zeros}
 use Rattle.run.specs.declared.stride.Progress.{Progress}
-use Rattle.run.specs.State.{rootD}
-use Rattle.run.specs.Start.{Prepared}
+use Rattle.state.specs.State.{rootD}
+use Rattle.state.specs.Start.{Prepared}
 use Rattle.run.specs.Progress.{On, Steps, last, more, Rounded}
 use Rattle.run.specs.Stride.{NoneTo, on-first, stride-on, stride-last, stride-none, stride-found}
 use Rattle.run.specs.Outcome.{ticket, signed, found-is, spent-is}

@@ -16,9 +16,9 @@ use Rattle.polynomial.specs.Pad.{at-pad}
 use Rattle.polynomial.specs.Places.{zeros}
 use Rattle.walk.specs.Step.{Ready}
 use Rattle.run.specs.declared.stride.Progress.{Progress}
-use Rattle.run.specs.State.{rootD, State, state-first, state-ready, state-next}
-use Rattle.run.specs.Start.{Prepared, one-is}
-use Rattle.run.specs.Walked.{Walked, walked-first, walked-more, none-more, none-found, degree-fits}
+use Rattle.state.specs.State.{rootD, State, state-ready, state-next}
+use Rattle.state.specs.Start.{Prepared}
+use Rattle.state.specs.Walked.{Walked, walked-first, walked-more, none-more, none-found, degree-fits}
 use Rattle.run.specs.Progress.{Taken, On}
 
 -- no Q of an index from 1 to i is constant
@@ -27,9 +27,8 @@ NoneTo q g D at = NoQuasi (modulo q) D (rootD q g D) (at .index)
 
 -- D, 1 and d in their places
 pub on-first : {q g : ℕ} (c : List ℕ) (l : ℕ) {table d s : List ℕ} → Admitted q g (poly c l) → Held q c l → Prepared q g (poly c l) table d s → On q g (poly c l) c (set zeros 0 1) d (record { index = 0; degree = 0; size = 1; last = 1 })
-on-first {q} {g} c l {table} {d} {s} h k p =
-    let t = state-first q g (poly c l) h in
-    record { walked = walked-first q g (poly c l) h c (set zeros 0 1) d (record { before-is = k .places ∙ t .before-is; q-is = one-is q (h .prime .two) ∙ t .q-is; left-is = p .root-is ∙ t .left-is; size-is = t .size-is }) }
+on-first c l h k p =
+    record { walked = walked-first c l h k p }
 
 module _ {q g top : ℕ} {D table d s : List ℕ} (h : Admitted q g D) (e : top ≡ suc (suc g)) (p : Prepared q g D table d s) {c b r : List ℕ} {at : Progress} (t : On q g D c b r at) where
   -- what a step asks for

@@ -1,7 +1,5 @@
 // The run of the walk: what it starts from, the loop to the first constant Q within a budget, and the outcome.
-pub mod start;
 pub mod stride;
-pub mod turn;
 
 ghost use mathlib.Core.Path.{_≡_};
 ghost use Prim.Native.Nat.{_<_, _≤_};
@@ -9,15 +7,15 @@ ghost use Rattle.definitions.specs.Ticket.{genus};
 ghost use Rattle.definitions.specs.Answers.{outcomeOf};
 ghost use Rattle.laws.specs.Admitted.{Admitted};
 ghost use Rattle.polynomial.specs.Record.{poly, Held};
-ghost use Rattle.run.specs.Start.{Prepared};
+ghost use Rattle.state.specs.Start.{Prepared};
 ghost use Rattle.run.specs.Outcome.{meaning, signed, ticket};
-use crate::start::prepare;
 use crate::stride::Progress;
 use crate::stride::round;
 use counters::Distance;
 use counters::Index;
 use field::Field;
 use polynomial::Poly;
+use state::start::prepare;
 
 pub enum Outcome {
     Found(Distance, Index, u32),

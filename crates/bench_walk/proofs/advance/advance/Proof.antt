@@ -7,7 +7,7 @@ use Rattle.definitions.specs.Ticket.{genus}
 use Rattle.definitions.specs.Field.{modulo}
 use Rattle.definitions.specs.Walk.{degreeBefore}
 use Rattle.polynomial.specs.Record.{poly}
-use Rattle.run.specs.Start.{half-degree, top-is}
+use Rattle.state.specs.Start.{half-degree, top-is}
 use Rattle.run.specs.Steps.{Standing, standing-first, standing-next, round-rise, round-some}
 use Rattle.bench_walk.proofs.advance.advance.Statement.{statement}
 use Rattle.bench_walk.proofs.advance.advance.Tie as tie

@@ -4,10 +4,9 @@ use native.Mathlib.Omega.{arith}
 use mathlib.Core.Path.{_≡_, refl, subst}
 use Rattle.definitions.specs.Ticket.{genus}
 use Rattle.polynomial.specs.Record.{poly}
-use Rattle.run.specs.Start.{half-degree}
-use Rattle.run.specs.Walked.{Walked}
-use Rattle.run.specs.Stride.{on-first}
-use Rattle.run.specs.Turn.{size-some, size-most, top-most, turn-ready, turn-again}
+use Rattle.state.specs.Start.{half-degree}
+use Rattle.state.specs.Walked.{Walked, walked-first}
+use Rattle.state.specs.Turn.{size-some, size-most, top-most, turn-ready, turn-again}
 use Rattle.convergents.specs.Progress.{Progress, Ended, progress-long, progress-room, progress-reduced, progress-last, degree-room, turn-division, progress-next}
 use borrow.Author.Needs.{needs}
 use Rattle.convergents.proofs.unit.steps.Statement.{statement}
@@ -37,7 +36,7 @@ array-write-b c = search needs
 loop-holds : tie.Need-loop-holds Inv-loop μ-loop
 loop-holds c =
     let s = c .before .before .before .before .before .before .before in
-    (omega arith, on-first (s .args .big .now) (s .args .length) (s .pre .0) (s .pre .1 .0 .0) (s .pre .1 .1 .0) .walked, subst (λ (t : ℕ). Progress (s .args .f .q) (genus (s .args .n)) (poly (s .args .big .now) (s .args .length)) (s .args .count) t 0 (s .args .p .now) (s .args .s .now) (s .args .x .now) (s .args .y .now) (s .args .p .now) (s .args .s .now) (s .args .x .now) (s .args .y .now)) (let e : s .args .m ≡ s .args .m - 0 = omega arith in e) (s .pre .1 .1 .1 .1 .1))
+    (omega arith, walked-first (s .args .big .now) (s .args .length) (s .pre .0) (s .pre .1 .0 .0) (s .pre .1 .1 .0), subst (λ (t : ℕ). Progress (s .args .f .q) (genus (s .args .n)) (poly (s .args .big .now) (s .args .length)) (s .args .count) t 0 (s .args .p .now) (s .args .s .now) (s .args .x .now) (s .args .y .now) (s .args .p .now) (s .args .s .now) (s .args .x .now) (s .args .y .now)) (let e : s .args .m ≡ s .args .m - 0 = omega arith in e) (s .pre .1 .1 .1 .1 .1))
 
 sub-degree : tie.Need-sub-degree Inv-loop μ-loop
 sub-degree c =
@@ -68,7 +67,7 @@ advance-requires c κs =
     let s = c .before .before .before .before .before .before .before .before .before .before .before .before .before .before .before in
     let l = c .before .before .before .before .before .before .before .loop in
     let room = degree-room (s .args .n) (s .pre .0) (s .pre .1 .0 .1) (l .inv .1) (s .args .m) (s .args .count) (omega arith) (s .pre .1 .1 .1 .0) in
-    let few = top-most (s .args .n) (s .pre .0) (s .pre .1 .0 .1) (l .inv .1) in
+    let few = top-most (s .args .n) (s .pre .0) (s .pre .1 .0 .1) in
     let e = half-degree (s .args .n) (s .pre .1 .0 .1) in
     let g : genus (s .args .n) ≤ 31 = s .pre .0 .genus-most in
     ((s .pre .0 .prime, s .pre .0 .small, refl), ((size-some (s .args .n) (s .pre .0) (s .pre .1 .0 .1) (l .inv .1), size-most (s .args .n) (s .pre .0) (s .pre .1 .0 .1) (l .inv .1), omega arith), (s .pre .1 .1 .0 .inverses, (turn-division (s .args .n) (s .pre .0) (s .pre .1 .0 .1) (l .inv .1) (s .pre .1 .1 .0), (progress-room (s .pre .0) (l .inv .2) _ room (s .pre .1 .1 .1 .1 .0), progress-reduced (s .pre .0) (l .inv .2) _ room)))))
@@ -77,7 +76,7 @@ turn-requires : tie.Need-turn-requires Inv-loop μ-loop
 turn-requires c κs =
     let s = c .before .before .before .before .before .before .before .before .before .before .before .before .before .before .before .before .before .before .before .before .before .before .before .before .before .before .before in
     let l = c .before .before .before .before .before .before .before .before .before .before .before .before .before .before .before .before .before .before .before .loop in
-    ((s .pre .0 .prime, s .pre .0 .small, refl), ((size-some (s .args .n) (s .pre .0) (s .pre .1 .0 .1) (l .inv .1), size-most (s .args .n) (s .pre .0) (s .pre .1 .0 .1) (l .inv .1), top-most (s .args .n) (s .pre .0) (s .pre .1 .0 .1) (l .inv .1)), (s .pre .1 .1 .0 .inverses, turn-ready (s .args .n) (s .pre .0) (s .pre .1 .0 .1) (l .inv .1) (s .pre .1 .1 .0))))
+    ((s .pre .0 .prime, s .pre .0 .small, refl), ((size-some (s .args .n) (s .pre .0) (s .pre .1 .0 .1) (l .inv .1), size-most (s .args .n) (s .pre .0) (s .pre .1 .0 .1) (l .inv .1), top-most (s .args .n) (s .pre .0) (s .pre .1 .0 .1)), (s .pre .1 .1 .0 .inverses, turn-ready (s .args .n) (s .pre .0) (s .pre .1 .0 .1) (l .inv .1) (s .pre .1 .1 .0))))
 
 add-i : tie.Need-add-i Inv-loop μ-loop
 add-i c =

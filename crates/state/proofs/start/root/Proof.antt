@@ -2,10 +2,10 @@
 use Prim.Native.Nat.{ℕ, suc, _-_, _≤_}
 use native.Mathlib.Omega.{arith}
 use mathlib.Core.Path.{_≡_, subst}
-use Rattle.run.specs.Root.{Rooted, rooted-first, rooted-more, rooted-all}
+use Rattle.state.specs.Root.{Rooted, rooted-first, rooted-more, rooted-all}
 use borrow.Author.Needs.{needs}
-use Rattle.run.proofs.start.root.Statement.{statement}
-use Rattle.run.proofs.start.root.Tie as tie
+use Rattle.state.proofs.start.root.Statement.{statement}
+use Rattle.state.proofs.start.root.Tie as tie
 
 abbrev Inv-loop : tie.InvT-loop
 Inv-loop f h big z₀ e₀ z e = (e ≤ h) × Rooted (f .q) big h e z

@@ -6,9 +6,9 @@ use mathlib.Core.Path.{refl, sym, subst}
 use lib.ListN.{getD}
 use borrow.Author.Needs.{needs}
 use Rattle.bridge.specs.Residues.{inverse-below}
-use Rattle.run.specs.Table.{Table, table-two, table-next}
-use Rattle.run.proofs.start.inverses.Statement.{statement}
-use Rattle.run.proofs.start.inverses.Tie as tie
+use Rattle.state.specs.Table.{Table, table-two, table-next}
+use Rattle.state.proofs.start.inverses.Statement.{statement}
+use Rattle.state.proofs.start.inverses.Tie as tie
 
 abbrev Inv-loop : tie.InvT-loop
 Inv-loop table₀ q a₀ table a = (1 < a) × (a ≤ q) × Table q table a

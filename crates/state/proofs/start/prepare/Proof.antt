@@ -5,9 +5,9 @@ use mathlib.Core.Path.{_≡_, subst}
 use borrow.Author.Needs.{needs}
 use Rattle.definitions.specs.Ticket.{genus}
 use Rattle.polynomial.specs.Places.{Within}
-use Rattle.run.specs.Start.{half-degree, root-places, root-within, twice-places}
-use Rattle.run.proofs.start.prepare.Statement.{statement}
-use Rattle.run.proofs.start.prepare.Tie as tie
+use Rattle.state.specs.Start.{half-degree, root-places, root-within, twice-places}
+use Rattle.state.proofs.start.prepare.Statement.{statement}
+use Rattle.state.proofs.start.prepare.Tie as tie
 
 inverses-requires : tie.Need-inverses-requires
 inverses-requires c κs = search needs

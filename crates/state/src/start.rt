@@ -8,7 +8,7 @@ ghost use Rattle.polynomial.specs.Places.{Within};
 ghost use Rattle.definitions.specs.Ticket.{genus};
 ghost use Rattle.laws.specs.Admitted.{Admitted};
 ghost use Rattle.polynomial.specs.Record.{poly, Held};
-ghost use Rattle.run.specs.Start.{Prepared};
+ghost use Rattle.state.specs.Start.{Prepared};
 use field::Field;
 use polynomial::Poly;
 use polynomial::linear::add_places;

@@ -8,8 +8,8 @@ use Rattle.definitions.specs.Field.{modulo}
 use Rattle.bridge.specs.Arithmetic.{oks-mul}
 use Rattle.bridge.specs.Residues.{model, inverse-below}
 use borrow.Author.Needs.{needs}
-use Rattle.run.proofs.start.coefficient.Statement.{statement}
-use Rattle.run.proofs.start.coefficient.Tie as tie
+use Rattle.state.proofs.start.coefficient.Statement.{statement}
+use Rattle.state.proofs.start.coefficient.Tie as tie
 
 add-dot : tie.Need-add-dot
 add-dot c = search needs

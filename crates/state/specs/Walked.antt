@@ -6,13 +6,16 @@ use native.Mathlib.Omega.{arith}
 use mathlib.Core.Path.{_≡_, sym, ap, ap₂, _∙_, subst}
 use mathlib.Core.Logic.{⊎-elim}
 use mathlib.Core.List.{List}
-use lib.ListN.{length}
+use lib.ListN.{length, set}
 use Rattle.definitions.specs.Field.{modulo}
 use Rattle.definitions.specs.Walk.{Q, degreeBefore}
 use Rattle.laws.specs.Admitted.{Admitted, surd-of}
 use Rattle.laws.specs.Convergents.{degree-zero, degree-suc, degree-most}
 use Rattle.laws.specs.QuasiPeriod.{Quasi, NoQuasi}
-use Rattle.run.specs.State.{rootD, State}
+use Rattle.polynomial.specs.Record.{poly, Held}
+use Rattle.polynomial.specs.Places.{zeros}
+use Rattle.state.specs.State.{rootD, State, state-first}
+use Rattle.state.specs.Start.{Prepared, one-is}
 
 pub record Walked (q g : ℕ) (D : List ℕ) (i : ℕ) (c b r : List ℕ) (size degree : ℕ) : Type 0 where
   pub state : State q g D i c b r size
@@ -21,9 +24,6 @@ pub record Walked (q g : ℕ) (D : List ℕ) (i : ℕ) (c b r : List ℕ) (size 
 module _ (q g : ℕ) (D : List ℕ) (h : Admitted q g D) where
   abbrev d : List ℕ
   d = rootD q g D
-
-  pub walked-first : (c b r : List ℕ) → State q g D 0 c b r 1 → Walked q g D 0 c b r 1 0
-  walked-first c b r t = record { state = t; degree-is = sym (degree-zero (surd-of h)) }
 
   module _ (i : ℕ) (c b r : List ℕ) (size degree : ℕ) (t : Walked q g D i c b r size degree) where
     -- the degree after one step more, and that it fits
@@ -48,3 +48,9 @@ module _ (q g : ℕ) (D : List ℕ) (h : Admitted q g D) where
     -- the next Q is constant
     pub none-found : (m : ℕ) → i < m → k ≡ 1 → Quasi (modulo q) D d m (i + 1)
     none-found m l e = subst (Quasi (modulo q) D d m) (sym (add-one i)) (record { positive = omega arith; within = l; constant = sym (u .size-is) ∙ e; least = λ j p n. none j p (omega arith) })
+
+-- D, 1 and d in their places
+pub walked-first : {q g : ℕ} (c : List ℕ) (l : ℕ) {table d s : List ℕ} → Admitted q g (poly c l) → Held q c l → Prepared q g (poly c l) table d s → Walked q g (poly c l) 0 c (set zeros 0 1) d 1 0
+walked-first {q} {g} c l h k p =
+    let t = state-first q g (poly c l) h in
+    record { state = record { before-is = k .places ∙ t .before-is; q-is = one-is q (h .prime .two) ∙ t .q-is; left-is = p .root-is ∙ t .left-is; size-is = t .size-is }; degree-is = sym (degree-zero (surd-of h)) }

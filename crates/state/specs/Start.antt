@@ -9,7 +9,7 @@ use lib.ListN.{length, getD, set}
 use lib.Seq.{ext-getD}
 use Rattle.definitions.specs.Field.{modulo, inverse}
 use Rattle.definitions.specs.Polynomials.{trim, pad, add, root}
-use Rattle.definitions.specs.Ticket.{genus}
+use Rattle.definitions.specs.Ticket.{Ticket, genus}
 use Rattle.bridge.specs.Arithmetic.{at-add}
 use Rattle.bridge.specs.Lengths.{length-add}
 use Rattle.bridge.specs.Residues.{model, pos}
@@ -19,8 +19,12 @@ use Rattle.polynomial.specs.Record.{poly, Held}
 use Rattle.polynomial.specs.Held.{at-poly}
 use Rattle.polynomial.specs.Pad.{length-pad, at-pad}
 use Rattle.polynomial.specs.Places.{Places, Within, zeros}
-use Rattle.run.specs.Root.{root-cong}
-use Rattle.run.specs.State.{rootD, pad-within}
+use Rattle.state.specs.Root.{root-cong}
+use Rattle.state.specs.State.{rootD, pad-within}
+
+-- the ticket of the parts
+abbrev pub ticket : ℕ → ℕ → List ℕ → ℕ → Ticket
+ticket q n D b = record { q = q; n = n; D = D; b = b }
 
 -- the table of inverses, d and s = 2d
 pub record Prepared (q g : ℕ) (D table d s : List ℕ) : Type 0 where
