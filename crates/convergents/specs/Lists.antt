@@ -16,10 +16,10 @@ use Rattle.laws.specs.Admitted.{Admitted, surd-of}
 use Rattle.laws.specs.Convergents.{p-length, degree-least}
 use Rattle.state.specs.State.{rootD}
 use Rattle.state.specs.Start.{ticket}
-use Rattle.convergents.specs.Written.{Written, written-again, written-is}
-use Rattle.convergents.specs.Pair.{Pair, pair-long}
-use Rattle.convergents.specs.Recurrence.{s-short}
-use Rattle.convergents.specs.Progress.{Room, Progress, Ended, progress-first}
+use Rattle.recurrence.specs.Written.{Written, written-again, written-is}
+use Rattle.recurrence.specs.Pair.{Pair, pair-long}
+use Rattle.recurrence.specs.Recurrence.{s-short}
+use Rattle.recurrence.specs.Progress.{Room, Progress, Ended, progress-first}
 
 abbrev pub lists : List ℕ → List ℕ → List ℕ → List ℕ → Lists
 lists p s x y = record { first = p; second = s; third = x; fourth = y }

@@ -20,9 +20,10 @@ use Rattle.state.specs.State.{rootD, pad-within}
 use Rattle.state.specs.Start.{Prepared, top-is, ticket}
 use Rattle.state.specs.Walked.{Walked}
 use Rattle.state.specs.Turn.{top-most, size-some, size-most, turn-ready as ready, turn-again}
-use Rattle.records.specs.Stored.{stored, stored-none, stored-append, stored-first, length-stored}
+use Rattle.entry.specs.Stored.{stored, stored-none, stored-append, stored-first, length-stored}
 use Rattle.records.specs.Ideal.{left-within, ideal-is}
-use Rattle.records.specs.Records.{recordFrom, records-next, length-records}
+use Rattle.entry.specs.Entry.{recordFrom}
+use Rattle.records.specs.Records.{records-next, length-records}
 
 -- what is asked for the records of the indices 1 to m in the list `old`: R is the degree of p_{m−1}
 pub record Listable (q n : ℕ) (D : List ℕ) (m R : ℕ) (old : List ℕ) : Type 0 where
