@@ -11,9 +11,9 @@ ghost use Rattle.state.specs.Start.{Prepared};
 use counters::Distance;
 use field::Field;
 use polynomial::Poly;
-use run::stride::Progress;
-use run::stride::round;
 use state::start::prepare;
+use stride::Progress;
+use stride::round;
 
 // The degree of p_{steps − 1}: so many steps, past every constant Q. D is the first `length` places of big.
 fn advance(

@@ -1,4 +1,2 @@
 pub mod Outcome
-pub mod Progress
-pub mod Stride
 pub mod Steps

@@ -1,6 +1,4 @@
-// The run of the walk: what it starts from, the loop to the first constant Q within a budget, and the outcome.
-pub mod stride;
-
+// The run of the walk: the loop to the first constant Q within a budget, and the outcome.
 ghost use mathlib.Core.Path.{_≡_};
 ghost use Prim.Native.Nat.{_<_, _≤_};
 ghost use Rattle.definitions.specs.Ticket.{genus};
@@ -9,13 +7,13 @@ ghost use Rattle.laws.specs.Admitted.{Admitted};
 ghost use Rattle.polynomial.specs.Record.{poly, Held};
 ghost use Rattle.state.specs.Start.{Prepared};
 ghost use Rattle.run.specs.Outcome.{meaning, signed, ticket};
-use crate::stride::Progress;
-use crate::stride::round;
 use counters::Distance;
 use counters::Index;
 use field::Field;
 use polynomial::Poly;
 use state::start::prepare;
+use stride::Progress;
+use stride::round;
 
 pub enum Outcome {
     Found(Distance, Index, u32),

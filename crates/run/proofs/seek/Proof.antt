@@ -7,7 +7,7 @@ use Rattle.definitions.specs.Ticket.{genus}
 use Rattle.definitions.specs.Answers.{found}
 use Rattle.polynomial.specs.Record.{poly}
 use Rattle.state.specs.Start.{half-degree, top-is}
-use Rattle.run.specs.Stride.{NoneTo}
+use Rattle.stride.specs.Stride.{NoneTo}
 use Rattle.run.specs.Steps.{Standing, standing-first, standing-next, round-rise, steps-none, last-reduced, outcome-found, outcome-spent}
 use Rattle.run.proofs.seek.Statement.{statement}
 use Rattle.run.proofs.seek.Tie as tie

@@ -5,7 +5,7 @@ ghost use lib.ListN.{getD};
 ghost use Rattle.definitions.specs.Field.{inverse};
 ghost use Rattle.bridge.specs.Prime.{Prime};
 ghost use Rattle.walk.specs.Step.{Ready};
-ghost use Rattle.run.specs.Progress.{Taken, Going, Rounded};
+ghost use Rattle.stride.specs.Progress.{Taken, Going, Rounded};
 use field::Field;
 use walk::step::step;
 

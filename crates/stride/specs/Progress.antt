@@ -5,7 +5,7 @@ use mathlib.Core.List.{List}
 use lib.ListN.{getD}
 use Rattle.laws.specs.Admitted.{Admitted}
 use Rattle.walk.specs.Step.{Stepped}
-use Rattle.run.specs.declared.stride.Progress.{Progress}
+use Rattle.stride.specs.declared.Progress.{Progress}
 use Rattle.state.specs.Start.{Prepared}
 use Rattle.state.specs.Walked.{Walked}
 

@@ -15,11 +15,11 @@ use Rattle.polynomial.specs.Record.{poly, Held}
 use Rattle.polynomial.specs.Pad.{at-pad}
 use Rattle.polynomial.specs.Places.{zeros}
 use Rattle.walk.specs.Step.{Ready}
-use Rattle.run.specs.declared.stride.Progress.{Progress}
+use Rattle.stride.specs.declared.Progress.{Progress}
 use Rattle.state.specs.State.{rootD, State, state-ready, state-next}
 use Rattle.state.specs.Start.{Prepared}
 use Rattle.state.specs.Walked.{Walked, walked-first, walked-more, none-more, none-found, degree-fits}
-use Rattle.run.specs.Progress.{Taken, On}
+use Rattle.stride.specs.Progress.{Taken, On}
 
 -- no Q of an index from 1 to i is constant
 abbrev pub NoneTo : ℕ → ℕ → List ℕ → Progress → Type 0

@@ -1,9 +1,9 @@
 -- Where a step ends the round the arrays need not stand in their order; after three they do.
 use native.Mathlib.Omega.{arith}
-use Rattle.run.specs.Progress.{last, more}
-use Rattle.run.specs.Stride.{stride-asks, stride-on}
-use Rattle.run.proofs.stride.round.Statement.{statement}
-use Rattle.run.proofs.stride.round.Tie as tie
+use Rattle.stride.specs.Progress.{last, more}
+use Rattle.stride.specs.Stride.{stride-asks, stride-on}
+use Rattle.stride.proofs.round.Statement.{statement}
+use Rattle.stride.proofs.round.Tie as tie
 
 stride-requires : tie.Need-stride-requires
 stride-requires c κs =

@@ -1,7 +1,7 @@
 -- What a step asks for is asked for here.
 use borrow.Author.Needs.{needs}
-use Rattle.run.proofs.stride.stride.Statement.{statement}
-use Rattle.run.proofs.stride.stride.Tie as tie
+use Rattle.stride.proofs.stride.Statement.{statement}
+use Rattle.stride.proofs.stride.Tie as tie
 
 step-requires : tie.Need-step-requires
 step-requires c κs =
