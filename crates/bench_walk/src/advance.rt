@@ -15,25 +15,25 @@ use state::start::prepare;
 use stride::Progress;
 use stride::round;
 
-// The degree of p_{steps − 1}: so many steps, past every constant Q. D is the first `length` places of big.
+// The degree of p_{steps − 1}: so many steps, past every constant Q. D is the first `length` places of `radicand`.
 fn advance(
     f: Field,
     n: usize,
-    big: &[u32; 129],
+    radicand: &[u32; 129],
     length: usize,
     table: &[u32; 4096],
     d: &[u32; 129],
     s: &[u32; 129],
     steps: u64,
 ) -> Distance
-    requires { ⌜ Admitted (f .q) (genus n) (poly (now big) length) ⌝ }
-    requires { ⌜ Held (f .q) (now big) length × (2 ≤ n) × (steps < 268435456) ⌝ }
-    requires { ⌜ Prepared (f .q) (genus n) (poly (now big) length) (now table) (now d) (now s) ⌝ }
-    ensures { λ r. ⌜ r .0 ≡ degreeBefore (modulo (f .q)) (poly (now (big .entry)) length) (rootD (f .q) (genus n) (poly (now (big .entry)) length)) steps ⌝ }
+    requires { ⌜ Admitted (f .q) (genus n) (poly (now radicand) length) ⌝ }
+    requires { ⌜ Held (f .q) (now radicand) length × (2 ≤ n) × (steps < 268435456) ⌝ }
+    requires { ⌜ Prepared (f .q) (genus n) (poly (now radicand) length) (now table) (now d) (now s) ⌝ }
+    ensures { λ r. ⌜ r .0 ≡ degreeBefore (modulo (f .q)) (poly (now (radicand .entry)) length) (rootD (f .q) (genus n) (poly (now (radicand .entry)) length)) steps ⌝ }
 {
     let top = n / 2 + 1;
     let reciprocal = 4294967295 / f.q;
-    let mut a = *big;
+    let mut a = *radicand;
     let mut b = [0u32; 129];
     let mut c = [0u32; 129];
     b[0] = 1;
@@ -68,14 +68,14 @@ fn advance(
 }
 
 // The degree that so many steps reach, whether a Q is constant or not: for measuring the time of a step.
-pub fn run_on(f: Field, n: usize, big: Poly, steps: u64) -> Distance
-    requires { ⌜ Admitted (f .q) (genus n) (poly (big .c) (big .size)) ⌝ }
-    requires { ⌜ Held (f .q) (big .c) (big .size) × (2 ≤ n) × (steps < 268435456) ⌝ }
-    ensures { λ r. ⌜ r .0 ≡ degreeBefore (modulo (f .q)) (poly (big .c) (big .size)) (rootD (f .q) (genus n) (poly (big .c) (big .size))) steps ⌝ }
+pub fn run_on(f: Field, n: usize, radicand: Poly, steps: u64) -> Distance
+    requires { ⌜ Admitted (f .q) (genus n) (poly (radicand .c) (radicand .size)) ⌝ }
+    requires { ⌜ Held (f .q) (radicand .c) (radicand .size) × (2 ≤ n) × (steps < 268435456) ⌝ }
+    ensures { λ r. ⌜ r .0 ≡ degreeBefore (modulo (f .q)) (poly (radicand .c) (radicand .size)) (rootD (f .q) (genus n) (poly (radicand .c) (radicand .size))) steps ⌝ }
 {
     let mut table = [0u32; 4096];
     let mut d = [0u32; 129];
     let mut s = [0u32; 129];
-    prepare(f, n, big, &mut table, &mut d, &mut s);
-    advance(f, n, &big.c, big.size, &table, &d, &s, steps)
+    prepare(f, n, radicand, &mut table, &mut d, &mut s);
+    advance(f, n, &radicand.c, radicand.size, &table, &d, &s, steps)
 }

@@ -22,7 +22,7 @@ use state::start::prepare;
 fn fill(
     f: Field,
     n: usize,
-    big: &[u32; 129],
+    radicand: &[u32; 129],
     length: usize,
     table: &[u32; 4096],
     d: &[u32; 129],
@@ -34,23 +34,37 @@ fn fill(
     x: &mut [u32],
     y: &mut [u32],
 )
-    requires { ⌜ Admitted (f .q) (genus n) (poly (now big) length) ⌝ }
-    requires { ⌜ Held (f .q) (now big) length × (2 ≤ n) ⌝ }
-    requires { ⌜ Prepared (f .q) (genus n) (poly (now big) length) (now table) (now d) (now twice) ⌝ }
-    requires { ⌜ degreeBefore (modulo (f .q)) (poly (now big) length) (rootD (f .q) (genus n) (poly (now big) length)) m + 1 ≡ count ⌝ }
+    requires { ⌜ Admitted (f .q) (genus n) (poly (now radicand) length) ⌝ }
+    requires { ⌜ Held (f .q) (now radicand) length × (2 ≤ n) ⌝ }
+    requires { ⌜ Prepared (f .q) (genus n) (poly (now radicand) length) (now table) (now d) (now twice) ⌝ }
+    requires { ⌜ degreeBefore (modulo (f .q)) (poly (now radicand) length) (rootD (f .q) (genus n) (poly (now radicand) length)) m + 1 ≡ count ⌝ }
     requires { ⌜ Room count (now p) (now s) (now x) (now y) ⌝ }
-    ensures { λ _. ⌜ Ended (f .q) (genus n) (poly (now (big .entry)) length) count m (now (p .entry)) (now (s .entry)) (now (x .entry)) (now (y .entry)) (now (p .exit)) (now (s .exit)) (now (x .exit)) (now (y .exit)) ⌝ }
+    ensures { λ _. ⌜ Ended (f .q) (genus n) (poly (now (radicand .entry)) length) count m (now (p .entry)) (now (s .entry)) (now (x .entry)) (now (y .entry)) (now (p .exit)) (now (s .exit)) (now (x .exit)) (now (y .exit)) ⌝ }
 {
     start(m, p, x, count);
     start(m + 1, s, y, count);
-    steps(f, n, big, length, table, d, twice, m, count, p, s, x, y);
+    steps(
+        f,
+        n,
+        radicand,
+        length,
+        table,
+        d,
+        twice,
+        m,
+        count,
+        p,
+        s,
+        x,
+        y,
+    );
 }
 
-// The unit, of index m − 1 and degree r: p and s receive its coefficients in their places 0 to r, where x and y end as zero. Later places are as they were. D is `big`, of degree n.
+// The unit, of index m − 1 and degree r: p and s receive its coefficients in their places 0 to r, where x and y end as zero. Later places are as they were. D is the radicand, of degree n.
 pub fn write_unit(
     f: Field,
     n: usize,
-    big: Poly,
+    radicand: Poly,
     m: u64,
     r: u64,
     p: &mut [u32],
@@ -58,22 +72,22 @@ pub fn write_unit(
     x: &mut [u32],
     y: &mut [u32],
 )
-    requires { ⌜ Admitted (f .q) (genus n) (poly (big .c) (big .size)) ⌝ }
-    requires { ⌜ Held (f .q) (big .c) (big .size) × (2 ≤ n) ⌝ }
-    requires { ⌜ r ≡ degreeBefore (modulo (f .q)) (poly (big .c) (big .size)) (rootD (f .q) (genus n) (poly (big .c) (big .size))) m ⌝ }
+    requires { ⌜ Admitted (f .q) (genus n) (poly (radicand .c) (radicand .size)) ⌝ }
+    requires { ⌜ Held (f .q) (radicand .c) (radicand .size) × (2 ≤ n) ⌝ }
+    requires { ⌜ r ≡ degreeBefore (modulo (f .q)) (poly (radicand .c) (radicand .size)) (rootD (f .q) (genus n) (poly (radicand .c) (radicand .size))) m ⌝ }
     requires { ⌜ Room (r + 1) (now p) (now s) (now x) (now y) ⌝ }
-    ensures { λ _. ⌜ ((b : ℕ) → lists (now (p .exit)) (now (s .exit)) (now (x .exit)) (now (y .exit)) ≡ unitLists (ticket (f .q) n (poly (big .c) (big .size)) b) r m (lists (now (p .entry)) (now (s .entry)) (now (x .entry)) (now (y .entry)))) ⌝ }
+    ensures { λ _. ⌜ ((b : ℕ) → lists (now (p .exit)) (now (s .exit)) (now (x .exit)) (now (y .exit)) ≡ unitLists (ticket (f .q) n (poly (radicand .c) (radicand .size)) b) r m (lists (now (p .entry)) (now (s .entry)) (now (x .entry)) (now (y .entry)))) ⌝ }
 {
     let count = r as usize + 1;
     let mut table = [0u32; 4096];
     let mut d = [0u32; 129];
     let mut twice = [0u32; 129];
-    prepare(f, n, big, &mut table, &mut d, &mut twice);
+    prepare(f, n, radicand, &mut table, &mut d, &mut twice);
     fill(
         f,
         n,
-        &big.c,
-        big.size,
+        &radicand.c,
+        radicand.size,
         &table,
         &d,
         &twice,

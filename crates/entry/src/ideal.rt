@@ -12,6 +12,7 @@ use polynomial::linear::monic;
 use polynomial::linear::sub_places;
 use polynomial::linear::top;
 
+// Q, monic, and P of a smaller degree.
 pub struct Ideal {
     pub q: Poly,
     pub p: Poly,

@@ -16,11 +16,11 @@ use polynomial::Poly;
 use state::start::prepare;
 use state::turn::turn;
 
-// The records of the indices 1 to m, where r is the degree of p_{m−1}; D is the first `places` places of big.
+// The records of the indices 1 to m, where r is the degree of p_{m−1}; D is the first `places` places of `radicand`.
 fn write_records(
     f: Field,
     n: usize,
-    big: &[u32; 129],
+    radicand: &[u32; 129],
     places: usize,
     table: &[u32; 4096],
     d: &[u32; 129],
@@ -29,14 +29,14 @@ fn write_records(
     r: u64,
     out: &mut [u32],
 )
-    requires { ⌜ Listable (f .q) n (poly (now big) places) m r (now out) ⌝ }
-    requires { ⌜ Held (f .q) (now big) places ⌝ }
-    requires { ⌜ Prepared (f .q) (genus n) (poly (now big) places) (now table) (now d) (now s) ⌝ }
-    ensures { λ _. ⌜ ((b : ℕ) → now (out .exit) ≡ listingOf (ticket (f .q) n (poly (now (big .entry)) places) b) r m ++ drop (m * (n + 4)) (now (out .entry))) ⌝ }
+    requires { ⌜ Listable (f .q) n (poly (now radicand) places) m r (now out) ⌝ }
+    requires { ⌜ Held (f .q) (now radicand) places ⌝ }
+    requires { ⌜ Prepared (f .q) (genus n) (poly (now radicand) places) (now table) (now d) (now s) ⌝ }
+    ensures { λ _. ⌜ ((b : ℕ) → now (out .exit) ≡ listingOf (ticket (f .q) n (poly (now (radicand .entry)) places) b) r m ++ drop (m * (n + 4)) (now (out .entry))) ⌝ }
 {
     let top = n / 2 + 1;
     let reciprocal = 4294967295 / f.q;
-    let mut before = *big;
+    let mut before = *radicand;
     let mut b = [0u32; 129];
     b[0] = 1;
     let mut left = *d;
@@ -75,15 +75,15 @@ fn write_records(
     }
 }
 
-// The listing of √D: its m records, where m is the quasi-period and r the regulator. D is `big`, of degree n.
-pub fn write_listing(f: Field, n: usize, big: Poly, m: u64, r: u64, out: &mut [u32])
-    requires { ⌜ Listable (f .q) n (poly (big .c) (big .size)) m r (now out) ⌝ }
-    requires { ⌜ Held (f .q) (big .c) (big .size) ⌝ }
-    ensures { λ _. ⌜ ((b : ℕ) → now (out .exit) ≡ listingOf (ticket (f .q) n (poly (big .c) (big .size)) b) r m ++ drop (m * (n + 4)) (now (out .entry))) ⌝ }
+// The listing of √D: its m records, where m is the quasi-period and r the regulator. D is the radicand, of degree n.
+pub fn write_listing(f: Field, n: usize, radicand: Poly, m: u64, r: u64, out: &mut [u32])
+    requires { ⌜ Listable (f .q) n (poly (radicand .c) (radicand .size)) m r (now out) ⌝ }
+    requires { ⌜ Held (f .q) (radicand .c) (radicand .size) ⌝ }
+    ensures { λ _. ⌜ ((b : ℕ) → now (out .exit) ≡ listingOf (ticket (f .q) n (poly (radicand .c) (radicand .size)) b) r m ++ drop (m * (n + 4)) (now (out .entry))) ⌝ }
 {
     let mut table = [0u32; 4096];
     let mut d = [0u32; 129];
     let mut s = [0u32; 129];
-    prepare(f, n, big, &mut table, &mut d, &mut s);
-    write_records(f, n, &big.c, big.size, &table, &d, &s, m, r, out);
+    prepare(f, n, radicand, &mut table, &mut d, &mut s);
+    write_records(f, n, &radicand.c, radicand.size, &table, &d, &s, m, r, out);
 }

@@ -8,7 +8,6 @@ use Rattle.ring.specs.Ring.{CRing}
 use Rattle.ring.specs.Series.{Series}
 use Rattle.algebra.specs.Field.{Field}
 use Rattle.algebra.specs.Polynomial.{F, Px}
-use Rattle.surd.specs.Convergents as convergents
 use Rattle.definitions.specs.Field.{Ops}
 use Rattle.definitions.specs.Polynomials.{add, mul}
 use Rattle.definitions.specs.Walk.{pBefore, sBefore, degreeBefore}

@@ -114,11 +114,11 @@ fn advance(
     fold(f, reciprocal, &a, l, left, s, y, end);
 }
 
-// The steps from index 0 to m, by the walk of √D. D is the first `length` places of big, and 2d stands in `twice`.
+// The steps from index 0 to m, by the walk of √D. D is the first `length` places of `radicand`, and 2d stands in `twice`.
 pub fn steps(
     f: Field,
     n: usize,
-    big: &[u32; 129],
+    radicand: &[u32; 129],
     length: usize,
     table: &[u32; 4096],
     d: &[u32; 129],
@@ -130,17 +130,17 @@ pub fn steps(
     x: &mut [u32],
     y: &mut [u32],
 )
-    requires { ⌜ Admitted (f .q) (genus n) (poly (now big) length) ⌝ }
-    requires { ⌜ Held (f .q) (now big) length × (2 ≤ n) ⌝ }
-    requires { ⌜ Prepared (f .q) (genus n) (poly (now big) length) (now table) (now d) (now twice) ⌝ }
-    requires { ⌜ degreeBefore (modulo (f .q)) (poly (now big) length) (rootD (f .q) (genus n) (poly (now big) length)) m + 1 ≡ count ⌝ }
+    requires { ⌜ Admitted (f .q) (genus n) (poly (now radicand) length) ⌝ }
+    requires { ⌜ Held (f .q) (now radicand) length × (2 ≤ n) ⌝ }
+    requires { ⌜ Prepared (f .q) (genus n) (poly (now radicand) length) (now table) (now d) (now twice) ⌝ }
+    requires { ⌜ degreeBefore (modulo (f .q)) (poly (now radicand) length) (rootD (f .q) (genus n) (poly (now radicand) length)) m + 1 ≡ count ⌝ }
     requires { ⌜ Room count (now p) (now s) (now x) (now y) ⌝ }
-    requires { ⌜ Progress (f .q) (genus n) (poly (now big) length) count m 0 (now p) (now s) (now x) (now y) (now p) (now s) (now x) (now y) ⌝ }
-    ensures { λ _. ⌜ Ended (f .q) (genus n) (poly (now (big .entry)) length) count m (now (p .entry)) (now (s .entry)) (now (x .entry)) (now (y .entry)) (now (p .exit)) (now (s .exit)) (now (x .exit)) (now (y .exit)) ⌝ }
+    requires { ⌜ Progress (f .q) (genus n) (poly (now radicand) length) count m 0 (now p) (now s) (now x) (now y) (now p) (now s) (now x) (now y) ⌝ }
+    ensures { λ _. ⌜ Ended (f .q) (genus n) (poly (now (radicand .entry)) length) count m (now (p .entry)) (now (s .entry)) (now (x .entry)) (now (y .entry)) (now (p .exit)) (now (s .exit)) (now (x .exit)) (now (y .exit)) ⌝ }
 {
     let top = n / 2 + 1;
     let reciprocal = 4294967295 / f.q;
-    let mut before = *big;
+    let mut before = *radicand;
     let mut b = [0u32; 129];
     b[0] = 1;
     let mut r = *d;

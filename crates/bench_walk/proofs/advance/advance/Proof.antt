@@ -13,11 +13,11 @@ use Rattle.bench_walk.proofs.advance.advance.Statement.{statement}
 use Rattle.bench_walk.proofs.advance.advance.Tie as tie
 
 abbrev Inv-loop : tie.InvT-loop
-Inv-loop f n big length table d s steps top reciprocal a₀ b₀ c₀ x₀ y₀ z₀ at₀ a b c x y z at =
-    Standing (f .q) (genus n) (poly big length) steps a b x at
+Inv-loop f n radicand length table d s steps top reciprocal a₀ b₀ c₀ x₀ y₀ z₀ at₀ a b c x y z at =
+    Standing (f .q) (genus n) (poly radicand length) steps a b x at
 
 abbrev μ-loop : tie.MeasureT-loop
-μ-loop f n big length table d s steps top reciprocal a₀ b₀ c₀ x₀ y₀ z₀ at₀ a b c x y z at = steps - at .index
+μ-loop f n radicand length table d s steps top reciprocal a₀ b₀ c₀ x₀ y₀ z₀ at₀ a b c x y z at = steps - at .index
 
 add-top : tie.Need-add-top Inv-loop μ-loop
 add-top c =
@@ -34,7 +34,7 @@ array-write-b c = search needs
 loop-holds : tie.Need-loop-holds Inv-loop μ-loop
 loop-holds c =
     let s = c .before .before .before in
-    standing-first (s .args .big .now) (s .args .length) (s .args .steps) (s .pre .0) (s .pre .1 .0 .0) (s .pre .1 .1)
+    standing-first (s .args .radicand .now) (s .args .length) (s .args .steps) (s .pre .0) (s .pre .1 .0 .0) (s .pre .1 .1)
 
 round-requires : tie.Need-round-requires Inv-loop μ-loop
 round-requires c κs =
@@ -45,7 +45,7 @@ round-requires c κs =
       (refl, less, s .pre .1 .0 .2),
       record {
         g = genus (s .args .n);
-        D = poly (s .args .big .now) (s .args .length);
+        D = poly (s .args .radicand .now) (s .args .length);
         d = s .args .d .now;
         top-is = top-is (s .args .n) (s .pre .1 .0 .1);
         admitted = s .pre .0;

@@ -11,11 +11,11 @@ use Rattle.records.proofs.listing.write_records.Statement.{statement}
 use Rattle.records.proofs.listing.write_records.Tie as tie
 
 abbrev Inv-loop : tie.InvT-loop
-Inv-loop f n big places table d s m r out₀ top reciprocal before₀ b₀ left₀ size₀ degree₀ at₀ i₀ out before b left size degree at i =
-    (i ≤ m) × Listed (f .q) n (poly big places) r out₀ i out before b left size degree at
+Inv-loop f n radicand places table d s m r out₀ top reciprocal before₀ b₀ left₀ size₀ degree₀ at₀ i₀ out before b left size degree at i =
+    (i ≤ m) × Listed (f .q) n (poly radicand places) r out₀ i out before b left size degree at
 
 abbrev μ-loop : tie.MeasureT-loop
-μ-loop f n big places table d s m r out₀ top reciprocal before₀ b₀ left₀ size₀ degree₀ at₀ i₀ out before b left size degree at i =
+μ-loop f n radicand places table d s m r out₀ top reciprocal before₀ b₀ left₀ size₀ degree₀ at₀ i₀ out before b left size degree at i =
     m - i
 
 add-top : tie.Need-add-top Inv-loop μ-loop
@@ -30,7 +30,7 @@ array-write-b c = search needs
 loop-holds : tie.Need-loop-holds Inv-loop μ-loop
 loop-holds c =
     let s = c .before .before .before .before in
-    (omega arith, listed-first (s .pre .0) (walked-first (s .args .big .now) (s .args .places) (s .pre .0 .admitted) (s .pre .1 .0) (s .pre .1 .1)))
+    (omega arith, listed-first (s .pre .0) (walked-first (s .args .radicand .now) (s .args .places) (s .pre .0 .admitted) (s .pre .1 .0) (s .pre .1 .1)))
 
 add-degree : tie.Need-add-degree Inv-loop μ-loop
 add-degree c = search needs

@@ -13,11 +13,11 @@ use Rattle.recurrence.proofs.steps.steps.Statement.{statement}
 use Rattle.recurrence.proofs.steps.steps.Tie as tie
 
 abbrev Inv-loop : tie.InvT-loop
-Inv-loop f n big length table d twice m count p₀ s₀ x₀ y₀ top reciprocal before₀ b₀ r₀ size₀ degree₀ i₀ p s x y before b r size degree i =
-    (i ≤ m) × Walked (f .q) (genus n) (poly big length) i before b r size degree × Progress (f .q) (genus n) (poly big length) count (m - i) i p₀ s₀ x₀ y₀ p s x y
+Inv-loop f n radicand length table d twice m count p₀ s₀ x₀ y₀ top reciprocal before₀ b₀ r₀ size₀ degree₀ i₀ p s x y before b r size degree i =
+    (i ≤ m) × Walked (f .q) (genus n) (poly radicand length) i before b r size degree × Progress (f .q) (genus n) (poly radicand length) count (m - i) i p₀ s₀ x₀ y₀ p s x y
 
 abbrev μ-loop : tie.MeasureT-loop
-μ-loop f n big length table d twice m count p₀ s₀ x₀ y₀ top reciprocal before₀ b₀ r₀ size₀ degree₀ i₀ p s x y before b r size degree i =
+μ-loop f n radicand length table d twice m count p₀ s₀ x₀ y₀ top reciprocal before₀ b₀ r₀ size₀ degree₀ i₀ p s x y before b r size degree i =
     m - i
 
 add-top : tie.Need-add-top Inv-loop μ-loop
@@ -36,7 +36,7 @@ array-write-b c = search needs
 loop-holds : tie.Need-loop-holds Inv-loop μ-loop
 loop-holds c =
     let s = c .before .before .before .before .before .before .before in
-    (omega arith, walked-first (s .args .big .now) (s .args .length) (s .pre .0) (s .pre .1 .0 .0) (s .pre .1 .1 .0), subst (λ (t : ℕ). Progress (s .args .f .q) (genus (s .args .n)) (poly (s .args .big .now) (s .args .length)) (s .args .count) t 0 (s .args .p .now) (s .args .s .now) (s .args .x .now) (s .args .y .now) (s .args .p .now) (s .args .s .now) (s .args .x .now) (s .args .y .now)) (let e : s .args .m ≡ s .args .m - 0 = omega arith in e) (s .pre .1 .1 .1 .1 .1))
+    (omega arith, walked-first (s .args .radicand .now) (s .args .length) (s .pre .0) (s .pre .1 .0 .0) (s .pre .1 .1 .0), subst (λ (t : ℕ). Progress (s .args .f .q) (genus (s .args .n)) (poly (s .args .radicand .now) (s .args .length)) (s .args .count) t 0 (s .args .p .now) (s .args .s .now) (s .args .x .now) (s .args .y .now) (s .args .p .now) (s .args .s .now) (s .args .x .now) (s .args .y .now)) (let e : s .args .m ≡ s .args .m - 0 = omega arith in e) (s .pre .1 .1 .1 .1 .1))
 
 sub-degree : tie.Need-sub-degree Inv-loop μ-loop
 sub-degree c =
@@ -112,7 +112,7 @@ returns c =
     let s = c .before .before .before .before .before .before .before .before .before in
     let l = c .before .loop in
     let all : l .i ≡ s .args .m = omega arith in
-    subst (λ (j : ℕ). Ended (s .args .f .q) (genus (s .args .n)) (poly (s .args .big .now) (s .args .length)) (s .args .count) j (s .args .p .now) (s .args .s .now) (s .args .x .now) (s .args .y .now) (l .p) (l .s) (l .x) (l .y)) all (progress-last (s .pre .0) (l .inv .2) (omega arith))
+    subst (λ (j : ℕ). Ended (s .args .f .q) (genus (s .args .n)) (poly (s .args .radicand .now) (s .args .length)) (s .args .count) j (s .args .p .now) (s .args .s .now) (s .args .x .now) (s .args .y .now) (l .p) (l .s) (l .x) (l .y)) all (progress-last (s .pre .0) (l .inv .2) (omega arith))
 
 pub steps-spec : {M : Type 1} → statement M
 steps-spec =

@@ -51,7 +51,7 @@ returns : tie.Need-returns
 returns c =
     let s = c .before .before .before .before .before in
     c .mul .ensures
-    ∙ ap₂ (modulo (s .args .f .q) .mul) (c .before .before .sub .ensures ∙ ap (modulo (s .args .f .q) .sub (getD (s .args .big .now) (s .args .e + s .args .h) 0)) (c .before .before .before .before .dot .ensures)) (c .before .inverse .ensures)
+    ∙ ap₂ (modulo (s .args .f .q) .mul) (c .before .before .sub .ensures ∙ ap (modulo (s .args .f .q) .sub (getD (s .args .radicand .now) (s .args .e + s .args .h) 0)) (c .before .before .before .before .dot .ensures)) (c .before .inverse .ensures)
 
 pub coefficient-spec : {M : Type 1} → statement M
 coefficient-spec =

@@ -1,4 +1,4 @@
--- The places of big are the coefficients of D, so that their root is D's.
+-- The places of `radicand` are the coefficients of D, so that their root is D's.
 use Prim.Native.Nat.{suc, _+_, _/_, _≤_}
 use native.Mathlib.Omega.{arith}
 use mathlib.Core.Path.{_≡_, subst}

@@ -8,10 +8,10 @@ use Rattle.state.proofs.start.root.Statement.{statement}
 use Rattle.state.proofs.start.root.Tie as tie
 
 abbrev Inv-loop : tie.InvT-loop
-Inv-loop f h big z₀ e₀ z e = (e ≤ h) × Rooted (f .q) big h e z
+Inv-loop f h radicand z₀ e₀ z e = (e ≤ h) × Rooted (f .q) radicand h e z
 
 abbrev μ-loop : tie.MeasureT-loop
-μ-loop f h big z₀ e₀ z e = e
+μ-loop f h radicand z₀ e₀ z e = e
 
 mul-z : tie.Need-mul-z Inv-loop μ-loop
 mul-z c = search needs
@@ -22,7 +22,7 @@ element-write-z c = search needs
 loop-holds : tie.Need-loop-holds Inv-loop μ-loop
 loop-holds c =
     let s = c .before in
-    (search needs, rooted-first (s .args .f .q) (s .pre .0 .0) (s .args .big .now) (s .args .h) (omega arith))
+    (search needs, rooted-first (s .args .f .q) (s .pre .0 .0) (s .args .radicand .now) (s .args .h) (omega arith))
 
 sub-e : tie.Need-sub-e Inv-loop μ-loop
 sub-e c = search needs
@@ -46,14 +46,14 @@ loop-again c =
     let s = c .before .before .before .before .before in
     let l = c .before .before .before .loop in
     let back : l .e ≡ suc (l .e - 1) = omega arith in
-    (omega arith, rooted-more (s .args .f .q) (s .pre .0 .0) (s .args .big .now) (s .args .h) (omega arith) (l .e - 1) (l .z) _ (subst (λ (n : ℕ). Rooted (s .args .f .q) (s .args .big .now) (s .args .h) n (l .z)) back (l .inv .1)) (omega arith) (c .coefficient .ensures))
+    (omega arith, rooted-more (s .args .f .q) (s .pre .0 .0) (s .args .radicand .now) (s .args .h) (omega arith) (l .e - 1) (l .z) _ (subst (λ (n : ℕ). Rooted (s .args .f .q) (s .args .radicand .now) (s .args .h) n (l .z)) back (l .inv .1)) (omega arith) (c .coefficient .ensures))
 
 returns : tie.Need-returns Inv-loop μ-loop
 returns c =
     let s = c .before .before .before in
     let l = c .before .loop in
     let none : l .e ≡ 0 = omega arith in
-    rooted-all (s .args .f .q) (s .pre .0 .0) (s .args .big .now) (s .args .h) (omega arith) (l .z) (subst (λ (n : ℕ). Rooted (s .args .f .q) (s .args .big .now) (s .args .h) n (l .z)) none (l .inv .1))
+    rooted-all (s .args .f .q) (s .pre .0 .0) (s .args .radicand .now) (s .args .h) (omega arith) (l .z) (subst (λ (n : ℕ). Rooted (s .args .f .q) (s .args .radicand .now) (s .args .h) n (l .z)) none (l .inv .1))
 
 pub root-spec : {M : Type 1} → statement M
 root-spec =
