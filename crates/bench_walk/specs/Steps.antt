@@ -11,7 +11,7 @@ use Rattle.definitions.specs.Ticket.{Ticket, genus, ticketOf, refusalOf}
 use Rattle.definitions.specs.Walk.{degreeBefore}
 use Rattle.definitions.specs.Answers.{rootOf}
 use Rattle.polynomial.specs.Record.{poly}
-use Rattle.run.specs.State.{rootD}
+use Rattle.state.specs.State.{rootD}
 use Rattle.engine.specs.Accepted.{Accepted}
 
 unfoldable pub degreeAfter : List ℕ → ℕ → ℕ

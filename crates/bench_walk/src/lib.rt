@@ -1,7 +1,9 @@
 // The run for measuring the time of a step: so many steps of a ticket's walk, past every constant Q.
+pub mod advance;
+
 ghost use mathlib.Core.Path.{_≡_};
 ghost use Rattle.bench_walk.specs.Steps.{degreeAfter};
-use run::advance::run_on;
+use crate::advance::run_on;
 use ticket::read_ticket;
 
 // The degree of p_{steps − 1}, or 0 where the ticket is refused or 2²⁸ steps or more are asked for. The ticket's budget has no part.

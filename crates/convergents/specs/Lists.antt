@@ -14,12 +14,12 @@ use Rattle.definitions.specs.Answers.{rootOf}
 use Rattle.definitions.specs.Units.{Lists, written, unitLists}
 use Rattle.laws.specs.Admitted.{Admitted, surd-of}
 use Rattle.laws.specs.Convergents.{p-length, degree-least}
-use Rattle.run.specs.State.{rootD}
-use Rattle.run.specs.Outcome.{ticket}
-use Rattle.convergents.specs.Written.{Written, written-again, written-is}
-use Rattle.convergents.specs.Pair.{Pair, pair-long}
-use Rattle.convergents.specs.Recurrence.{s-short}
-use Rattle.convergents.specs.Progress.{Room, Progress, Ended, progress-first}
+use Rattle.state.specs.State.{rootD}
+use Rattle.state.specs.Start.{ticket}
+use Rattle.recurrence.specs.Written.{Written, written-again, written-is}
+use Rattle.recurrence.specs.Pair.{Pair, pair-long}
+use Rattle.recurrence.specs.Recurrence.{s-short}
+use Rattle.recurrence.specs.Progress.{Room, Progress, Ended, progress-first}
 
 abbrev pub lists : List ℕ → List ℕ → List ℕ → List ℕ → Lists
 lists p s x y = record { first = p; second = s; third = x; fourth = y }

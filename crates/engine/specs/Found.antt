@@ -10,7 +10,7 @@ use Rattle.definitions.specs.Walk.{quasiPeriod, degreeBefore, constantOf}
 use Rattle.definitions.specs.Answers.{Outcome, found, spent, outcomeOf, rootOf}
 use Rattle.laws.specs.Admitted.{Admitted, surd-of}
 use Rattle.laws.specs.QuasiPeriod.{Quasi, quasi-some}
-use Rattle.run.specs.State.{rootD}
+use Rattle.state.specs.State.{rootD}
 use Rattle.run.specs.Outcome.{ticket}
 
 -- the ticket's walk is found with R, m, c

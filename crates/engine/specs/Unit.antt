@@ -11,7 +11,7 @@ use Rattle.definitions.specs.Ticket.{Ticket, ticketOf}
 use Rattle.definitions.specs.Answers.{Outcome, found, spent, refused, said, said-injective, rootOf, wordsOutcome}
 use Rattle.definitions.specs.Units.{Lists, UnitAnswer, longEnough, unitLists, unitFrom, unitAnswer}
 use Rattle.run.specs.Outcome.{ticket}
-use Rattle.convergents.specs.Progress.{Room}
+use Rattle.recurrence.specs.Progress.{Room}
 use Rattle.demands.specs.LeastDegree.{LeastFound, LeastIn, Least, t3}
 use Rattle.demands.specs.Written.{unitIn, t3-unit}
 

@@ -13,7 +13,7 @@ use Rattle.laws.specs.Pairs.{IsIdeal}
 use Rattle.polynomial.specs.Record.{poly, Held, Is}
 use Rattle.polynomial.specs.Held.{length-poly, at-poly, is-poly}
 use Rattle.polynomial.specs.Result.{Result, result}
-use Rattle.run.specs.State.{rootD}
+use Rattle.state.specs.State.{rootD}
 use Rattle.ideal.specs.Operand.{pairOf, K, M}
 
 -- a record stands for its own polynomial

@@ -22,7 +22,7 @@ use Rattle.polynomial.specs.Record.{poly, Held, Is}
 use Rattle.polynomial.specs.Held.{is-poly}
 use Rattle.polynomial.specs.Result.{Result, result, held-size, result-monic}
 use Rattle.run.specs.Outcome.{ticket}
-use Rattle.run.specs.State.{rootD}
+use Rattle.state.specs.State.{rootD}
 use Rattle.ideal.specs.Operand.{pairOf, Operand, K, M, I, operand-ideal, operand-degree}
 use Rattle.ideal.specs.Product.{S-result, S-bounds}
 use Rattle.giant.specs.Start.{Start}

@@ -21,7 +21,7 @@ use Rattle.laws.specs.Reduction.{Q-size, a-size, degree-sum-is, sequence, size-
 use Rattle.laws.specs.ReductionSizes.{Q-trim, P-trim, Q-oks, P-oks, Q-most, P-most, partial-most}
 use Rattle.polynomial.specs.Record.{poly, Held, Is}
 use Rattle.polynomial.specs.Result.{Result, result}
-use Rattle.run.specs.State.{rootD}
+use Rattle.state.specs.State.{rootD}
 use Rattle.ideal.specs.Operand.{pairOf, K, M}
 use Rattle.giant.specs.Start.{Start, Begun, root-result, same-poly, same-pair}
 

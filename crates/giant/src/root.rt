@@ -3,10 +3,10 @@ ghost use Prim.Native.Nat.{_≤_};
 ghost use Rattle.definitions.specs.Ticket.{genus};
 ghost use Rattle.laws.specs.Admitted.{Admitted};
 ghost use Rattle.polynomial.specs.Record.{poly, Held, Is};
-ghost use Rattle.run.specs.State.{rootD};
+ghost use Rattle.state.specs.State.{rootD};
 use field::Field;
 use polynomial::Poly;
-use run::start::root;
+use state::start::root;
 
 // d, monic of degree g + 1. D is `big`, of degree n.
 pub fn root_of(f: Field, n: usize, big: Poly) -> Poly

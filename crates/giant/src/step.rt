@@ -5,7 +5,7 @@ ghost use lib.IntN.{pos, _-ℤ_};
 ghost use Rattle.definitions.specs.Ticket.{genus};
 ghost use Rattle.laws.specs.Admitted.{Admitted};
 ghost use Rattle.polynomial.specs.Record.{poly, Held, Is};
-ghost use Rattle.run.specs.State.{rootD};
+ghost use Rattle.state.specs.State.{rootD};
 ghost use Rattle.ideal.specs.Operand.{pairOf, Operand};
 ghost use Rattle.giant.specs.Stepped.{Stepped};
 use crate::Giant;

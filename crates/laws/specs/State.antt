@@ -6,7 +6,7 @@ use mathlib.Core.Path.{_≡_, refl, sym, ap, ap₂, _∙_}
 use mathlib.Core.List.{List, [], _∷_}
 use lib.ListN.{length}
 use Rattle.ring.specs.Ring.{CRing}
-use Rattle.ring.specs.Identity.{ring, quote}
+use Rattle.ring.specs.Identity.{ring, ring-from, times, quote}
 use Rattle.ring.specs.Series.{Series}
 use Rattle.algebra.specs.Field.{Field}
 use Rattle.algebra.specs.Polynomial.{F, Px}
@@ -17,7 +17,7 @@ use Rattle.definitions.specs.Walk as lists
 use Rattle.bridge.specs.Model.{Model, Oks, series, series-nil}
 use Rattle.bridge.specs.Trim.{Trim, series-ext}
 use Rattle.bridge.specs.Arithmetic.{oks-add, oks-sub, trim-add, trim-sub, series-add, series-sub, series-mul}
-use Rattle.laws.specs.Surd.{Surd, P-zero, a-is, Q-oks, r-trim, r-oks}
+use Rattle.laws.specs.Surd.{Surd, P-zero, P-trim, P-oks, a-is, Q-oks, r-trim, r-oks}
 use Rattle.laws.specs.Surd as surd
 use Rattle.laws.specs.Fraction.{fraction, Q-length}
 use Rattle.laws.specs.Walk.{d-length, r-length, r-zero, sum-next, Q-one, Q-next}
@@ -107,6 +107,16 @@ module _ {A B : Type 0} {o : Ops A} {K : Field B} {M : Model o (F K)} {g : ℕ} 
       same : (series M d + series M d) - series M d ≡ 𝟘 + series M d
       same = ring R[x] (series M d ∷ []) (search quote depth 40 fits 9999) tt
   dividend (suc i) = sym (sum-next s i)
+
+  -- P_i = d − r_{i−1}
+  pub P-left : (i : ℕ) → P i ≡ sub o d (left o D d i)
+  P-left i = series-ext M _ _ (P-trim s i) (trim-sub M d (left o D d i)) (P-oks s i) (oks-sub M d (left o D d i)) (same ∙ sym (series-sub M d (left o D d i)))
+    where
+      sums : (series M d + series M d) - series M (left o D d i) ≡ series M (P i) + series M d
+      sums = sym (series-sub M (add o d d) (left o D d i) ∙ ap (λ (f : Px K). f - series M (left o D d i)) (series-add M d d)) ∙ ap (series M) (dividend i) ∙ series-add M (P i) d
+
+      same : series M (P i) ≡ series M d - series M (left o D d i)
+      same = ring-from R[x] (series M (P i) ∷ series M d ∷ series M (left o D d i) ∷ []) (times R[x] (- 𝟙) sums) (search quote depth 40 fits 9999) tt
 
   pub left-next : (i : ℕ) → left o D d (suc i) ≡ rem o (sub o (add o d d) (left o D d i)) (Q i)
   left-next i = left-suc i ∙ ap (λ (l : List A). rem o l (Q i)) (sym (dividend i))

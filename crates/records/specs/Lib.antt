@@ -1,5 +1,3 @@
-pub mod Stored
-pub mod Remainder
-pub mod Ideal
 pub mod Records
+pub mod Ideal
 pub mod Listed

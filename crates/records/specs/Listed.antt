@@ -3,7 +3,7 @@ use Prim.Native.Nat.{ℕ, suc, _+_, _-_, _*_, _/_, _≤_, _<_}
 use native.Mathlib.Nat.{mul-le-mul, suc-mul, zero-mul}
 use native.Mathlib.Numerals.{add-one}
 use native.Mathlib.Omega.{arith}
-use mathlib.Core.Path.{_≡_, refl, sym, ap, ap₂, _∙_, subst, subst₂}
+use mathlib.Core.Path.{_≡_, refl, sym, ap, ap₂, _∙_, subst}
 use mathlib.Core.List.{List, _++_}
 use lib.ListN.{length, drop}
 use Rattle.definitions.specs.Field.{modulo}
@@ -16,13 +16,14 @@ use Rattle.laws.specs.Walk.{d-length}
 use Rattle.laws.specs.Convergents.{degree-rise, degree-most as degree-bound}
 use Rattle.polynomial.specs.Places.{Within}
 use Rattle.walk.specs.Step.{Ready, Stepped}
-use Rattle.run.specs.State.{rootD, pad-within, state-ready, state-next}
-use Rattle.run.specs.Start.{Prepared, half-degree}
-use Rattle.run.specs.Walked.{Walked, walked-more}
-use Rattle.run.specs.Outcome.{ticket}
-use Rattle.records.specs.Stored.{stored, stored-none, stored-append, stored-first, length-stored}
-use Rattle.records.specs.Ideal.{size-most, left-within, ideal-is}
-use Rattle.records.specs.Records.{recordFrom, records-next, length-records}
+use Rattle.state.specs.State.{rootD, pad-within}
+use Rattle.state.specs.Start.{Prepared, top-is, ticket}
+use Rattle.state.specs.Walked.{Walked}
+use Rattle.state.specs.Turn.{top-most, size-some, size-most, turn-ready as ready, turn-again}
+use Rattle.entry.specs.Stored.{stored, stored-none, stored-append, stored-first, length-stored}
+use Rattle.records.specs.Ideal.{left-within, ideal-is}
+use Rattle.entry.specs.Entry.{recordFrom}
+use Rattle.records.specs.Records.{records-next, length-records}
 
 -- what is asked for the records of the indices 1 to m in the list `old`: R is the degree of p_{m−1}
 pub record Listable (q n : ℕ) (D : List ℕ) (m R : ℕ) (old : List ℕ) : Type 0 where
@@ -48,12 +49,8 @@ module _ {q n : ℕ} {D : List ℕ} {m R : ℕ} {old : List ℕ} (a : Listable q
   pub degree-most : n ≤ 64
   degree-most = let e = a .even in let l = a .admitted .genus-most in omega arith
 
-  -- the places of d and of each remainder
-  top-is : n / 2 + 1 ≡ suc (suc (genus n))
-  top-is = add-one (n / 2) ∙ ap suc (half-degree n degree-two)
-
-  pub top-most : n / 2 + 1 ≤ 128
-  top-most = let e = top-is in let l = a .admitted .genus-most in omega arith
+  pub top-fits : n / 2 + 1 ≤ 128
+  top-fits = top-most n (a .admitted) degree-two
 
   -- 2²⁸·32 is below 2⁵⁶
   pub regulator-fits : R ≤ 8589934592
@@ -78,7 +75,7 @@ module _ {q n : ℕ} {D : List ℕ} {m R : ℕ} {old : List ℕ} (a : Listable q
 
   module _ {table e s : List ℕ} (p : Prepared q (genus n) D table e s) where
     pub root-within : Within q e (n / 2 + 1)
-    root-within = subst (Within q e) (sym top-is) (subst (λ (x : List ℕ). Within q x (suc (suc (genus n)))) (sym (p .root-is)) (pad-within q d _ (let l = d-length (surd-of (a .admitted)) in omega arith) (let g = a .admitted .genus-most in omega arith) (surd-of (a .admitted) .reduced)))
+    root-within = subst (Within q e) (sym (top-is n degree-two)) (subst (λ (x : List ℕ). Within q x (suc (suc (genus n)))) (sym (p .root-is)) (pad-within q d _ (let l = d-length (surd-of (a .admitted)) in omega arith) (let g = a .admitted .genus-most in omega arith) (surd-of (a .admitted) .reduced)))
 
     module _ {i : ℕ} {out c b r : List ℕ} {size degree at : ℕ} (t : Listed q n D R old i out c b r size degree at) where
       -- the next record has its place
@@ -94,14 +91,17 @@ module _ {q n : ℕ} {D : List ℕ} {m R : ℕ} {old : List ℕ} (a : Listable q
       pub degree-within : i < m → degree ≤ R
       degree-within more = let e = t .walked .degree-is in let f = a .regulator-is in let k = degree-rise (surd-of (a .admitted)) i m more in omega arith
 
+      pub size-positive : 0 < size
+      size-positive = size-some n (a .admitted) degree-two (t .walked)
+
       pub size-within : size ≤ n / 2 + 1
-      size-within = let k = size-most q (genus n) D (a .admitted) i c b r size (t .walked .state) in let s = top-is in omega arith
+      size-within = size-most n (a .admitted) degree-two (t .walked)
 
       pub left-places : Within q r (n / 2 + 1)
-      left-places = subst (Within q r) (sym top-is) (left-within q (genus n) D (a .admitted) i c b r size (t .walked .state))
+      left-places = subst (Within q r) (sym (top-is n degree-two)) (left-within q (genus n) D (a .admitted) i c b r size (t .walked .state))
 
       pub turn-ready : Ready q (n / 2 + 1) size s c b r
-      turn-ready = subst (λ (k : ℕ). Ready q k size s c b r) (sym top-is) (state-ready q (genus n) D (a .admitted) s (p .twice-is) i c b r size (t .walked .state))
+      turn-ready = ready n (a .admitted) degree-two (t .walked) p
 
       record-is : (budget : ℕ) → recordFrom q n R (i + 1) degree e r b size ≡ recordOf (ticket q n D budget) R i
       unfolding recordFrom recordOf entryOf mirrorOf rootOf
@@ -110,7 +110,7 @@ module _ {q n : ℕ} {D : List ℕ} {m R : ℕ} {old : List ℕ} (a : Listable q
       pub listed-next : {w x y z : List ℕ} {k : ℕ} → w ≡ stored out at (recordFrom q n R (i + 1) degree e r b size) → x ≡ b → Stepped q s c b r z y k → Listed q n D R old (i + 1) w x y z k (degree + (n / 2 + 1 - size)) (at + (n + 4))
       listed-next {w} {x} {y} {z} {k} put moved u =
           record {
-            walked = subst₂ (λ (l : List ℕ) (j : ℕ). Walked q (genus n) D (i + 1) l y z k (degree + (j - size))) (sym moved) (sym top-is) (walked-more q (genus n) D (a .admitted) i c b r size degree (t .walked) b y z k (state-next q (genus n) D (a .admitted) s (p .twice-is) i c b r size (t .walked .state) z y k u));
+            walked = turn-again n (a .admitted) degree-two (t .walked) p moved u;
             at-is = ap (λ (j : ℕ). j + (n + 4)) (t .at-is) ∙ sym (ap (λ (j : ℕ). j * (n + 4)) (add-one i) ∙ suc-mul i (n + 4));
             long = ap length put ∙ length-stored out at _ ∙ t .long;
             words = λ budget.

@@ -1,4 +1,2 @@
-// The records of a listing: a record's words at its place, the ideal of a record, and the records of a walk one after the other.
-pub mod ideal;
+// The records of a walk one after the other, in a lent list.
 pub mod listing;
-pub mod record;

@@ -1,58 +1,26 @@
 // The records of a walk, one after the other.
 ghost use mathlib.Core.Path.{_≡_};
 ghost use mathlib.Core.List.{_++_};
-ghost use Prim.Native.Nat.{ℕ, _+_, _*_, _/_, _<_, _≤_};
-ghost use lib.ListN.{length, drop};
+ghost use Prim.Native.Nat.{ℕ, _+_, _*_};
+ghost use lib.ListN.{drop};
 ghost use Rattle.definitions.specs.Ticket.{genus};
 ghost use Rattle.definitions.specs.Listing.{listingOf};
-ghost use Rattle.bridge.specs.Prime.{Prime};
 ghost use Rattle.polynomial.specs.Record.{poly, Held};
-ghost use Rattle.polynomial.specs.Places.{Within};
-ghost use Rattle.run.specs.Start.{Prepared};
-ghost use Rattle.run.specs.Outcome.{ticket};
-ghost use Rattle.records.specs.Stored.{stored};
-ghost use Rattle.records.specs.Records.{recordFrom};
+ghost use Rattle.state.specs.Start.{Prepared, ticket};
 ghost use Rattle.records.specs.Listed.{Listable};
-use crate::ideal::ideal_of;
-use crate::record::put_record;
 use counters::Distance;
 use counters::Index;
+use entry::write_record;
 use field::Field;
 use polynomial::Poly;
-use run::start::prepare;
-use run::turn::turn;
+use state::start::prepare;
+use state::turn::turn;
 
-// The record of Q, the first `size` places of b, and P = d − left; r is the regulator.
-fn write_record(
-    f: Field,
-    n: usize,
-    d: &[u32; 129],
-    left: &[u32; 129],
-    b: &[u32; 129],
-    size: usize,
-    index: Index,
-    distance: Distance,
-    r: u64,
-    out: &mut [u32],
-    at: usize,
-)
-    requires { ⌜ Prime (f .q) × (f .q < 4096) × (2 ≤ n) × (n ≤ 64) × (0 < size) ⌝ }
-    requires { ⌜ Within (f .q) (now d) (n / 2 + 1) × Within (f .q) (now left) (n / 2 + 1) ⌝ }
-    requires { ⌜ Held (f .q) (now b) size ⌝ }
-    requires { ⌜ (at + (n + 4) ≤ length (now out)) × (index .0 < 268435456) × (distance .0 ≤ r) × (r < 72057594037927936) ⌝ }
-    ensures { λ _. ⌜ now (out .exit) ≡ stored (now (out .entry)) at (recordFrom (f .q) n r (index .0) (distance .0) (now (d .entry)) (now (left .entry)) (now (b .entry)) size) ⌝ }
-{
-    let x = ideal_of(f, d, left, n / 2 + 1, b, size);
-    let q = x.q;
-    let p = x.p;
-    put_record(out, at, n, index, distance, r - distance.0, &q.c, &p.c);
-}
-
-// The records of the indices 1 to m, where r is the degree of p_{m−1}; D is the first `places` places of big.
+// The records of the indices 1 to m, where r is the degree of p_{m−1}; D is the first `places` places of `radicand`.
 fn write_records(
     f: Field,
     n: usize,
-    big: &[u32; 129],
+    radicand: &[u32; 129],
     places: usize,
     table: &[u32; 4096],
     d: &[u32; 129],
@@ -61,14 +29,14 @@ fn write_records(
     r: u64,
     out: &mut [u32],
 )
-    requires { ⌜ Listable (f .q) n (poly (now big) places) m r (now out) ⌝ }
-    requires { ⌜ Held (f .q) (now big) places ⌝ }
-    requires { ⌜ Prepared (f .q) (genus n) (poly (now big) places) (now table) (now d) (now s) ⌝ }
-    ensures { λ _. ⌜ ((b : ℕ) → now (out .exit) ≡ listingOf (ticket (f .q) n (poly (now (big .entry)) places) b) r m ++ drop (m * (n + 4)) (now (out .entry))) ⌝ }
+    requires { ⌜ Listable (f .q) n (poly (now radicand) places) m r (now out) ⌝ }
+    requires { ⌜ Held (f .q) (now radicand) places ⌝ }
+    requires { ⌜ Prepared (f .q) (genus n) (poly (now radicand) places) (now table) (now d) (now s) ⌝ }
+    ensures { λ _. ⌜ ((b : ℕ) → now (out .exit) ≡ listingOf (ticket (f .q) n (poly (now (radicand .entry)) places) b) r m ++ drop (m * (n + 4)) (now (out .entry))) ⌝ }
 {
     let top = n / 2 + 1;
     let reciprocal = 4294967295 / f.q;
-    let mut before = *big;
+    let mut before = *radicand;
     let mut b = [0u32; 129];
     b[0] = 1;
     let mut left = *d;
@@ -107,15 +75,15 @@ fn write_records(
     }
 }
 
-// The listing of √D: its m records, where m is the quasi-period and r the regulator. D is `big`, of degree n.
-pub fn write_listing(f: Field, n: usize, big: Poly, m: u64, r: u64, out: &mut [u32])
-    requires { ⌜ Listable (f .q) n (poly (big .c) (big .size)) m r (now out) ⌝ }
-    requires { ⌜ Held (f .q) (big .c) (big .size) ⌝ }
-    ensures { λ _. ⌜ ((b : ℕ) → now (out .exit) ≡ listingOf (ticket (f .q) n (poly (big .c) (big .size)) b) r m ++ drop (m * (n + 4)) (now (out .entry))) ⌝ }
+// The listing of √D: its m records, where m is the quasi-period and r the regulator. D is the radicand, of degree n.
+pub fn write_listing(f: Field, n: usize, radicand: Poly, m: u64, r: u64, out: &mut [u32])
+    requires { ⌜ Listable (f .q) n (poly (radicand .c) (radicand .size)) m r (now out) ⌝ }
+    requires { ⌜ Held (f .q) (radicand .c) (radicand .size) ⌝ }
+    ensures { λ _. ⌜ ((b : ℕ) → now (out .exit) ≡ listingOf (ticket (f .q) n (poly (radicand .c) (radicand .size)) b) r m ++ drop (m * (n + 4)) (now (out .entry))) ⌝ }
 {
     let mut table = [0u32; 4096];
     let mut d = [0u32; 129];
     let mut s = [0u32; 129];
-    prepare(f, n, big, &mut table, &mut d, &mut s);
-    write_records(f, n, &big.c, big.size, &table, &d, &s, m, r, out);
+    prepare(f, n, radicand, &mut table, &mut d, &mut s);
+    write_records(f, n, &radicand.c, radicand.size, &table, &d, &s, m, r, out);
 }

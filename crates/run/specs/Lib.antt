@@ -1,10 +1,2 @@
-pub mod Table
-pub mod Root
-pub mod State
-pub mod Start
 pub mod Outcome
-pub mod Walked
-pub mod Progress
-pub mod Stride
 pub mod Steps
-pub mod Turn

@@ -8,13 +8,14 @@ use lib.Dec.{eqb}
 use lib.ListN.{getD}
 use borrow.Author.Tests.{eqb-true, eqb-false}
 use Rattle.definitions.specs.Field.{modulo}
-use Rattle.definitions.specs.Ticket.{Ticket, genus}
+use Rattle.definitions.specs.Ticket.{genus}
 use Rattle.definitions.specs.Walk.{Q, degreeBefore, constantOf}
 use Rattle.definitions.specs.Answers.{found, spent, refused, rootOf, outcomeOf}
 use Rattle.definitions.specs.Answers as answers
 use Rattle.laws.specs.Admitted.{Admitted, surd-of}
 use Rattle.laws.specs.QuasiPeriod.{Quasi, NoQuasi, some-quasi, none-quasi}
-use Rattle.run.specs.State.{rootD}
+use Rattle.state.specs.State.{rootD}
+pub use Rattle.state.specs.Start.{ticket}
 use Rattle.run.specs.declared.Outcome.{Outcome}
 use Rattle.run.specs.declared.Outcome.the-variants.{Found, Spent, Refused}
 
@@ -42,10 +43,6 @@ signed-odd q m c n = go (eqb (m % 2) 0) refl
     go : (t : Bool) → eqb (m % 2) 0 ≡ t → (elim t [ true ↦ c | false ↦ modulo q .sub 0 c ]) ≡ modulo q .sub 0 c
     go true k = absurd (n (eqb-true (m % 2) 0 k))
     go false k = refl
-
--- the ticket of the parts
-abbrev pub ticket : ℕ → ℕ → List ℕ → ℕ → Ticket
-ticket q n D b = record { q = q; n = n; D = D; b = b }
 
 module _ (q n : ℕ) (D : List ℕ) (h : Admitted q (genus n) D) (b : ℕ) where
   abbrev d : List ℕ

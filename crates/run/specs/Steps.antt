@@ -14,11 +14,11 @@ use Rattle.laws.specs.Fraction.{Q-some}
 use Rattle.laws.specs.QuasiPeriod.{Quasi}
 use Rattle.polynomial.specs.Record.{poly, Held}
 use Rattle.polynomial.specs.Places.{zeros}
-use Rattle.run.specs.declared.stride.Progress.{Progress}
-use Rattle.run.specs.State.{rootD}
-use Rattle.run.specs.Start.{Prepared}
-use Rattle.run.specs.Progress.{On, Steps, last, more, Rounded}
-use Rattle.run.specs.Stride.{NoneTo, on-first, stride-on, stride-last, stride-none, stride-found}
+use Rattle.stride.specs.declared.Progress.{Progress}
+use Rattle.state.specs.State.{rootD}
+use Rattle.state.specs.Start.{Prepared}
+use Rattle.stride.specs.Progress.{On, Steps, last, more, Rounded}
+use Rattle.stride.specs.Stride.{NoneTo, on-first, stride-on, stride-last, stride-none, stride-found}
 use Rattle.run.specs.Outcome.{ticket, signed, found-is, spent-is}
 
 module _ {q g top : ℕ} {D table d s : List ℕ} (h : Admitted q g D) (e : top ≡ suc (suc g)) (p : Prepared q g D table d s) {stop budget : ℕ} where

@@ -1,25 +1,21 @@
-// The run of the walk: what it starts from, the loop to the first constant Q within a budget, and the outcome.
-pub mod advance;
-pub mod start;
-pub mod stride;
-pub mod turn;
-
+// The run of the walk: the loop to the first constant Q within a budget, and the outcome.
 ghost use mathlib.Core.Path.{_≡_};
 ghost use Prim.Native.Nat.{_<_, _≤_};
 ghost use Rattle.definitions.specs.Ticket.{genus};
 ghost use Rattle.definitions.specs.Answers.{outcomeOf};
 ghost use Rattle.laws.specs.Admitted.{Admitted};
 ghost use Rattle.polynomial.specs.Record.{poly, Held};
-ghost use Rattle.run.specs.Start.{Prepared};
+ghost use Rattle.state.specs.Start.{Prepared};
 ghost use Rattle.run.specs.Outcome.{meaning, signed, ticket};
-use crate::start::prepare;
-use crate::stride::Progress;
-use crate::stride::round;
 use counters::Distance;
 use counters::Index;
 use field::Field;
 use polynomial::Poly;
+use state::start::prepare;
+use stride::Progress;
+use stride::round;
 
+// Found with R, m and c; spent with the steps made and the degree reached; refused with its number.
 pub enum Outcome {
     Found(Distance, Index, u32),
     Spent(Index, Distance),
@@ -34,25 +30,25 @@ fn constant(f: Field, m: Index, c: u32) -> u32
     if m.0 % 2 == 0 { c } else { field::neg(f, c) }
 }
 
-// The steps from index 0 on, against the budget; D is the first `length` places of big. The loop leaves with the first index from 1 on whose Q is constant.
+// The steps from index 0 on, against the budget; D is the first `length` places of `radicand`. The loop leaves with the first index from 1 on whose Q is constant.
 fn seek(
     f: Field,
     n: usize,
-    big: &[u32; 129],
+    radicand: &[u32; 129],
     length: usize,
     table: &[u32; 4096],
     d: &[u32; 129],
     s: &[u32; 129],
     budget: u64,
 ) -> Outcome
-    requires { ⌜ Admitted (f .q) (genus n) (poly (now big) length) ⌝ }
-    requires { ⌜ Held (f .q) (now big) length × (2 ≤ n) × (budget < 268435456) ⌝ }
-    requires { ⌜ Prepared (f .q) (genus n) (poly (now big) length) (now table) (now d) (now s) ⌝ }
-    ensures { λ r. ⌜ meaning r ≡ outcomeOf (ticket (f .q) n (poly (now (big .entry)) length) budget) ⌝ }
+    requires { ⌜ Admitted (f .q) (genus n) (poly (now radicand) length) ⌝ }
+    requires { ⌜ Held (f .q) (now radicand) length × (2 ≤ n) × (budget < 268435456) ⌝ }
+    requires { ⌜ Prepared (f .q) (genus n) (poly (now radicand) length) (now table) (now d) (now s) ⌝ }
+    ensures { λ r. ⌜ meaning r ≡ outcomeOf (ticket (f .q) n (poly (now (radicand .entry)) length) budget) ⌝ }
 {
     let top = n / 2 + 1;
     let reciprocal = 4294967295 / f.q;
-    let mut a = *big;
+    let mut a = *radicand;
     let mut b = [0u32; 129];
     let mut c = [0u32; 129];
     b[0] = 1;
@@ -96,15 +92,15 @@ fn seek(
     )
 }
 
-// The outcome of the walk of √D within the budget. D is `big`, of degree n.
-pub fn run(f: Field, n: usize, big: Poly, budget: u64) -> Outcome
-    requires { ⌜ Admitted (f .q) (genus n) (poly (big .c) (big .size)) ⌝ }
-    requires { ⌜ Held (f .q) (big .c) (big .size) × (2 ≤ n) × (budget < 268435456) ⌝ }
-    ensures { λ r. ⌜ meaning r ≡ outcomeOf (ticket (f .q) n (poly (big .c) (big .size)) budget) ⌝ }
+// The outcome of the walk of √D within the budget. D is the radicand, of degree n.
+pub fn run(f: Field, n: usize, radicand: Poly, budget: u64) -> Outcome
+    requires { ⌜ Admitted (f .q) (genus n) (poly (radicand .c) (radicand .size)) ⌝ }
+    requires { ⌜ Held (f .q) (radicand .c) (radicand .size) × (2 ≤ n) × (budget < 268435456) ⌝ }
+    ensures { λ r. ⌜ meaning r ≡ outcomeOf (ticket (f .q) n (poly (radicand .c) (radicand .size)) budget) ⌝ }
 {
     let mut table = [0u32; 4096];
     let mut d = [0u32; 129];
     let mut s = [0u32; 129];
-    prepare(f, n, big, &mut table, &mut d, &mut s);
-    seek(f, n, &big.c, big.size, &table, &d, &s, budget)
+    prepare(f, n, radicand, &mut table, &mut d, &mut s);
+    seek(f, n, &radicand.c, radicand.size, &table, &d, &s, budget)
 }

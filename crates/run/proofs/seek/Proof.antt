@@ -6,18 +6,18 @@ use borrow.Author.Needs.{needs}
 use Rattle.definitions.specs.Ticket.{genus}
 use Rattle.definitions.specs.Answers.{found}
 use Rattle.polynomial.specs.Record.{poly}
-use Rattle.run.specs.Start.{half-degree, top-is}
-use Rattle.run.specs.Stride.{NoneTo}
+use Rattle.state.specs.Start.{half-degree, top-is}
+use Rattle.stride.specs.Stride.{NoneTo}
 use Rattle.run.specs.Steps.{Standing, standing-first, standing-next, round-rise, steps-none, last-reduced, outcome-found, outcome-spent}
 use Rattle.run.proofs.seek.Statement.{statement}
 use Rattle.run.proofs.seek.Tie as tie
 
 abbrev Inv-loop : tie.InvT-loop
-Inv-loop f n big length table d s budget top reciprocal a₀ b₀ c₀ x₀ y₀ z₀ at₀ a b c x y z at =
-    Standing (f .q) (genus n) (poly big length) budget a b x at × NoneTo (f .q) (genus n) (poly big length) at
+Inv-loop f n radicand length table d s budget top reciprocal a₀ b₀ c₀ x₀ y₀ z₀ at₀ a b c x y z at =
+    Standing (f .q) (genus n) (poly radicand length) budget a b x at × NoneTo (f .q) (genus n) (poly radicand length) at
 
 abbrev μ-loop : tie.MeasureT-loop
-μ-loop f n big length table d s budget top reciprocal a₀ b₀ c₀ x₀ y₀ z₀ at₀ a b c x y z at = budget - at .index
+μ-loop f n radicand length table d s budget top reciprocal a₀ b₀ c₀ x₀ y₀ z₀ at₀ a b c x y z at = budget - at .index
 
 add-top : tie.Need-add-top Inv-loop μ-loop
 add-top c =
@@ -34,7 +34,7 @@ array-write-b c = search needs
 loop-holds : tie.Need-loop-holds Inv-loop μ-loop
 loop-holds c =
     let s = c .before .before .before in
-    (standing-first (s .args .big .now) (s .args .length) (s .args .budget) (s .pre .0) (s .pre .1 .0 .0) (s .pre .1 .1), λ j k m. absurd (omega arith))
+    (standing-first (s .args .radicand .now) (s .args .length) (s .args .budget) (s .pre .0) (s .pre .1 .0 .0) (s .pre .1 .1), λ j k m. absurd (omega arith))
 
 returns : tie.Need-returns Inv-loop μ-loop
 returns c =
@@ -50,7 +50,7 @@ round-requires c κs =
       (refl, less, s .pre .1 .0 .2),
       record {
         g = genus (s .args .n);
-        D = poly (s .args .big .now) (s .args .length);
+        D = poly (s .args .radicand .now) (s .args .length);
         d = s .args .d .now;
         top-is = top-is (s .args .n) (s .pre .1 .0 .1);
         admitted = s .pre .0;

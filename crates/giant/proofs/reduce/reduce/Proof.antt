@@ -5,7 +5,7 @@ use Rattle.definitions.specs.Ticket.{genus}
 use mathlib.Core.Path.{subst}
 use Rattle.polynomial.specs.Record.{poly}
 use Rattle.definitions.specs.Walk.{Ideal}
-use Rattle.run.specs.Start.{half-degree}
+use Rattle.state.specs.Start.{half-degree}
 use Rattle.ideal.specs.Operand.{pairOf}
 use Rattle.giant.specs.Start.{root-result, begun-again, same-pair}
 use Rattle.giant.specs.Turn.{At, at-start, a-result, q-result, p-result, q-some, product-fits, a-path, next-short, a-some, sum-fits, size-less, at-next, Reduces, reduces}

@@ -6,7 +6,7 @@ use borrow.Author.Needs.{needs}
 use Rattle.definitions.specs.Ticket.{genus}
 use Rattle.laws.specs.Admitted.{surd-of}
 use Rattle.laws.specs.Walk.{d-length}
-use Rattle.run.specs.Start.{half-degree, root-places}
+use Rattle.state.specs.Start.{half-degree, root-places}
 use Rattle.giant.proofs.root.root_of.Statement.{statement}
 use Rattle.giant.proofs.root.root_of.Tie as tie
 

@@ -3,23 +3,23 @@ use Prim.Native.Nat.{_+_, _-_, _/_, _≤_, _<_}
 use native.Mathlib.Omega.{arith}
 use mathlib.Core.Path.{refl}
 use Rattle.polynomial.specs.Record.{poly}
-use Rattle.run.specs.Stride.{on-first}
-use Rattle.records.specs.Ideal.{size-some, Q-held}
-use Rattle.records.specs.Listed.{Listed, degree-two, degree-most, top-most, root-within, regulator-fits, listed-first, listed-all, place-fits, degree-within, size-within, left-places, turn-ready, listed-next}
+use Rattle.state.specs.Walked.{walked-first}
+use Rattle.records.specs.Ideal.{Q-held}
+use Rattle.records.specs.Listed.{Listed, degree-two, degree-most, top-fits, root-within, regulator-fits, listed-first, listed-all, place-fits, degree-within, size-within, size-positive, left-places, turn-ready, listed-next}
 use borrow.Author.Needs.{needs}
 use Rattle.records.proofs.listing.write_records.Statement.{statement}
 use Rattle.records.proofs.listing.write_records.Tie as tie
 
 abbrev Inv-loop : tie.InvT-loop
-Inv-loop f n big places table d s m r out₀ top reciprocal before₀ b₀ left₀ size₀ degree₀ at₀ i₀ out before b left size degree at i =
-    (i ≤ m) × Listed (f .q) n (poly big places) r out₀ i out before b left size degree at
+Inv-loop f n radicand places table d s m r out₀ top reciprocal before₀ b₀ left₀ size₀ degree₀ at₀ i₀ out before b left size degree at i =
+    (i ≤ m) × Listed (f .q) n (poly radicand places) r out₀ i out before b left size degree at
 
 abbrev μ-loop : tie.MeasureT-loop
-μ-loop f n big places table d s m r out₀ top reciprocal before₀ b₀ left₀ size₀ degree₀ at₀ i₀ out before b left size degree at i =
+μ-loop f n radicand places table d s m r out₀ top reciprocal before₀ b₀ left₀ size₀ degree₀ at₀ i₀ out before b left size degree at i =
     m - i
 
 add-top : tie.Need-add-top Inv-loop μ-loop
-add-top c = let l : c .before .args .n / 2 + 1 ≤ 128 = top-most (c .before .pre .0) in omega arith
+add-top c = let l : c .before .args .n / 2 + 1 ≤ 128 = top-fits (c .before .pre .0) in omega arith
 
 div-reciprocal : tie.Need-div-reciprocal Inv-loop μ-loop
 div-reciprocal c = let l : 2 < c .before .before .args .f .q = c .before .before .pre .0 .admitted .odd in omega arith
@@ -30,7 +30,7 @@ array-write-b c = search needs
 loop-holds : tie.Need-loop-holds Inv-loop μ-loop
 loop-holds c =
     let s = c .before .before .before .before in
-    (omega arith, listed-first (s .pre .0) (on-first (s .args .big .now) (s .args .places) (s .pre .0 .admitted) (s .pre .1 .0) (s .pre .1 .1) .walked))
+    (omega arith, listed-first (s .pre .0) (walked-first (s .args .radicand .now) (s .args .places) (s .pre .0 .admitted) (s .pre .1 .0) (s .pre .1 .1)))
 
 add-degree : tie.Need-add-degree Inv-loop μ-loop
 add-degree c = search needs
@@ -42,7 +42,7 @@ write-record-requires c κs =
     let t = c .before .before .before .before .loop .inv .1 in
     let m = a .index-fits in
     let f = regulator-fits a in
-    ((a .admitted .prime, a .admitted .small, degree-two a, degree-most a, size-some _ _ _ (a .admitted) _ _ _ _ _ (t .walked .state)), ((root-within a (s .pre .1 .1), left-places a (s .pre .1 .1) t), (Q-held _ _ _ (a .admitted) _ _ _ _ _ (t .walked .state), (place-fits a (s .pre .1 .1) t (search needs), omega arith, degree-within a (s .pre .1 .1) t (search needs), omega arith))))
+    ((a .admitted .prime, a .admitted .small, degree-two a, degree-most a, size-positive a (s .pre .1 .1) t), ((root-within a (s .pre .1 .1), left-places a (s .pre .1 .1) t), (Q-held _ _ _ (a .admitted) _ _ _ _ _ (t .walked .state), (place-fits a (s .pre .1 .1) t (search needs), omega arith, degree-within a (s .pre .1 .1) t (search needs), omega arith))))
 
 add-at : tie.Need-add-at Inv-loop μ-loop
 add-at c = search needs
@@ -61,7 +61,7 @@ add-degree-2 c =
     let s = c .before .before .before .before .before .before .before .before .before .before .before .before in
     let w = degree-within (s .pre .0) (s .pre .1 .1) (c .before .before .before .before .before .before .before .loop .inv .1) (search needs) in
     let f = regulator-fits (s .pre .0) in
-    let l : s .args .n / 2 + 1 ≤ 128 = top-most (s .pre .0) in
+    let l : s .args .n / 2 + 1 ≤ 128 = top-fits (s .pre .0) in
     omega arith
 
 turn-requires : tie.Need-turn-requires Inv-loop μ-loop
@@ -69,7 +69,7 @@ turn-requires c κs =
     let s = c .before .before .before .before .before .before .before .before .before .before .before .before .before .before .before in
     let a = s .pre .0 in
     let t = c .before .before .before .before .before .before .before .before .before .before .loop .inv .1 in
-    ((a .admitted .prime, a .admitted .small, refl), ((size-some _ _ _ (a .admitted) _ _ _ _ _ (t .walked .state), size-within a (s .pre .1 .1) t, top-most a), (s .pre .1 .1 .inverses, turn-ready a (s .pre .1 .1) t)))
+    ((a .admitted .prime, a .admitted .small, refl), ((size-positive a (s .pre .1 .1) t, size-within a (s .pre .1 .1) t, top-fits a), (s .pre .1 .1 .inverses, turn-ready a (s .pre .1 .1) t)))
 
 add-i : tie.Need-add-i Inv-loop μ-loop
 add-i c = search needs

@@ -1,0 +1,5 @@
+pub mod Written
+pub mod Sum
+pub mod Pair
+pub mod Recurrence
+pub mod Progress
