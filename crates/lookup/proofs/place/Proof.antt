@@ -1,12 +1,13 @@
--- `foskadoin_lookup` meets its contract: a list that is refused has the empty part at its start, and one that is not has n + 4 words from the place found.
+-- A list that is refused has the empty part at its start, and one that is not has n + 4 words from the place found.
 use native.Mathlib.Omega.{arith}
 use mathlib.Core.Path.{sym}
 use borrow.Author.Needs.{needs}
 use borrow.Author.Tests.{not-true, not-false}
+use Rattle.lookup.specs.Kinds.{allowed}
 use Rattle.lookup.specs.Refusal.{not-not, listing-records, refused-place, found-place}
-use Rattle.foskadoin.specs.Part.{refused-length, found-fits, found-length}
-use Rattle.foskadoin.proofs.foskadoin_lookup.Statement.{statement}
-use Rattle.foskadoin.proofs.foskadoin_lookup.Tie as tie
+use Rattle.lookup.specs.Part.{refused-length, found-length}
+use Rattle.lookup.proofs.place.Statement.{statement}
+use Rattle.lookup.proofs.place.Tie as tie
 
 listing-ok-requires : tie.Need-listing-ok-requires
 listing-ok-requires c κs = search needs
@@ -19,10 +20,9 @@ returns c =
 last-within-requires : tie.Need-last-within-requires
 last-within-requires c κs = listing-records _ _ (not-not _ (c .before .listing-ok .ensures) .1 (not-false _ (c .if1 .left)))
 
-add-t9 : tie.Need-add-t9
-add-t9 c =
-    let w = not-not _ (c .before .before .listing-ok .ensures) .1 (not-false _ (c .before .if1 .left)) in
-    let f = found-fits _ _ _ w _ (c .last-within .ensures) in
+add-length : tie.Need-add-length
+add-length c =
+    let a = allowed _ (listing-records _ _ (not-not _ (c .before .before .listing-ok .ensures) .1 (not-false _ (c .before .if1 .left))) .degree) in
     omega arith
 
 returns-2 : tie.Need-returns-2
@@ -31,5 +31,6 @@ returns-2 c =
     let e = c .last-within .ensures in
     (sym (found-place _ _ _ _ w e), sym (found-length _ _ _ w _ e))
 
-pub foskadoin-lookup-spec : {M : Type 1} → statement M
-foskadoin-lookup-spec = tie.close (tie.spec listing-ok-requires returns last-within-requires add-t9 returns-2)
+pub place-spec : {M : Type 1} → statement M
+place-spec =
+    tie.close (tie.spec listing-ok-requires returns last-within-requires add-length returns-2)
