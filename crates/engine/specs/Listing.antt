@@ -19,29 +19,21 @@ pub record Answers (a : ListingAnswer) (x : Outcome) (out : List ℕ) : Type 0 w
   pub says : said x ≡ a .says
   pub list : out ≡ a .list
 
-module _ (t : Ticket) (R m c : ℕ) (l : List ℕ) where
-  abbrev answer : Bool → ListingAnswer
-  answer x =
-      elim x [
-        | true ↦ record { says = said (found R m c); list = listingOf t R m ++ drop (m * (t .n + 4)) l }
-        | false ↦ record { says = said (refused 13); list = l }
-      ]
+-- what holds of the answer with room for every record and of the answer without holds of what is found
+pub room-cases : (C : ListingAnswer → Type 0) (t : Ticket) (R m c : ℕ) (l : List ℕ) → (m * (t .n + 4) ≤ length l → C (record { says = said (found R m c); list = listingOf t R m ++ drop (m * (t .n + 4)) l })) → (length l < m * (t .n + 4) → C (record { says = said (refused 13); list = l })) → C (listingFrom t (found R m c) l)
+unfolding listingFrom
+room-cases C t R m c l long short = go (leb (m * (t .n + 4)) (length l)) refl
+  where
+    go : (x : Bool) → leb (m * (t .n + 4)) (length l) ≡ x → C (elim x [ true ↦ record { says = said (found R m c); list = listingOf t R m ++ drop (m * (t .n + 4)) l } | false ↦ record { says = said (refused 13); list = l } ])
+    go true k = long (leb-true (m * (t .n + 4)) (length l) k)
+    go false k = short (leb-false (m * (t .n + 4)) (length l) k)
 
+module _ (t : Ticket) (R m c : ℕ) (l : List ℕ) where
   pub long-list : (out : List ℕ) → m * (t .n + 4) ≤ length l → out ≡ listingOf t R m ++ drop (m * (t .n + 4)) l → Answers (listingFrom t (found R m c) l) (found R m c) out
-  unfolding listingFrom
-  long-list out h e = go (leb (m * (t .n + 4)) (length l)) refl
-    where
-      go : (x : Bool) → leb (m * (t .n + 4)) (length l) ≡ x → Answers (answer x) (found R m c) out
-      go true k = record { says = refl; list = e }
-      go false k = absurd (let z = leb-false (m * (t .n + 4)) (length l) k in omega arith)
+  long-list out h e = room-cases (λ a. Answers a (found R m c) out) t R m c l (λ k. record { says = refl; list = e }) (λ k. absurd (omega arith))
 
   pub short-list : length l < m * (t .n + 4) → Answers (listingFrom t (found R m c) l) (refused 13) l
-  unfolding listingFrom
-  short-list h = go (leb (m * (t .n + 4)) (length l)) refl
-    where
-      go : (x : Bool) → leb (m * (t .n + 4)) (length l) ≡ x → Answers (answer x) (refused 13) l
-      go true k = absurd (let z = leb-true (m * (t .n + 4)) (length l) k in omega arith)
-      go false k = record { says = refl; list = refl }
+  short-list h = room-cases (λ a. Answers a (refused 13) l) t R m c l (λ k. absurd (omega arith)) (λ k. record { says = refl; list = refl })
 
 -- an outcome that is not found is the answer, and the list keeps every word
 pub kept : (t : Ticket) (x : Outcome) (l : List ℕ) → ((R m c : ℕ) → x ≡ found R m c → ⊥) → Answers (listingFrom t x l) x l

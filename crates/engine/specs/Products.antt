@@ -136,10 +136,6 @@ module _ (w : List ℕ) (x : Ideal ℕ) (d : ℕ) (y : Ideal ℕ) (e : ℕ) wher
 
 -- ---- the same product, from pairs with the same polynomials
 module _ (t : Ticket) (x y x′ y′ : Ideal ℕ) (same : productOf (opsOf t) (t .D) x y ≡ productOf (opsOf t) (t .D) x′ y′) where
-  pub product-same : productDone t x y ≡ productDone t x′ y′
-  unfolding productDone
-  product-same = ap (λ (r : Product ℕ). record { number = 0; s = r .s; q = r .ideal .q; p = r .ideal .p }) same
-
   pub giant-same : (d e : ℕ) → giantDone t x d y e ≡ giantDone t x′ d y′ e
   unfolding giantDone
   giant-same d e = ap (λ (r : Product ℕ). record {
@@ -150,12 +146,9 @@ module _ (t : Ticket) (x y x′ y′ : Ideal ℕ) (same : productOf (opsOf t) (t
     distance = pos (d + e) +ℤ shiftOf (opsOf t) (t .D) (rootOf t) (genus (t .n)) r;
   }) same
 
--- a pair as it is handed in, and as two records hold it
+-- a pair as it is handed in
 abbrev pub pairOf : List ℕ → List ℕ → Ideal ℕ
 pairOf q p = record { q = q; p = p }
-
-abbrev pub heldPair : List ℕ → ℕ → List ℕ → ℕ → Ideal ℕ
-heldPair c m e n = record { q = poly c m; p = poly e n }
 
 -- the answer for two pairs that are ideals
 unfoldable pub giantNear : Ticket → Ideal ℕ → ℕ → Ideal ℕ → ℕ → GiantStepAnswer
@@ -201,10 +194,6 @@ module _ {q n : ℕ} {D u v u′ v′ c e c′ e′ : List ℕ} {m k m′ k′ :
 -- both pairs passed
 pub passed-pair : {q n : ℕ} {D u v c e : List ℕ} {m k : ℕ} {a : Bool} → Paired q n D u v a c m e k → a ≡ true → Paired q n D u v true c m e k
 passed-pair {q} {n} {D} {u} {v} {c} {e} {m} {k} x h = subst (λ (b : Bool). Paired q n D u v b c m e k) h x
-
-pub both-true : (a b : Bool) → (a && b) ≡ true → (a ≡ true) × (b ≡ true)
-both-true true b e = (refl, e)
-both-true false b e = absurd (let z : _≡_ {A = ℕ} 0 1 = cc in omega arith)
 
 -- the same modulus
 pub product-modulus : {q q′ : ℕ} {a : ProductAnswer} {number : ℕ} {s : List ℕ} {i : ℕ} {c : List ℕ} {m : ℕ} {e : List ℕ} {j : ℕ} → q ≡ q′ → ProductSays q a number s i c m e j → ProductSays q′ a number s i c m e j

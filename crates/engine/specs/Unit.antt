@@ -11,13 +11,11 @@ use Rattle.definitions.specs.Ticket.{Ticket, ticketOf}
 use Rattle.definitions.specs.Answers.{Outcome, found, spent, refused, said, said-injective, rootOf, wordsOutcome}
 use Rattle.definitions.specs.Units.{Lists, UnitAnswer, longEnough, unitLists, unitFrom, unitAnswer}
 use Rattle.run.specs.Outcome.{ticket}
+use Rattle.laws.specs.PairTest.{both-true}
 use Rattle.convergents.specs.Progress.{Room}
+use Rattle.convergents.specs.Lists.{lists}
 use Rattle.demands.specs.LeastDegree.{LeastFound, LeastIn, Least, t3}
 use Rattle.demands.specs.Written.{unitIn, t3-unit}
-
--- the four lists of a call
-abbrev pub lists : List ℕ → List ℕ → List ℕ → List ℕ → Lists
-lists p s x y = record { first = p; second = s; third = x; fourth = y }
 
 -- what a call says and leaves in its lists is the answer a
 pub record Answers (a : UnitAnswer) (x : Outcome) (l : Lists) : Type 0 where
@@ -75,10 +73,6 @@ module _ (w : List ℕ) (l : Lists) where
   least-written (refused j) out a = tt
 
 -- ---- the test of four lengths, one after the other
-both : (a b : Bool) → (a && b) ≡ true → (a ≡ true) × (b ≡ true)
-both true b e = (refl, e)
-both false b e = absurd (let v : _≡_ {A = ℕ} 0 1 = cc in omega arith)
-
 module _ (r p s x y : ℕ) where
   abbrev Four : Bool
   Four = leb (suc r) p && leb (suc r) s && leb (suc r) x && leb (suc r) y
@@ -97,9 +91,9 @@ module _ (r p s x y : ℕ) where
 
   pub four-room : Four ≡ true → (suc r ≤ p) × (suc r ≤ s) × (suc r ≤ x) × (suc r ≤ y)
   four-room e =
-      let u = both (leb (suc r) p && leb (suc r) s && leb (suc r) x) (leb (suc r) y) e in
-      let v = both (leb (suc r) p && leb (suc r) s) (leb (suc r) x) (u .0) in
-      let w = both (leb (suc r) p) (leb (suc r) s) (v .0) in
+      let u = both-true (leb (suc r) p && leb (suc r) s && leb (suc r) x) (leb (suc r) y) e in
+      let v = both-true (leb (suc r) p && leb (suc r) s) (leb (suc r) x) (u .0) in
+      let w = both-true (leb (suc r) p) (leb (suc r) s) (v .0) in
       (leb-true (suc r) p (w .0), leb-true (suc r) s (w .1), leb-true (suc r) x (v .1), leb-true (suc r) y (u .1))
 
 -- the four lists of these lengths are long enough, or not

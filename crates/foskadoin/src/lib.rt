@@ -7,7 +7,7 @@ ghost use Rattle.definitions.specs.Answers.{said, regulatorOf};
 ghost use Rattle.definitions.specs.Listing.{listingAnswer};
 ghost use Rattle.definitions.specs.Lookup.{lookupOf, placeOf};
 ghost use Rattle.definitions.specs.Units.{unitAnswer};
-ghost use Rattle.engine.specs.Unit.{lists};
+ghost use Rattle.convergents.specs.Lists.{lists};
 ghost use Rattle.foskadoin.specs.Numbers.{Plain};
 ghost use Rattle.run.specs.Outcome.{meaning};
 use counters::Distance;

@@ -8,7 +8,7 @@ ghost use Rattle.definitions.specs.Ticket.{genus};
 ghost use Rattle.definitions.specs.Walk.{partial, nextP, next};
 ghost use Rattle.bridge.specs.Prime.{Prime};
 ghost use Rattle.polynomial.specs.Record.{poly, Held, Is};
-ghost use Rattle.ideal.specs.Operand.{pairOf};
+ghost use Rattle.ideal.specs.Operand.{heldPair};
 ghost use Rattle.giant.specs.Start.{Start};
 ghost use Rattle.giant.specs.Turn.{Reduces};
 use crate::Reduced;
@@ -27,7 +27,7 @@ fn stage(f: Field, d: Poly, q: Poly, p: Poly) -> Stage
     requires { ⌜ Held (f .q) (d .c) (d .size) × Held (f .q) (q .c) (q .size) × Held (f .q) (p .c) (p .size) ⌝ }
     ensures { λ r. ⌜ Is (f .q) (r .q .c) (r .q .size) (poly (q .c) (q .size)) ⌝ }
     ensures { λ r. ⌜ Is (f .q) (r .p .c) (r .p .size) (poly (p .c) (p .size)) ⌝ }
-    ensures { λ r. ⌜ ((D : List ℕ) → Is (f .q) (r .a .c) (r .a .size) (partial (modulo (f .q)) D (poly (d .c) (d .size)) (pairOf (q .c) (q .size) (p .c) (p .size)))) ⌝ }
+    ensures { λ r. ⌜ ((D : List ℕ) → Is (f .q) (r .a .c) (r .a .size) (partial (modulo (f .q)) D (poly (d .c) (d .size)) (heldPair (q .c) (q .size) (p .c) (p .size)))) ⌝ }
 {
     let t = add(f, p, d);
     let r = div_rem(f, t, q);
@@ -40,11 +40,11 @@ fn advance(f: Field, big: Poly, d: Poly, s: Stage) -> Stage
     requires { ⌜ Prime (f .q) × (f .q < 4096) × (0 < s .q .size) × (s .a .size + s .q .size ≤ 130) ⌝ }
     requires { ⌜ Held (f .q) (big .c) (big .size) × Held (f .q) (d .c) (d .size) ⌝ }
     requires { ⌜ Held (f .q) (s .a .c) (s .a .size) × Held (f .q) (s .q .c) (s .q .size) × Held (f .q) (s .p .c) (s .p .size) ⌝ }
-    requires { ⌜ poly (s .a .c) (s .a .size) ≡ partial (modulo (f .q)) (poly (big .c) (big .size)) (poly (d .c) (d .size)) (pairOf (s .q .c) (s .q .size) (s .p .c) (s .p .size)) ⌝ }
-    requires { ⌜ length (nextP (modulo (f .q)) (poly (big .c) (big .size)) (poly (d .c) (d .size)) (pairOf (s .q .c) (s .q .size) (s .p .c) (s .p .size))) ≤ 65 ⌝ }
-    ensures { λ r. ⌜ Is (f .q) (r .a .c) (r .a .size) (partial (modulo (f .q)) (poly (big .c) (big .size)) (poly (d .c) (d .size)) (next (modulo (f .q)) (poly (big .c) (big .size)) (poly (d .c) (d .size)) (pairOf (s .q .c) (s .q .size) (s .p .c) (s .p .size)))) ⌝ }
-    ensures { λ r. ⌜ Is (f .q) (r .q .c) (r .q .size) (next (modulo (f .q)) (poly (big .c) (big .size)) (poly (d .c) (d .size)) (pairOf (s .q .c) (s .q .size) (s .p .c) (s .p .size)) .q) ⌝ }
-    ensures { λ r. ⌜ Is (f .q) (r .p .c) (r .p .size) (next (modulo (f .q)) (poly (big .c) (big .size)) (poly (d .c) (d .size)) (pairOf (s .q .c) (s .q .size) (s .p .c) (s .p .size)) .p) ⌝ }
+    requires { ⌜ poly (s .a .c) (s .a .size) ≡ partial (modulo (f .q)) (poly (big .c) (big .size)) (poly (d .c) (d .size)) (heldPair (s .q .c) (s .q .size) (s .p .c) (s .p .size)) ⌝ }
+    requires { ⌜ length (nextP (modulo (f .q)) (poly (big .c) (big .size)) (poly (d .c) (d .size)) (heldPair (s .q .c) (s .q .size) (s .p .c) (s .p .size))) ≤ 65 ⌝ }
+    ensures { λ r. ⌜ Is (f .q) (r .a .c) (r .a .size) (partial (modulo (f .q)) (poly (big .c) (big .size)) (poly (d .c) (d .size)) (next (modulo (f .q)) (poly (big .c) (big .size)) (poly (d .c) (d .size)) (heldPair (s .q .c) (s .q .size) (s .p .c) (s .p .size)))) ⌝ }
+    ensures { λ r. ⌜ Is (f .q) (r .q .c) (r .q .size) (next (modulo (f .q)) (poly (big .c) (big .size)) (poly (d .c) (d .size)) (heldPair (s .q .c) (s .q .size) (s .p .c) (s .p .size)) .q) ⌝ }
+    ensures { λ r. ⌜ Is (f .q) (r .p .c) (r .p .size) (next (modulo (f .q)) (poly (big .c) (big .size)) (poly (d .c) (d .size)) (heldPair (s .q .c) (s .q .size) (s .p .c) (s .p .size)) .p) ⌝ }
 {
     let a = s.a;
     let q = s.q;
@@ -59,7 +59,7 @@ fn advance(f: Field, big: Poly, d: Poly, s: Stage) -> Stage
 // Steps until the first k with deg Q_k at most g = n/2 − 1. D is `big`, of degree n, and d its root.
 pub fn reduce(f: Field, n: usize, big: Poly, d: Poly, q: Poly, p: Poly) -> Reduced
     requires { ⌜ Start (f .q) (genus n) (big .c) (big .size) (d .c) (d .size) (q .c) (q .size) (p .c) (p .size) × (2 ≤ n) ⌝ }
-    ensures { λ r. ⌜ Reduces (f .q) (genus n) (poly (big .c) (big .size)) (pairOf (q .c) (q .size) (p .c) (p .size)) (r .q .c) (r .q .size) (r .p .c) (r .p .size) (r .sum) ⌝ }
+    ensures { λ r. ⌜ Reduces (f .q) (genus n) (poly (big .c) (big .size)) (heldPair (q .c) (q .size) (p .c) (p .size)) (r .q .c) (r .q .size) (r .p .c) (r .p .size) (r .sum) ⌝ }
 {
     let top = n / 2;
     let mut s = stage(f, d, q, p);

@@ -6,7 +6,7 @@ ghost use Rattle.definitions.specs.Ticket.{genus};
 ghost use Rattle.laws.specs.Admitted.{Admitted};
 ghost use Rattle.polynomial.specs.Record.{poly, Held, Is};
 ghost use Rattle.run.specs.State.{rootD};
-ghost use Rattle.ideal.specs.Operand.{pairOf, Operand};
+ghost use Rattle.ideal.specs.Operand.{heldPair, Operand};
 ghost use Rattle.giant.specs.Stepped.{Stepped};
 use crate::Giant;
 use crate::reduce::reduce;
@@ -51,7 +51,7 @@ pub fn giant(
     requires { ⌜ Operand (f .q) (genus n) (poly (big .c) (big .size)) (q1 .c) (q1 .size) (p1 .c) (p1 .size) ⌝ }
     requires { ⌜ Operand (f .q) (genus n) (poly (big .c) (big .size)) (q2 .c) (q2 .size) (p2 .c) (p2 .size) ⌝ }
     requires { ⌜ (d1 .0 ≤ 1099511627776) × (d2 .0 ≤ 1099511627776) ⌝ }
-    ensures { λ r. ⌜ Stepped (f .q) n (poly (big .c) (big .size)) (pairOf (q1 .c) (q1 .size) (p1 .c) (p1 .size)) (d1 .0) (pairOf (q2 .c) (q2 .size) (p2 .c) (p2 .size)) (d2 .0) (r .q .c) (r .q .size) (r .p .c) (r .p .size) (r .f) (r .distance) ⌝ }
+    ensures { λ r. ⌜ Stepped (f .q) n (poly (big .c) (big .size)) (heldPair (q1 .c) (q1 .size) (p1 .c) (p1 .size)) (d1 .0) (heldPair (q2 .c) (q2 .size) (p2 .c) (p2 .size)) (d2 .0) (r .q .c) (r .q .size) (r .p .c) (r .p .size) (r .f) (r .distance) ⌝ }
 {
     let m = product(f, n, big, q1, p1, q2, p2);
     let s = m.s;

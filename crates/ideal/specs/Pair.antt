@@ -22,12 +22,12 @@ use Rattle.bridge.specs.Division.{trim-rem}
 use Rattle.bridge.specs.Residues.{pos, model}
 use Rattle.laws.specs.Admitted.{Admitted, below-of}
 use Rattle.laws.specs.Pairs.{normAt}
-use Rattle.laws.specs.PairTest.{pair-passes}
+use Rattle.laws.specs.PairTest.{both-true, pair-passes}
 use Rattle.run.specs.Outcome.{ticket}
 use Rattle.polynomial.specs.Record.{poly, Held, Is}
 use Rattle.polynomial.specs.Held.{held-positive}
 use Rattle.polynomial.specs.Result.{Result, result, held-size}
-use Rattle.ideal.specs.Operand.{pairOf, Operand, M, I}
+use Rattle.ideal.specs.Operand.{heldPair, Operand, M, I}
 
 -- ---- the two parts
 unfoldable pub wordsFit : ℕ → ℕ → List ℕ → List ℕ → Bool
@@ -74,10 +74,6 @@ module _ (q g : ℕ) (u v : List ℕ) where
   unfolding wordsFit
   fit-last e f h = sym (ap₂ (λ (s t : Bool). s && t && not (someFrom q u) && not (someFrom q v)) (eq-eqb (length u) (suc g) e) (eq-eqb (length v) g f) ∙ ap (λ (t : Bool). true && true && not t && not (someFrom q v)) h)
 
-both : (s t : Bool) → (s && t) ≡ true → (s ≡ true) × (t ≡ true)
-both true t e = (refl, e)
-both false t e = absurd (let z : _≡_ {A = ℕ} 0 1 = cc in omega arith)
-
 pub record Fits (q g : ℕ) (u v : List ℕ) : Type 0 where
   pub q-length : length u ≡ suc g
   pub p-length : length v ≡ g
@@ -87,9 +83,9 @@ pub record Fits (q g : ℕ) (u v : List ℕ) : Type 0 where
 pub fits-of : {q g : ℕ} {u v : List ℕ} → wordsFit q g u v ≡ true → Fits q g u v
 unfolding wordsFit
 fits-of e =
-    let a = both _ _ e in
-    let b = both _ _ (a .0) in
-    let c = both _ _ (b .0) in
+    let a = both-true _ _ e in
+    let b = both-true _ _ (a .0) in
+    let c = both-true _ _ (b .0) in
     record { q-length = eqb-true _ _ (c .0); p-length = eqb-true _ _ (c .1); q-below = not-true _ (b .1); p-below = not-true _ (a .1) }
 
 -- ---- the polynomials, as records
@@ -98,19 +94,19 @@ module _ {q : ℕ} (D : List ℕ) {c : List ℕ} {m : ℕ} (hc : Held q c m) {e 
   unfolding size
   size-of {a} {n} h = held-size q a n h
 
-  pub ideal-first : (lead (modulo q) (poly c m) ≡ 1 → ⊥) → false ≡ isIdeal q D (pairOf c m e k)
+  pub ideal-first : (lead (modulo q) (poly c m) ≡ 1 → ⊥) → false ≡ isIdeal q D (heldPair c m e k)
   unfolding isIdeal
-  ideal-first h = sym (ap (λ (t : Bool). t && ltb (size (modulo q) (poly e k)) (size (modulo q) (poly c m)) && eqb (size (modulo q) (rem (modulo q) (normAt (modulo q) D (pairOf c m e k)) (poly c m))) 0) (ne-eqb _ 1 h))
+  ideal-first h = sym (ap (λ (t : Bool). t && ltb (size (modulo q) (poly e k)) (size (modulo q) (poly c m)) && eqb (size (modulo q) (rem (modulo q) (normAt (modulo q) D (heldPair c m e k)) (poly c m))) 0) (ne-eqb _ 1 h))
 
-  pub ideal-second : lead (modulo q) (poly c m) ≡ 1 → m ≤ k → false ≡ isIdeal q D (pairOf c m e k)
+  pub ideal-second : lead (modulo q) (poly c m) ≡ 1 → m ≤ k → false ≡ isIdeal q D (heldPair c m e k)
   unfolding isIdeal
-  ideal-second h l = sym (ap₂ (λ (s t : Bool). s && t && eqb (size (modulo q) (rem (modulo q) (normAt (modulo q) D (pairOf c m e k)) (poly c m))) 0) (eq-eqb _ 1 h) (le-ltb (size (modulo q) (poly e k)) (size (modulo q) (poly c m)) (let a = size-of hc in let b = size-of he in omega arith)))
+  ideal-second h l = sym (ap₂ (λ (s t : Bool). s && t && eqb (size (modulo q) (rem (modulo q) (normAt (modulo q) D (heldPair c m e k)) (poly c m))) 0) (eq-eqb _ 1 h) (le-ltb (size (modulo q) (poly e k)) (size (modulo q) (poly c m)) (let a = size-of hc in let b = size-of he in omega arith)))
 
-  pub ideal-last : lead (modulo q) (poly c m) ≡ 1 → k < m → {r : List ℕ} {n : ℕ} → Is q r n (rem (modulo q) (normAt (modulo q) D (pairOf c m e k)) (poly c m)) → eqb n 0 ≡ isIdeal q D (pairOf c m e k)
+  pub ideal-last : lead (modulo q) (poly c m) ≡ 1 → k < m → {r : List ℕ} {n : ℕ} → Is q r n (rem (modulo q) (normAt (modulo q) D (heldPair c m e k)) (poly c m)) → eqb n 0 ≡ isIdeal q D (heldPair c m e k)
   unfolding isIdeal
   ideal-last h l w =
       ap (λ (i : ℕ). eqb i 0) (w .size-is ∙ sym (size-is W _ ∙ ap length (trim-rem W _ _)))
-      ∙ sym (ap₂ (λ (s t : Bool). s && t && eqb (size (modulo q) (rem (modulo q) (normAt (modulo q) D (pairOf c m e k)) (poly c m))) 0) (eq-eqb _ 1 h) (lt-ltb (size (modulo q) (poly e k)) (size (modulo q) (poly c m)) (let a = size-of hc in let b = size-of he in omega arith)))
+      ∙ sym (ap₂ (λ (s t : Bool). s && t && eqb (size (modulo q) (rem (modulo q) (normAt (modulo q) D (heldPair c m e k)) (poly c m))) 0) (eq-eqb _ 1 h) (lt-ltb (size (modulo q) (poly e k)) (size (modulo q) (poly c m)) (let a = size-of hc in let b = size-of he in omega arith)))
     where
       W : Model (modulo q) (FqRing q (held-positive q c m hc))
       W = model q (held-positive q c m hc)
@@ -157,16 +153,16 @@ module _ (n : ℕ) {q : ℕ} {D : List ℕ} (h : Admitted q (genus n) D) (u v : 
       pub p-size : k ≤ 65
       p-size = let a = length-trim (M h) v in let l = fit .p-length in let z = e-is .size-is in let k = h .genus-most in omega arith
 
-      tested : isIdeal q D (pairOf c m e k) ≡ isIdeal q D x
+      tested : isIdeal q D (heldPair c m e k) ≡ isIdeal q D x
       tested = ap₂ (λ (a b : List ℕ). isIdeal q D (record { q = a; p = b })) (q-result .is) (p-result .is) ∙ ideal-trim
 
-      ok-of : (s : Bool) → s ≡ isIdeal q D (pairOf c m e k) → (b : ℕ) → s ≡ isPair (ticket q n D b) (record { q = u; p = v })
+      ok-of : (s : Bool) → s ≡ isIdeal q D (heldPair c m e k) → (b : ℕ) → s ≡ isPair (ticket q n D b) (record { q = u; p = v })
       ok-of s w b = w ∙ tested ∙ ap (λ (r : Bool). r && isIdeal q D (record { q = u; p = v })) t ∙ sym (pair-parts q n D u v b)
 
-      pub refused-ideal : {z : List ℕ} {i : ℕ} → Is q z i [] → false ≡ isIdeal q D (pairOf c m e k) → Paired q n D u v false z i z i
+      pub refused-ideal : {z : List ℕ} {i : ℕ} → Is q z i [] → false ≡ isIdeal q D (heldPair c m e k) → Paired q n D u v false z i z i
       refused-ideal z w = record { ok-is = ok-of false w; q-is = z; p-is = z }
 
-      pub accepted-pair : true ≡ isIdeal q D (pairOf c m e k) → Paired q n D u v true c m e k
+      pub accepted-pair : true ≡ isIdeal q D (heldPair c m e k) → Paired q n D u v true c m e k
       accepted-pair w = record { ok-is = ok-of true w; q-is = c-is; p-is = e-is }
 
 -- a pair that passed is an operand of the product

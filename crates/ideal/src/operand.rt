@@ -10,7 +10,7 @@ ghost use Rattle.definitions.specs.Ticket.{genus};
 ghost use Rattle.bridge.specs.Prime.{Prime};
 ghost use Rattle.laws.specs.Admitted.{Admitted};
 ghost use Rattle.polynomial.specs.Record.{poly, Held, Is};
-ghost use Rattle.ideal.specs.Operand.{pairOf};
+ghost use Rattle.ideal.specs.Operand.{heldPair};
 ghost use Rattle.ideal.specs.Pair.{wordsFit, isIdeal, Paired};
 use crate::Pair;
 use crate::multiply::cofactor;
@@ -74,7 +74,7 @@ fn load(words: &[u32]) -> Poly
 fn is_ideal(f: Field, big: Poly, q: Poly, p: Poly) -> bool
     requires { ⌜ Prime (f .q) × (f .q < 4096) × (p .size ≤ 65) ⌝ }
     requires { ⌜ Held (f .q) (big .c) (big .size) × Held (f .q) (q .c) (q .size) × Held (f .q) (p .c) (p .size) ⌝ }
-    ensures { λ r. ⌜ r ≡ isIdeal (f .q) (poly (big .c) (big .size)) (pairOf (q .c) (q .size) (p .c) (p .size)) ⌝ }
+    ensures { λ r. ⌜ r ≡ isIdeal (f .q) (poly (big .c) (big .size)) (heldPair (q .c) (q .size) (p .c) (p .size)) ⌝ }
 {
     let l = lead(f, q);
     if l != 1 {

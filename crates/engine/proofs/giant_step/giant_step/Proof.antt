@@ -4,10 +4,11 @@ use native.Mathlib.Omega.{arith}
 use borrow.Author.Needs.{needs}
 use borrow.Author.Tests.{not-true, not-false}
 use Rattle.definitions.specs.Ticket.{Ticket}
+use Rattle.laws.specs.PairTest.{both-true}
 use Rattle.ideal.specs.Pair.{paired-operand}
 use Rattle.ideal.specs.Words.{paired-product}
 use Rattle.engine.specs.Accepted.{accepted, number-is}
-use Rattle.engine.specs.Products.{giant-zeros, giant-refused, giant-wrong, giant-near, giant-modulus, pairs-wrong, pairs-right, passed-pair, both-true}
+use Rattle.engine.specs.Products.{giant-zeros, giant-refused, giant-wrong, giant-near, giant-modulus, pairs-wrong, pairs-right, passed-pair}
 use Rattle.engine.proofs.giant_step.giant_step.Statement.{statement}
 use Rattle.engine.proofs.giant_step.giant_step.Tie as tie
 

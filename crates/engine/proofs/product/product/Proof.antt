@@ -4,10 +4,11 @@ use native.Mathlib.Omega.{arith}
 use borrow.Author.Needs.{needs}
 use borrow.Author.Tests.{not-true, not-false}
 use Rattle.definitions.specs.Ticket.{Ticket}
+use Rattle.laws.specs.PairTest.{both-true}
 use Rattle.ideal.specs.Pair.{paired-operand}
 use Rattle.ideal.specs.Words.{multiplied-words}
 use Rattle.engine.specs.Accepted.{accepted, number-is}
-use Rattle.engine.specs.Products.{product-zeros, product-refused, product-wrong, product-done, product-done-says, pairs-wrong, pairs-right, product-modulus, passed-pair, both-true}
+use Rattle.engine.specs.Products.{product-zeros, product-refused, product-wrong, product-done, product-done-says, pairs-wrong, pairs-right, product-modulus, passed-pair}
 use Rattle.engine.proofs.product.product.Statement.{statement}
 use Rattle.engine.proofs.product.product.Tie as tie
 

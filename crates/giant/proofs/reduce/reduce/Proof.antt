@@ -6,7 +6,7 @@ use mathlib.Core.Path.{subst}
 use Rattle.polynomial.specs.Record.{poly}
 use Rattle.definitions.specs.Walk.{Ideal}
 use Rattle.run.specs.Start.{half-degree}
-use Rattle.ideal.specs.Operand.{pairOf}
+use Rattle.ideal.specs.Operand.{heldPair}
 use Rattle.giant.specs.Start.{root-result, begun-again, same-pair}
 use Rattle.giant.specs.Turn.{At, at-start, a-result, q-result, p-result, q-some, product-fits, a-path, next-short, a-some, sum-fits, size-less, at-next, Reduces, reduces}
 use Rattle.giant.proofs.reduce.reduce.Statement.{statement}
@@ -14,7 +14,7 @@ use Rattle.giant.proofs.reduce.reduce.Tie as tie
 
 abbrev Inv-loop : tie.InvT-loop
 Inv-loop f n big d top s₀ sum₀ s sum =
-    At (f .q) (genus n) (poly (big .c) (big .size)) (pairOf (s₀ .q .c) (s₀ .q .size) (s₀ .p .c) (s₀ .p .size)) (s .a .c) (s .a .size) (s .q .c) (s .q .size) (s .p .c) (s .p .size) sum
+    At (f .q) (genus n) (poly (big .c) (big .size)) (heldPair (s₀ .q .c) (s₀ .q .size) (s₀ .p .c) (s₀ .p .size)) (s .a .c) (s .a .size) (s .q .c) (s .q .size) (s .p .c) (s .p .size) sum
 
 abbrev μ-loop : tie.MeasureT-loop
 μ-loop f n big d top s₀ sum₀ s sum = s .q .size
