@@ -8,7 +8,7 @@ use Rattle.definitions.specs.Words.{value}
 use Rattle.definitions.specs.Ticket.{Ticket, genus, ticketOf, refusalOf}
 use Rattle.definitions.specs.Answers.{Outcome, found, spent, refused, said, said-injective, outcomeOf, wordsOutcome}
 use Rattle.definitions.specs.Listing.{listingFrom, listingAnswer}
-use Rattle.engine.specs.Listing.{room-cases}
+use Rattle.listings.specs.Listing.{room-cases}
 use Rattle.laws.specs.Admitted.{passed, admitted, degree-of}
 
 pub record Fits (w l : List ℕ) (m : ℕ) : Type 0 where

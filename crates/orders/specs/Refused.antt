@@ -9,7 +9,7 @@ use Rattle.definitions.specs.Ticket.{Ticket, ticketOf, refusalOf, firstOf, test
 use Rattle.definitions.specs.Walk.{quasiPeriod, degreeBefore, constantOf}
 use Rattle.definitions.specs.Answers.{Outcome, found, spent, refused, said, said-injective, opsOf, rootOf, outcomeOf, wordsOutcome}
 use Rattle.definitions.specs.Listing.{listingFrom, listingAnswer}
-use Rattle.engine.specs.Listing.{room-cases}
+use Rattle.listings.specs.Listing.{room-cases}
 
 -- a refusal has a number of its own
 pub record Numbered (x : Outcome) : Type 0 where

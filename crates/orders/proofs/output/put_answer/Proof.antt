@@ -5,7 +5,7 @@ use lib.ListN.{length, drop, length-append, length-drop}
 use lib.Seq.{length-take-le}
 use Rattle.definitions.specs.Answers.{said}
 use Rattle.run.specs.Outcome.{meaning}
-use Rattle.engine.proofs.Kept.{not-found}
+use Rattle.regulators.proofs.Kept.{not-found}
 use Rattle.orders.specs.Found.{found-fits, records-fit}
 use Rattle.orders.specs.Refused.{numbered-listing}
 use Rattle.orders.specs.Program.{answer-found, answer-other}
