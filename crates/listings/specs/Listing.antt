@@ -1,7 +1,7 @@
 -- The answer of the call `listing`, case by case of the outcome.
-use Prim.Native.Nat.{ℕ, zero, suc, _+_, _*_, _≤_, _<_}
+use Prim.Native.Nat.{ℕ, _+_, _*_, _≤_, _<_}
 use native.Mathlib.Omega.{arith}
-use mathlib.Core.Path.{_≡_, refl, sym, ap, _∙_, subst}
+use mathlib.Core.Path.{_≡_, refl, sym, subst}
 use mathlib.Core.Bool.{Bool, true, false}
 use mathlib.Core.List.{List, _++_}
 use lib.Dec.{leb}
@@ -10,9 +10,6 @@ use borrow.Author.Tests.{leb-true, leb-false}
 use Rattle.definitions.specs.Ticket.{Ticket, ticketOf}
 use Rattle.definitions.specs.Answers.{Outcome, found, spent, refused, said, wordsOutcome}
 use Rattle.definitions.specs.Listing.{ListingAnswer, listingOf, listingFrom, listingAnswer}
-use Rattle.polynomial.specs.Record.{poly}
-use Rattle.run.specs.Outcome.{ticket}
-use Rattle.regulators.specs.Accepted.{Accepted}
 
 -- what a call says and leaves in its list is the answer a
 pub record Answers (a : ListingAnswer) (x : Outcome) (out : List ℕ) : Type 0 where

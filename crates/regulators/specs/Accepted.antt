@@ -1,7 +1,7 @@
 -- What a ticket that is read with the number 0 gives the calls: its parts are the definitions' ticket, and D is admitted to the walk.
-use Prim.Native.Nat.{ℕ, suc, _+_, _/_, _≤_, _<_}
+use Prim.Native.Nat.{ℕ, suc, _+_, _≤_, _<_}
 use native.Mathlib.Omega.{arith}
-use mathlib.Core.Path.{_≡_, refl, sym, ap, _∙_, subst}
+use mathlib.Core.Path.{_≡_, sym, ap, _∙_, subst}
 use mathlib.Core.List.{List}
 use lib.ListN.{length, getD}
 use Rattle.definitions.specs.Field.{modulo}
@@ -11,7 +11,7 @@ use Rattle.laws.specs.Admitted.{Admitted, admitted, passed, degree-of, budget-l
 use Rattle.polynomial.specs.Record.{poly, Held, Is}
 use Rattle.polynomial.specs.Held.{is-poly, is-held}
 use Rattle.ticket.specs.Radicand.{trim-lead-one}
-use Rattle.ticket.specs.Read.{Read, readOf, Stands, read-number, read-accepted}
+use Rattle.ticket.specs.Read.{readOf, Stands, read-number, read-accepted}
 use Rattle.run.specs.Outcome.{ticket}
 
 pub record Accepted (w : List ℕ) (q n : ℕ) (c : List ℕ) (size b : ℕ) : Type 0 where

@@ -3,7 +3,7 @@ use Prim.Native.Nat.{ℕ, zero, suc}
 use native.Mathlib.Omega.{arith}
 use mathlib.Core.Path.{_≡_, refl, sym, ap, _∙_, subst}
 use mathlib.Core.List.{List}
-use Rattle.definitions.specs.Ticket.{Ticket, ticketOf, refusalOf}
+use Rattle.definitions.specs.Ticket.{ticketOf, refusalOf}
 use Rattle.definitions.specs.Answers.{Outcome, refused, said, said-injective, outcomeOf, wordsOutcome, regulatorOf}
 use Rattle.polynomial.specs.Record.{poly}
 use Rattle.run.specs.Outcome.{ticket}

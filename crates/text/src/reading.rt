@@ -41,6 +41,7 @@ fn bytes_read(bytes: &[u8]) -> usize
     280
 }
 
+// The words of some bytes. Bytes after the first 280 are not read.
 pub fn words_of(bytes: &[u8]) -> Words
     ensures { λ r. ⌜ Read (readBytes (now (bytes .entry))) (r .cut) (r .count) (r .words) ⌝ }
 {

@@ -1,7 +1,7 @@
 -- The answer of the call `unit`, case by case of the outcome, and T3 of the lists that it writes.
-use Prim.Native.Nat.{ℕ, zero, suc, _+_, _≤_, _<_}
+use Prim.Native.Nat.{ℕ, suc, _+_, _≤_, _<_}
 use native.Mathlib.Omega.{arith}
-use mathlib.Core.Path.{_≡_, refl, sym, ap, _∙_, subst}
+use mathlib.Core.Path.{_≡_, refl, sym, _∙_, subst}
 use mathlib.Core.Bool.{Bool, true, false, _&&_}
 use mathlib.Core.List.{List}
 use lib.Dec.{leb}
@@ -10,11 +10,10 @@ use borrow.Author.Tests.{leb-true, le-leb, lt-leb}
 use Rattle.definitions.specs.Ticket.{Ticket, ticketOf}
 use Rattle.definitions.specs.Answers.{Outcome, found, spent, refused, said, said-injective, rootOf, wordsOutcome}
 use Rattle.definitions.specs.Units.{Lists, UnitAnswer, longEnough, unitLists, unitFrom, unitAnswer}
-use Rattle.run.specs.Outcome.{ticket}
 use Rattle.laws.specs.PairTest.{both-true}
 use Rattle.convergents.specs.Progress.{Room}
 use Rattle.convergents.specs.Lists.{lists}
-use Rattle.demands.specs.LeastDegree.{LeastFound, LeastIn, Least, t3}
+use Rattle.demands.specs.LeastDegree.{LeastFound, LeastIn, t3}
 use Rattle.demands.specs.Written.{unitIn, t3-unit}
 
 -- what a call says and leaves in its lists is the answer a

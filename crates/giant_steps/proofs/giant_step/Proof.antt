@@ -1,5 +1,5 @@
 -- `giant_step` meets its contract: a ticket or a pair that is refused gives zeros; two ideals go to `stepped`, and the answer depends on their polynomials alone.
-use mathlib.Core.Path.{_≡_, refl, sym, ap, _∙_, subst}
+use mathlib.Core.Path.{sym, ap, _∙_}
 use native.Mathlib.Omega.{arith}
 use borrow.Author.Needs.{needs}
 use borrow.Author.Tests.{not-true, not-false}

@@ -1,6 +1,5 @@
 -- `stepped` meets its contract: a distance that is too far gives zeros, any other the giant step.
-use mathlib.Core.Path.{_≡_, refl, sym, ap, _∙_, subst}
-use native.Mathlib.Omega.{arith}
+use mathlib.Core.Path.{refl, sym, _∙_}
 use borrow.Author.Needs.{needs}
 use mir.Syntax.{w64}
 use mir.Facts.{toZ-ofZ}

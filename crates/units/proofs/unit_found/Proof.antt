@@ -1,5 +1,4 @@
 -- `unit_found` meets its contract: lists that are too short are refused as they are, any others receive the unit.
-use mathlib.Core.Path.{sym, _∙_}
 use native.Mathlib.Omega.{arith}
 use borrow.Author.Needs.{needs}
 use borrow.Author.Tests.{not-true, not-false}
