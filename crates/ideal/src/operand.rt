@@ -70,11 +70,11 @@ fn load(words: &[u32]) -> Poly
     Poly { c: c, size: size }
 }
 
-// Q is monic, P has a smaller degree, and Q divides D − P². D is `big`.
-fn is_ideal(f: Field, big: Poly, q: Poly, p: Poly) -> bool
+// Q is monic, P has a smaller degree, and Q divides D − P². D is the radicand.
+fn is_ideal(f: Field, radicand: Poly, q: Poly, p: Poly) -> bool
     requires { ⌜ Prime (f .q) × (f .q < 4096) × (p .size ≤ 65) ⌝ }
-    requires { ⌜ Held (f .q) (big .c) (big .size) × Held (f .q) (q .c) (q .size) × Held (f .q) (p .c) (p .size) ⌝ }
-    ensures { λ r. ⌜ r ≡ isIdeal (f .q) (poly (big .c) (big .size)) (heldPair (q .c) (q .size) (p .c) (p .size)) ⌝ }
+    requires { ⌜ Held (f .q) (radicand .c) (radicand .size) × Held (f .q) (q .c) (q .size) × Held (f .q) (p .c) (p .size) ⌝ }
+    ensures { λ r. ⌜ r ≡ isIdeal (f .q) (poly (radicand .c) (radicand .size)) (heldPair (q .c) (q .size) (p .c) (p .size)) ⌝ }
 {
     let l = lead(f, q);
     if l != 1 {
@@ -83,15 +83,15 @@ fn is_ideal(f: Field, big: Poly, q: Poly, p: Poly) -> bool
     if q.size <= p.size {
         return false;
     }
-    let k = cofactor(f, big, q, p);
+    let k = cofactor(f, radicand, q, p);
     let r = k.rem;
     r.size == 0
 }
 
-// The pair of the words, where it passes the test of refusal 9; else it is not `ok`, and its polynomials are 0. D is `big`, of degree n.
-pub fn pair(f: Field, n: usize, big: Poly, q: &[u32], p: &[u32]) -> Pair
-    requires { ⌜ Admitted (f .q) (genus n) (poly (big .c) (big .size)) × Held (f .q) (big .c) (big .size) × (2 ≤ n) ⌝ }
-    ensures { λ r. ⌜ Paired (f .q) n (poly (big .c) (big .size)) (now (q .entry)) (now (p .entry)) (r .ok) (r .q .c) (r .q .size) (r .p .c) (r .p .size) ⌝ }
+// The pair of the words, where it passes the test of refusal 9; else it is not `ok`, and its polynomials are 0. D is the radicand, of degree n.
+pub fn pair(f: Field, n: usize, radicand: Poly, q: &[u32], p: &[u32]) -> Pair
+    requires { ⌜ Admitted (f .q) (genus n) (poly (radicand .c) (radicand .size)) × Held (f .q) (radicand .c) (radicand .size) × (2 ≤ n) ⌝ }
+    ensures { λ r. ⌜ Paired (f .q) n (poly (radicand .c) (radicand .size)) (now (q .entry)) (now (p .entry)) (r .ok) (r .q .c) (r .q .size) (r .p .c) (r .p .size) ⌝ }
 {
     if !words_fit(f, n, q, p) {
         let z = zero();
@@ -103,7 +103,7 @@ pub fn pair(f: Field, n: usize, big: Poly, q: &[u32], p: &[u32]) -> Pair
     }
     let a = load(q);
     let b = load(p);
-    if !is_ideal(f, big, a, b) {
+    if !is_ideal(f, radicand, a, b) {
         let z = zero();
         return Pair {
             ok: false,
