@@ -10,7 +10,7 @@ use Rattle.definitions.specs.Answers.{opsOf}
 use Rattle.definitions.specs.Products.{ProductAnswer, productOf, isPair, wrongPair, productDone, productRefused, productAnswer}
 use Rattle.polynomial.specs.Record.{Is}
 use Rattle.run.specs.Outcome.{ticket}
-use Rattle.ideal.specs.Pair.{Paired}
+use Rattle.pairs.specs.Pair.{Paired}
 
 -- what a call of `product` answers is a; its polynomials stand in records of 129 places
 pub record ProductSays (q : ℕ) (a : ProductAnswer) (number : ℕ) (s : List ℕ) (i : ℕ) (c : List ℕ) (m : ℕ) (e : List ℕ) (j : ℕ) : Type 0 where

@@ -8,7 +8,7 @@ ghost use Rattle.definitions.specs.Ticket.{ticketOf};
 ghost use Rattle.definitions.specs.Products.{productAnswer};
 ghost use Rattle.polynomial.specs.Record.{Is};
 ghost use Rattle.products.specs.Products.{ProductSays, pairOf};
-use ideal::operand::pair;
+use pairs::operand::pair;
 use polynomial::Poly;
 use polynomial::linear::zero;
 use ticket::read_ticket;

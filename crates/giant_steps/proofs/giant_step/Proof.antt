@@ -5,8 +5,8 @@ use borrow.Author.Needs.{needs}
 use borrow.Author.Tests.{not-true, not-false}
 use Rattle.definitions.specs.Ticket.{Ticket}
 use Rattle.laws.specs.PairTest.{both-true}
-use Rattle.ideal.specs.Pair.{paired-operand}
-use Rattle.ideal.specs.Words.{paired-product}
+use Rattle.pairs.specs.Pair.{paired-operand}
+use Rattle.pairs.specs.Words.{paired-product}
 use Rattle.regulators.specs.Accepted.{accepted, number-is}
 use Rattle.products.specs.Products.{pairs-wrong, pairs-right, passed-pair}
 use Rattle.giant_steps.specs.GiantSteps.{giant-zeros, giant-refused, giant-wrong, giant-near, giant-modulus}

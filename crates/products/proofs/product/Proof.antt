@@ -5,8 +5,8 @@ use borrow.Author.Needs.{needs}
 use borrow.Author.Tests.{not-true, not-false}
 use Rattle.definitions.specs.Ticket.{Ticket}
 use Rattle.laws.specs.PairTest.{both-true}
-use Rattle.ideal.specs.Pair.{paired-operand}
-use Rattle.ideal.specs.Words.{multiplied-words}
+use Rattle.pairs.specs.Pair.{paired-operand}
+use Rattle.pairs.specs.Words.{multiplied-words}
 use Rattle.regulators.specs.Accepted.{accepted, number-is}
 use Rattle.products.specs.Products.{product-zeros, product-refused, product-wrong, product-done, product-done-says, pairs-wrong, pairs-right, product-modulus, passed-pair}
 use Rattle.products.proofs.product.Statement.{statement}

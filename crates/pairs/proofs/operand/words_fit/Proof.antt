@@ -7,9 +7,9 @@ use lib.ListN.{length}
 use denote.Ref.{now}
 use borrow.Author.Needs.{needs}
 use Rattle.definitions.specs.Ticket.{genus}
-use Rattle.ideal.specs.Pair.{fit-first, fit-second, fit-third, fit-last}
-use Rattle.ideal.proofs.operand.words_fit.Statement.{statement}
-use Rattle.ideal.proofs.operand.words_fit.Tie as tie
+use Rattle.pairs.specs.Pair.{fit-first, fit-second, fit-third, fit-last}
+use Rattle.pairs.proofs.operand.words_fit.Statement.{statement}
+use Rattle.pairs.proofs.operand.words_fit.Tie as tie
 
 -- ---- the lengths, past their tests
 q-length : (c : tie.Else1) → length (now (c .before .before .before .args .q)) ≡ suc (genus (c .before .before .before .args .n))

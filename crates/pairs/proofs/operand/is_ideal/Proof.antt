@@ -1,9 +1,9 @@
 -- Each test is the definition's: the leading coefficient, the two degrees, and the remainder of D − P² by Q.
 use mathlib.Core.Path.{sym, _∙_}
 use borrow.Author.Needs.{needs}
-use Rattle.ideal.specs.Pair.{ideal-first, ideal-second, ideal-last}
-use Rattle.ideal.proofs.operand.is_ideal.Statement.{statement}
-use Rattle.ideal.proofs.operand.is_ideal.Tie as tie
+use Rattle.pairs.specs.Pair.{ideal-first, ideal-second, ideal-last}
+use Rattle.pairs.proofs.operand.is_ideal.Statement.{statement}
+use Rattle.pairs.proofs.operand.is_ideal.Tie as tie
 
 lead-requires : tie.Need-lead-requires
 lead-requires c κs = search needs

@@ -11,8 +11,8 @@ use Rattle.bridge.specs.Residues.{model}
 use Rattle.laws.specs.Admitted.{below-of}
 use Rattle.polynomial.specs.Places.{Places, Filled, filled-none, filled-more, filled-all}
 use Rattle.polynomial.specs.Linear.{is-result}
-use Rattle.ideal.proofs.operand.load.Statement.{statement}
-use Rattle.ideal.proofs.operand.load.Tie as tie
+use Rattle.pairs.proofs.operand.load.Statement.{statement}
+use Rattle.pairs.proofs.operand.load.Tie as tie
 
 abbrev Inv-loop : tie.InvT-loop
 Inv-loop words c₀ n i₀ c i = (i ≤ n) × Filled c (λ k. getD words k 0) i

@@ -10,8 +10,8 @@ use borrow.Author.Needs.{needs}
 use borrow.Author.Count.{below-more}
 use Rattle.definitions.specs.Words.{someFrom}
 use Rattle.ticket.specs.Radicand.{take-none, take-at}
-use Rattle.ideal.proofs.operand.some_from.Statement.{statement}
-use Rattle.ideal.proofs.operand.some_from.Tie as tie
+use Rattle.pairs.proofs.operand.some_from.Statement.{statement}
+use Rattle.pairs.proofs.operand.some_from.Tie as tie
 
 abbrev Inv-loop : tie.InvT-loop
 Inv-loop f words i₀ i = (i ≤ length words) × ((k : ℕ) → k < i → getD words k 0 < f .q)

@@ -9,9 +9,9 @@ use Rattle.definitions.specs.Products.{Product, productOf}
 use Rattle.laws.specs.Admitted.{Admitted}
 use Rattle.laws.specs.ProductCong.{product-cong}
 use Rattle.polynomial.specs.Record.{Is}
 use Rattle.ideal.specs.Operand.{heldPair, K, M, I, operand-same}
 use Rattle.ideal.specs.Product.{Multiplied}
-use Rattle.ideal.specs.Pair.{Paired, paired-operand}
+use Rattle.pairs.specs.Pair.{Paired, paired-operand}
 
 module _ {n q : ℕ} {D : List ℕ} (h : Admitted q (genus n) D) {u v c : List ℕ} {m : ℕ} {e : List ℕ} {k : ℕ} (t : Paired q n D u v true c m e k) {u′ v′ c′ : List ℕ} {m′ : ℕ} {e′ : List ℕ} {k′ : ℕ} (t′ : Paired q n D u′ v′ true c′ m′ e′ k′) where
   pub paired-product : productOf (modulo q) D (heldPair c m e k) (heldPair c′ m′ e′ k′) ≡ productOf (modulo q) D (record { q = u; p = v }) (record { q = u′; p = v′ })

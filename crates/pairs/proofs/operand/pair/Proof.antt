@@ -12,9 +12,9 @@ use Rattle.definitions.specs.Polynomials.{trim}
 use Rattle.definitions.specs.Ticket.{genus}
 use Rattle.bridge.specs.Residues.{pos}
 use Rattle.polynomial.specs.Record.{Is}
-use Rattle.ideal.specs.Pair.{wordsFit, Fits, fits-of, q-result, p-result, p-size, refused-words, refused-ideal, accepted-pair}
-use Rattle.ideal.proofs.operand.pair.Statement.{statement}
-use Rattle.ideal.proofs.operand.pair.Tie as tie
+use Rattle.pairs.specs.Pair.{wordsFit, Fits, fits-of, q-result, p-result, p-size, refused-words, refused-ideal, accepted-pair}
+use Rattle.pairs.proofs.operand.pair.Statement.{statement}
+use Rattle.pairs.proofs.operand.pair.Tie as tie
 
 -- ---- past the words' test
 abbrev start : tie.Else1 → tie.Start
