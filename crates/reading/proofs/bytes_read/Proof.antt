@@ -1,9 +1,9 @@
 -- Either every byte counts or the first 280.
 use native.Mathlib.Omega.{arith}
 use mathlib.Core.Path.{sym}
-use Rattle.text.specs.Reading.{length-read-short, length-read-long}
-use Rattle.text.proofs.reading.bytes_read.Statement.{statement}
-use Rattle.text.proofs.reading.bytes_read.Tie as tie
+use Rattle.reading.specs.Reading.{length-read-short, length-read-long}
+use Rattle.reading.proofs.bytes_read.Statement.{statement}
+use Rattle.reading.proofs.bytes_read.Tie as tie
 
 returns : tie.Need-returns
 returns c = sym (length-read-short _ (omega arith))

@@ -7,9 +7,9 @@ use lib.Seq.{getD-set-same, getD-set-other}
 use borrow.Author.Count.{below-more}
 use borrow.Author.Needs.{needs}
 use Rattle.definitions.specs.Program.{readBytes}
-use Rattle.text.specs.Reading.{wordFrom, length-read-most, length-read-within, word-read, read-of}
-use Rattle.text.proofs.reading.words_of.Statement.{statement}
-use Rattle.text.proofs.reading.words_of.Tie as tie
+use Rattle.reading.specs.Reading.{wordFrom, length-read-most, length-read-within, word-read, read-of}
+use Rattle.reading.proofs.words_of.Statement.{statement}
+use Rattle.reading.proofs.words_of.Tie as tie
 
 abbrev Inv-loop : tie.InvT-loop
 Inv-loop bytes read count cut words₀ i₀ words i = (i ≤ count) × (length words ≡ 70) × (read ≡ length (readBytes bytes)) × (count ≡ read / 4) × (read ≤ 280) × (read ≤ length bytes) × ((k : ℕ) → k < i → getD words k 0 ≡ wordFrom (readBytes bytes) (4 * k))

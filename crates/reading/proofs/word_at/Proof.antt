@@ -1,9 +1,9 @@
 -- Four bytes below 256, so that the word fits.
 use native.Mathlib.Omega.{arith}
 use borrow.Author.Needs.{needs}
-use Rattle.text.specs.Reading.{wordFrom}
-use Rattle.text.proofs.reading.word_at.Statement.{statement}
-use Rattle.text.proofs.reading.word_at.Tie as tie
+use Rattle.reading.specs.Reading.{wordFrom}
+use Rattle.reading.proofs.word_at.Statement.{statement}
+use Rattle.reading.proofs.word_at.Tie as tie
 
 shared-slice-read-wide : tie.Need-shared-slice-read-wide
 shared-slice-read-wide c = search needs

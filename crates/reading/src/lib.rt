@@ -3,7 +3,7 @@ ghost use mathlib.Core.Path.{_≡_};
 ghost use Prim.Native.Nat.{_+_, _<_};
 ghost use lib.ListN.{length};
 ghost use Rattle.definitions.specs.Program.{readBytes};
-ghost use Rattle.text.specs.Reading.{wordFrom, Read};
+ghost use Rattle.reading.specs.Reading.{wordFrom, Read};
 
 // The whole words among the first 280 bytes, the number of them, and whether a word is cut.
 pub struct Words {
