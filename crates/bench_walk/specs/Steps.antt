@@ -12,7 +12,7 @@ use Rattle.definitions.specs.Walk.{degreeBefore}
 use Rattle.definitions.specs.Answers.{rootOf}
 use Rattle.polynomial.specs.Record.{poly}
 use Rattle.state.specs.State.{rootD}
-use Rattle.engine.specs.Accepted.{Accepted}
+use Rattle.regulators.specs.Accepted.{Accepted}
 
 unfoldable pub degreeAfter : List ℕ → ℕ → ℕ
 degreeAfter w steps = elim (ltb steps 268435456) [ true ↦ elim (refusalOf w) [ zero ↦ degreeBefore (modulo (ticketOf w .q)) (ticketOf w .D) (rootOf (ticketOf w)) steps | suc k ↦ 0 ] | false ↦ 0 ]

@@ -1,48 +1,26 @@
-// The public calls. None relies on its caller: every list of words has its answer, and every lent list is said at exit.
-pub mod giant_step;
-pub mod listing;
-mod pairs;
-pub mod product;
-pub mod unit;
-
-ghost use mathlib.Core.Path.{_≡_};
-ghost use lib.ListN.{length};
-ghost use Rattle.definitions.specs.Answers.{said, regulatorOf};
-ghost use Rattle.demands.specs.LeastDegree.{Least};
-ghost use Rattle.run.specs.Outcome.{meaning};
+// The public calls, each from a crate of its own. None relies on its caller: every list of words has its answer, and every lent list is said at exit.
 pub use counters::Distance;
 pub use counters::Index;
 pub use lookup::lookup;
 pub use polynomial::Poly;
+pub use regulators::Answer;
+pub use regulators::regulator;
 pub use run::Outcome;
-use run::run;
-use ticket::read_ticket;
 
-// The number of words handed in, and one of three outcomes.
-pub struct Answer {
-    pub words: u64,
-    pub outcome: Outcome,
+pub mod unit {
+    pub use units::unit;
 }
 
-// The outcome of a ticket: its first refusal, or what its walk finds within its budget.
-fn outcome(ticket: &[u32]) -> Outcome
-    ensures { λ r. ⌜ said (meaning r) ≡ regulatorOf (now (ticket .entry)) ⌝ }
-{
-    let t = read_ticket(ticket);
-    if t.number != 0 {
-        return Outcome::Refused(t.number);
-    }
-    run(t.field, t.n, t.radicand, t.budget)
+pub mod listing {
+    pub use listings::listing;
 }
 
-// The regulator of a ticket of any words and any length.
-pub fn regulator(ticket: &[u32]) -> Answer
-    ensures words { λ r. ⌜ r .words ≡ length (now (ticket .entry)) ⌝ }
-    ensures says { λ r. ⌜ said (meaning (r .outcome)) ≡ regulatorOf (now (ticket .entry)) ⌝ }
-    ensures least { λ r. ⌜ Least (now (ticket .entry)) (meaning (r .outcome)) ⌝ }
-{
-    Answer {
-        words: ticket.len() as u64,
-        outcome: outcome(ticket),
-    }
+pub mod product {
+    pub use products::ProductAnswer;
+    pub use products::product;
+}
+
+pub mod giant_step {
+    pub use giant_steps::GiantStepAnswer;
+    pub use giant_steps::giant_step;
 }

@@ -7,14 +7,14 @@ ghost use Rattle.definitions.specs.Answers.{said, regulatorOf};
 ghost use Rattle.definitions.specs.Listing.{listingAnswer};
 ghost use Rattle.definitions.specs.Lookup.{lookupOf, placeOf};
 ghost use Rattle.definitions.specs.Units.{unitAnswer};
-ghost use Rattle.engine.specs.Unit.{lists};
+ghost use Rattle.convergents.specs.Lists.{lists};
 ghost use Rattle.foskadoin.specs.Numbers.{Plain};
 ghost use Rattle.run.specs.Outcome.{meaning};
+use counters::Distance;
 use engine::listing::listing;
 use engine::regulator;
 use engine::unit::unit;
-use lookup::last_within;
-use lookup::listing_ok;
+use lookup::place;
 use run::Outcome;
 
 // The number of words handed in, the paper's number of the outcome and its values: found 0, R, m, c; spent 11, k, e, 0; refused j, 0, 0, 0.
@@ -105,21 +105,15 @@ pub extern "C" fn foskadoin_listing(ticket: &[u32], out: &mut [u32]) -> Numbers
     as_numbers(a.words, outcome)
 }
 
-// Where in the list the record of distance y stands: refusal 8 is the empty part at the list's start.
+// Where in the list the record with the largest distance at most y stands: refusal 8 is the empty part at the list's start.
 #[no_mangle]
 pub extern "C" fn foskadoin_lookup(list: &[u32], n: u64, y: u64) -> Part
     ensures offset { λ r. ⌜ r .offset ≡ placeOf (now (list .entry)) n y ⌝ }
     ensures length { λ r. ⌜ r .length ≡ length (lookupOf (now (list .entry)) n y) ⌝ }
 {
-    if !listing_ok(list, n) {
-        return Part {
-            offset: 0,
-            length: 0,
-        };
-    }
-    let at = last_within(list, n as usize, y);
+    let part = place(list, n, Distance(y));
     Part {
-        offset: at as u64,
-        length: n + 4,
+        offset: part.offset as u64,
+        length: part.length as u64,
     }
 }

@@ -3,28 +3,29 @@ ghost use mathlib.Core.Path.{_≡_};
 ghost use lib.ListN.{length};
 ghost use Rattle.definitions.specs.Ticket.{ticketOf};
 ghost use Rattle.definitions.specs.Products.{productAnswer, giantAnswer};
-ghost use Rattle.engine.specs.Products.{ProductSays, GiantSays, pairOf};
+ghost use Rattle.products.specs.Products.{ProductSays, pairOf};
+ghost use Rattle.giant_steps.specs.GiantSteps.{GiantSays};
 use counters::Distance;
 use engine::giant_step::giant_step;
 use engine::product::product;
 
-// The number of words handed in, the number of a refusal or 0, and the sizes of S (divisor), Q (first) and P (second): the degree + 1, or 0 for the zero polynomial.
+// The number of words handed in, the number of a refusal or 0, and the sizes of S, Q and P: the degree + 1, or 0 for the zero polynomial.
 #[repr(C)]
 pub struct ProductNumbers {
     pub words: u64,
     pub number: u64,
-    pub divisor: u64,
-    pub first: u64,
-    pub second: u64,
+    pub s_size: u64,
+    pub q_size: u64,
+    pub p_size: u64,
 }
 
-// The number of words handed in, the number of a refusal or 0, the sizes of Q (first) and P (second), f and the distance.
+// The number of words handed in, the number of a refusal or 0, the sizes of Q and P, f and the distance.
 #[repr(C)]
 pub struct GiantStepNumbers {
     pub words: u64,
     pub number: u64,
-    pub first: u64,
-    pub second: u64,
+    pub q_size: u64,
+    pub p_size: u64,
     pub f: i64,
     pub distance: i64,
 }
@@ -42,7 +43,7 @@ pub extern "C" fn foskadoin_product(
     p: &mut [u32; 129],
 ) -> ProductNumbers
     ensures words { λ r. ⌜ r .words ≡ length (now (ticket .entry)) ⌝ }
-    ensures says { λ r. ⌜ ProductSays (ticketOf (now (ticket .entry)) .q) (productAnswer (now (ticket .entry)) (pairOf (now (q1 .entry)) (now (p1 .entry))) (pairOf (now (q2 .entry)) (now (p2 .entry)))) (r .number) (now (s .exit)) (r .divisor) (now (q .exit)) (r .first) (now (p .exit)) (r .second) ⌝ }
+    ensures says { λ r. ⌜ ProductSays (ticketOf (now (ticket .entry)) .q) (productAnswer (now (ticket .entry)) (pairOf (now (q1 .entry)) (now (p1 .entry))) (pairOf (now (q2 .entry)) (now (p2 .entry)))) (r .number) (now (s .exit)) (r .«s_size») (now (q .exit)) (r .«q_size») (now (p .exit)) (r .«p_size») ⌝ }
 {
     let a = product(ticket, q1, p1, q2, p2);
     let x = a.s;
@@ -57,9 +58,9 @@ pub extern "C" fn foskadoin_product(
     ProductNumbers {
         words: a.words,
         number: a.number as u64,
-        divisor: x.size as u64,
-        first: y.size as u64,
-        second: z.size as u64,
+        s_size: x.size as u64,
+        q_size: y.size as u64,
+        p_size: z.size as u64,
     }
 }
 
@@ -77,7 +78,7 @@ pub extern "C" fn foskadoin_giant_step(
     p: &mut [u32; 129],
 ) -> GiantStepNumbers
     ensures words { λ r. ⌜ r .words ≡ length (now (ticket .entry)) ⌝ }
-    ensures says { λ r. ⌜ GiantSays (ticketOf (now (ticket .entry)) .q) (giantAnswer (now (ticket .entry)) (pairOf (now (q1 .entry)) (now (p1 .entry))) d1 (pairOf (now (q2 .entry)) (now (p2 .entry))) d2) (r .number) (now (q .exit)) (r .first) (now (p .exit)) (r .second) (r .f) (r .distance) ⌝ }
+    ensures says { λ r. ⌜ GiantSays (ticketOf (now (ticket .entry)) .q) (giantAnswer (now (ticket .entry)) (pairOf (now (q1 .entry)) (now (p1 .entry))) d1 (pairOf (now (q2 .entry)) (now (p2 .entry))) d2) (r .number) (now (q .exit)) (r .«q_size») (now (p .exit)) (r .«p_size») (r .f) (r .distance) ⌝ }
 {
     let a = giant_step(ticket, q1, p1, Distance(d1), q2, p2, Distance(d2));
     let y = a.q;
@@ -89,8 +90,8 @@ pub extern "C" fn foskadoin_giant_step(
     GiantStepNumbers {
         words: a.words,
         number: a.number as u64,
-        first: y.size as u64,
-        second: z.size as u64,
+        q_size: y.size as u64,
+        p_size: z.size as u64,
         f: a.f,
         distance: a.distance,
     }

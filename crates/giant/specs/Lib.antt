@@ -3,4 +3,3 @@ pub mod Signed
 pub mod Start
 pub mod Stepped
 pub mod Turn
-pub mod Words

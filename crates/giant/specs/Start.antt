@@ -14,7 +14,7 @@ use Rattle.polynomial.specs.Record.{poly, Held, Is}
 use Rattle.polynomial.specs.Held.{length-poly, at-poly, is-poly}
 use Rattle.polynomial.specs.Result.{Result, result}
 use Rattle.state.specs.State.{rootD}
-use Rattle.ideal.specs.Operand.{pairOf, K, M}
+use Rattle.ideal.specs.Operand.{heldPair, K, M}
 
 -- a record stands for its own polynomial
 pub held-is : {q : ℕ} {c : List ℕ} {m : ℕ} → Held q c m → Is q c m (poly c m)
@@ -35,7 +35,7 @@ pub record Start (q g : ℕ) (a : List ℕ) (i : ℕ) (d : List ℕ) (j : ℕ) (
   pub root-is : Is q d j (rootD q g (poly a i))
   pub held-q : Held q c m
   pub held-p : Held q e n
-  pub ideal : IsIdeal (K admitted) (M admitted) (poly a i) (pairOf c m e n)
+  pub ideal : IsIdeal (K admitted) (M admitted) (poly a i) (heldPair c m e n)
   pub q-most : m ≤ suc (g + g)
   pub p-most : n ≤ g + g
 
@@ -49,7 +49,7 @@ pub record Begun {q g : ℕ} {D : List ℕ} (h : Admitted q g D) (x : Ideal ℕ)
   pub q-most : length (x .q) ≤ suc (g + g)
   pub p-most : length (x .p) ≤ g + g
 
-pub begun : {q g : ℕ} {a : List ℕ} {i : ℕ} {d : List ℕ} {j : ℕ} {c : List ℕ} {m : ℕ} {e : List ℕ} {n : ℕ} (s : Start q g a i d j c m e n) → Begun (s .admitted) (pairOf c m e n)
+pub begun : {q g : ℕ} {a : List ℕ} {i : ℕ} {d : List ℕ} {j : ℕ} {c : List ℕ} {m : ℕ} {e : List ℕ} {n : ℕ} (s : Start q g a i d j c m e n) → Begun (s .admitted) (heldPair c m e n)
 begun {q} {g} {a} {i} {d} {j} {c} {m} {e} {n} s = record {
   ideal = s .ideal;
   q-trim = s .held-q .trimmed;
@@ -62,8 +62,8 @@ begun {q} {g} {a} {i} {d} {j} {c} {m} {e} {n} s = record {
 
 -- the same from records that stand for these polynomials
 module _ {q g : ℕ} {a : List ℕ} {i : ℕ} {d : List ℕ} {j : ℕ} {c : List ℕ} {m : ℕ} {e : List ℕ} {n : ℕ} (s : Start q g a i d j c m e n) {c′ : List ℕ} {m′ : ℕ} (c-is : Is q c′ m′ (poly c m)) {e′ : List ℕ} {n′ : ℕ} (e-is : Is q e′ n′ (poly e n)) where
-  pub same-pair : pairOf c′ m′ e′ n′ ≡ pairOf c m e n
+  pub same-pair : heldPair c′ m′ e′ n′ ≡ heldPair c m e n
   same-pair = ap₂ (λ (u v : List ℕ). record { q = u; p = v }) (same-poly (s .held-q) c-is) (same-poly (s .held-p) e-is)
 
-  pub begun-again : Begun (s .admitted) (pairOf c′ m′ e′ n′)
+  pub begun-again : Begun (s .admitted) (heldPair c′ m′ e′ n′)
   begun-again = subst (Begun (s .admitted)) (sym same-pair) (begun s)

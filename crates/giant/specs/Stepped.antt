@@ -23,7 +23,7 @@ use Rattle.polynomial.specs.Held.{is-poly}
 use Rattle.polynomial.specs.Result.{Result, result, held-size, result-monic}
 use Rattle.run.specs.Outcome.{ticket}
 use Rattle.state.specs.State.{rootD}
-use Rattle.ideal.specs.Operand.{pairOf, Operand, K, M, I, operand-ideal, operand-degree}
+use Rattle.ideal.specs.Operand.{heldPair, Operand, K, M, I, operand-ideal, operand-degree}
 use Rattle.ideal.specs.Product.{S-result, S-bounds}
 use Rattle.giant.specs.Start.{Start}
 use Rattle.giant.specs.Turn.{Reduces}
@@ -44,10 +44,10 @@ short h e = let w = h .short in omega arith
 
 module _ (n : ℕ) {q : ℕ} {D : List ℕ} (h : Admitted q (genus n) D) {a : List ℕ} {k : ℕ} {a′ : List ℕ} {k′ : ℕ} (t : Operand q (genus n) D a k a′ k′) {b : List ℕ} {l : ℕ} {b′ : List ℕ} {l′ : ℕ} (t′ : Operand q (genus n) D b l b′ l′) where
   abbrev x : Ideal ℕ
-  x = pairOf a k a′ k′
+  x = heldPair a k a′ k′
 
   abbrev y : Ideal ℕ
-  y = pairOf b l b′ l′
+  y = heldPair b l b′ l′
 
   abbrev r : Product ℕ
   r = productOf (modulo q) D x y
@@ -95,14 +95,14 @@ module _ (n : ℕ) {q : ℕ} {D : List ℕ} (h : Admitted q (genus n) D) {a : Li
     e-most : j ≤ genus n + genus n
     e-most = let e = Q-most in let e′ = P-most in let w = e-product .size-is in omega arith
 
-    pair-is : pairOf c m e j ≡ r .ideal
+    pair-is : heldPair c m e j ≡ r .ideal
     pair-is = ap₂ (λ (u v : List ℕ). record { q = u; p = v }) (c-result c-is .is) (e-result .is)
 
-    start-ideal : IsIdeal (K h) (M h) D (pairOf c m e j)
+    start-ideal : IsIdeal (K h) (M h) D (heldPair c m e j)
     start-ideal = subst (IsIdeal (K h) (M h) D) (sym pair-is) product-ideal
 
     -- ---- the reduced pair's records
-    module _ {s : List ℕ} {i : ℕ} (s-is : Is q s i (r .s)) {u : List ℕ} {k₁ : ℕ} {v : List ℕ} {k₂ sum : ℕ} (red : Reduces q (genus n) D (pairOf c m e j) u k₁ v k₂ sum) where
+    module _ {s : List ℕ} {i : ℕ} (s-is : Is q s i (r .s)) {u : List ℕ} {k₁ : ℕ} {v : List ℕ} {k₂ sum : ℕ} (red : Reduces q (genus n) D (heldPair c m e j) u k₁ v k₂ sum) where
       reduced : Reduces q (genus n) D (r .ideal) u k₁ v k₂ sum
       reduced = subst (λ (p : Ideal ℕ). Reduces q (genus n) D p u k₁ v k₂ sum) pair-is red
 
@@ -146,6 +146,6 @@ module _ (n : ℕ) {q : ℕ} {D : List ℕ} (h : Admitted q (genus n) D) {a : Li
 -- where the reduction starts
 pub start-of : (n : ℕ) {q : ℕ} {D : List ℕ} {i₀ : ℕ} (h : Admitted q (genus n) (poly D i₀)) → Held q D i₀ → {d : List ℕ} {j₀ : ℕ} → Is q d j₀ (rootD q (genus n) (poly D i₀))
     → {a : List ℕ} {k : ℕ} {a′ : List ℕ} {k′ : ℕ} (t : Operand q (genus n) (poly D i₀) a k a′ k′) {b : List ℕ} {l : ℕ} {b′ : List ℕ} {l′ : ℕ} (t′ : Operand q (genus n) (poly D i₀) b l b′ l′)
-    {c : List ℕ} {m : ℕ} (c-is : Is q c m (productOf (modulo q) (poly D i₀) (pairOf a k a′ k′) (pairOf b l b′ l′) .ideal .q)) {e : List ℕ} {j : ℕ} (e-is : Is q e j (productOf (modulo q) (poly D i₀) (pairOf a k a′ k′) (pairOf b l b′ l′) .ideal .p))
+    {c : List ℕ} {m : ℕ} (c-is : Is q c m (productOf (modulo q) (poly D i₀) (heldPair a k a′ k′) (heldPair b l b′ l′) .ideal .q)) {e : List ℕ} {j : ℕ} (e-is : Is q e j (productOf (modulo q) (poly D i₀) (heldPair a k a′ k′) (heldPair b l b′ l′) .ideal .p))
     → Start q (genus n) D i₀ d j₀ c m e j
 start-of n h held root t t′ c-is e-is = record { admitted = h; held-D = held; root-is = root; held-q = c-result n h t t′ c-is .held; held-p = e-result n h t t′ c-is e-is .held; ideal = start-ideal n h t t′ c-is e-is; q-most = c-most n h t t′ c-is; p-most = e-most n h t t′ c-is e-is }

@@ -22,7 +22,7 @@ use Rattle.laws.specs.ReductionSizes.{Q-trim, P-trim, Q-oks, P-oks, Q-most, P-m
 use Rattle.polynomial.specs.Record.{poly, Held, Is}
 use Rattle.polynomial.specs.Result.{Result, result}
 use Rattle.state.specs.State.{rootD}
-use Rattle.ideal.specs.Operand.{pairOf, K, M}
+use Rattle.ideal.specs.Operand.{heldPair, K, M}
 use Rattle.giant.specs.Start.{Start, Begun, root-result, same-poly, same-pair}
 
 -- the degree of each Q before is above g
@@ -50,7 +50,7 @@ pub record Reduces (q g : ℕ) (D : List ℕ) (x : Ideal ℕ) (c : List ℕ) (m 
 
 -- the first, from the start's records
 pub at-start : {q g : ℕ} {a : List ℕ} {i : ℕ} {d : List ℕ} {j : ℕ} {c : List ℕ} {m : ℕ} {e : List ℕ} {n : ℕ} (s : Start q g a i d j c m e n) {c′ : List ℕ} {m′ : ℕ} (c-is : Is q c′ m′ (poly c m)) {e′ : List ℕ} {n′ : ℕ} (e-is : Is q e′ n′ (poly e n)) {u : List ℕ} {k : ℕ}
-    → Is q u k (partial (modulo q) (poly a i) (poly d j) (pairOf c m e n)) → At q g (poly a i) (pairOf c′ m′ e′ n′) u k c′ m′ e′ n′ 0
+    → Is q u k (partial (modulo q) (poly a i) (poly d j) (heldPair c m e n)) → At q g (poly a i) (heldPair c′ m′ e′ n′) u k c′ m′ e′ n′ 0
 at-start {q} {g} {a} {i} s {c′} {m′} c-is {e′} {n′} e-is {u} {k} a-is =
     at-first (subst (Is q u k) (ap₂ (partial (modulo q) (poly a i)) (root-result (s .admitted) (s .root-is) .is) (sym (same-pair s c-is e-is))) a-is)
     (subst (Is q c′ m′) (sym (same-poly (s .held-q) c-is)) c-is)
@@ -122,23 +122,23 @@ module _ {q g : ℕ} {D : List ℕ} {h : Admitted q g D} {x : Ideal ℕ} (b : Be
     pub product-fits : k + m ≤ 130
     product-fits = let w = a-length (t .index) in let i = t .q-is .size-is in let j = t .a-is .size-is in let l = h .genus-most in omega arith
 
-    pub pair-is : pairOf c m e n ≡ pair (t .index)
+    pub pair-is : heldPair c m e n ≡ pair (t .index)
     pair-is = ap₂ (λ (u v : List ℕ). record { q = u; p = v }) (q-result .is) (p-result .is)
 
     -- ---- the step, with d as a record
     module _ {r : List ℕ} {i : ℕ} (r-is : Is q r i (rootD q g D)) where
-      pub a-path : poly u k ≡ partial (modulo q) D (poly r i) (pairOf c m e n)
+      pub a-path : poly u k ≡ partial (modulo q) D (poly r i) (heldPair c m e n)
       a-path = a-result .is ∙ ap₂ (partial (modulo q) D) (sym (root-result h r-is .is)) (sym pair-is)
 
-      next-path : next (modulo q) D (poly r i) (pairOf c m e n) ≡ pair (suc (t .index))
+      next-path : next (modulo q) D (poly r i) (heldPair c m e n) ≡ pair (suc (t .index))
       unfolding steps
       next-path = ap₂ (next (modulo q) D) (root-result h r-is .is) pair-is
 
-      pub next-short : length (nextP (modulo q) D (poly r i) (pairOf c m e n)) ≤ 65
+      pub next-short : length (nextP (modulo q) D (poly r i) (heldPair c m e n)) ≤ 65
       unfolding next
       next-short = let w = p-length (suc (t .index)) in let l = h .genus-most in subst (λ (p : Ideal ℕ). length (p .p) ≤ 65) (sym next-path) (omega arith)
 
-      module _ {u′ : List ℕ} {k′ : ℕ} (a-next : Is q u′ k′ (partial (modulo q) D (poly r i) (next (modulo q) D (poly r i) (pairOf c m e n)))) where
+      module _ {u′ : List ℕ} {k′ : ℕ} (a-next : Is q u′ k′ (partial (modulo q) D (poly r i) (next (modulo q) D (poly r i) (heldPair c m e n)))) where
         a-is-next : Is q u′ k′ (a (suc (t .index)))
         a-is-next = subst (Is q u′ k′) (ap₂ (partial (modulo q) D) (root-result h r-is .is) next-path) a-next
 
@@ -163,14 +163,14 @@ module _ {q g : ℕ} {D : List ℕ} {h : Admitted q g D} {x : Ideal ℕ} (b : Be
               let l = h .genus-most in
               omega arith
 
-          module _ {c′ : List ℕ} {m′ : ℕ} (q-next : Is q c′ m′ (next (modulo q) D (poly r i) (pairOf c m e n) .q)) where
+          module _ {c′ : List ℕ} {m′ : ℕ} (q-next : Is q c′ m′ (next (modulo q) D (poly r i) (heldPair c m e n) .q)) where
             q-is-next : Is q c′ m′ (pair (suc (t .index)) .q)
             q-is-next = subst (λ (p : Ideal ℕ). Is q c′ m′ (p .q)) next-path q-next
 
             pub size-less : m′ < m
             size-less = let w = size-falls (surd-of h) x st (t .index) (above-next (t .index) (omega arith)) in let i = q-same (t .index) in let j = q-same (suc (t .index)) in let v = t .q-is .size-is in let z = q-is-next .size-is in omega arith
 
-            pub at-next : {e′ : List ℕ} {n′ : ℕ} → Is q e′ n′ (next (modulo q) D (poly r i) (pairOf c m e n) .p) → At q g D x u′ k′ c′ m′ e′ n′ (sum + (k′ - 1))
+            pub at-next : {e′ : List ℕ} {n′ : ℕ} → Is q e′ n′ (next (modulo q) D (poly r i) (heldPair c m e n) .p) → At q g D x u′ k′ c′ m′ e′ n′ (sum + (k′ - 1))
             at-next {e′} {n′} p-next = record { index = suc (t .index); a-is = a-is-next; q-is = q-is-next; p-is = subst (λ (p : Ideal ℕ). Is q e′ n′ (p .p)) next-path p-next; sum-is = sum-next; above = above-next }
 
     -- the degrees of a and of Q_j add up to at most that of Q_0

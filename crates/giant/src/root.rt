@@ -8,13 +8,13 @@ use field::Field;
 use polynomial::Poly;
 use state::start::root;
 
-// d, monic of degree g + 1. D is `big`, of degree n.
-pub fn root_of(f: Field, n: usize, big: Poly) -> Poly
-    requires { ⌜ Admitted (f .q) (genus n) (poly (big .c) (big .size)) × Held (f .q) (big .c) (big .size) × (2 ≤ n) ⌝ }
-    ensures { λ r. ⌜ Is (f .q) (r .c) (r .size) (rootD (f .q) (genus n) (poly (big .c) (big .size))) ⌝ }
+// d, monic of degree g + 1. D is the radicand, of degree n.
+pub fn root_of(f: Field, n: usize, radicand: Poly) -> Poly
+    requires { ⌜ Admitted (f .q) (genus n) (poly (radicand .c) (radicand .size)) × Held (f .q) (radicand .c) (radicand .size) × (2 ≤ n) ⌝ }
+    ensures { λ r. ⌜ Is (f .q) (r .c) (r .size) (rootD (f .q) (genus n) (poly (radicand .c) (radicand .size))) ⌝ }
 {
     let h = n / 2;
     let mut z = [0u32; 129];
-    root(f, h, &big.c, &mut z);
+    root(f, h, &radicand.c, &mut z);
     Poly { c: z, size: h + 1 }
 }

@@ -6,7 +6,7 @@ ghost use Rattle.definitions.specs.Ticket.{genus};
 ghost use Rattle.laws.specs.Admitted.{Admitted};
 ghost use Rattle.polynomial.specs.Record.{poly, Held, Is};
 ghost use Rattle.state.specs.State.{rootD};
-ghost use Rattle.ideal.specs.Operand.{pairOf, Operand};
+ghost use Rattle.ideal.specs.Operand.{heldPair, Operand};
 ghost use Rattle.giant.specs.Stepped.{Stepped};
 use crate::Giant;
 use crate::reduce::reduce;
@@ -33,11 +33,11 @@ fn lower(q: usize, s: usize, last: usize, sum: u64) -> u64
     (q - last + s - 1) as u64 - sum
 }
 
-// The giant step of two ideals of degree at most g = n/2 − 1, with their distances. D is `big`, of degree n, and d its root.
+// The giant step of two ideals of degree at most g = n/2 − 1, with their distances. D is the radicand, of degree n, and d its root.
 pub fn giant(
     f: Field,
     n: usize,
-    big: Poly,
+    radicand: Poly,
     d: Poly,
     q1: Poly,
     p1: Poly,
@@ -46,18 +46,18 @@ pub fn giant(
     p2: Poly,
     d2: Distance,
 ) -> Giant
-    requires { ⌜ Admitted (f .q) (genus n) (poly (big .c) (big .size)) × Held (f .q) (big .c) (big .size) × (2 ≤ n) ⌝ }
-    requires { ⌜ Is (f .q) (d .c) (d .size) (rootD (f .q) (genus n) (poly (big .c) (big .size))) ⌝ }
-    requires { ⌜ Operand (f .q) (genus n) (poly (big .c) (big .size)) (q1 .c) (q1 .size) (p1 .c) (p1 .size) ⌝ }
-    requires { ⌜ Operand (f .q) (genus n) (poly (big .c) (big .size)) (q2 .c) (q2 .size) (p2 .c) (p2 .size) ⌝ }
+    requires { ⌜ Admitted (f .q) (genus n) (poly (radicand .c) (radicand .size)) × Held (f .q) (radicand .c) (radicand .size) × (2 ≤ n) ⌝ }
+    requires { ⌜ Is (f .q) (d .c) (d .size) (rootD (f .q) (genus n) (poly (radicand .c) (radicand .size))) ⌝ }
+    requires { ⌜ Operand (f .q) (genus n) (poly (radicand .c) (radicand .size)) (q1 .c) (q1 .size) (p1 .c) (p1 .size) ⌝ }
+    requires { ⌜ Operand (f .q) (genus n) (poly (radicand .c) (radicand .size)) (q2 .c) (q2 .size) (p2 .c) (p2 .size) ⌝ }
     requires { ⌜ (d1 .0 ≤ 1099511627776) × (d2 .0 ≤ 1099511627776) ⌝ }
-    ensures { λ r. ⌜ Stepped (f .q) n (poly (big .c) (big .size)) (pairOf (q1 .c) (q1 .size) (p1 .c) (p1 .size)) (d1 .0) (pairOf (q2 .c) (q2 .size) (p2 .c) (p2 .size)) (d2 .0) (r .q .c) (r .q .size) (r .p .c) (r .p .size) (r .f) (r .distance) ⌝ }
+    ensures { λ r. ⌜ Stepped (f .q) n (poly (radicand .c) (radicand .size)) (heldPair (q1 .c) (q1 .size) (p1 .c) (p1 .size)) (d1 .0) (heldPair (q2 .c) (q2 .size) (p2 .c) (p2 .size)) (d2 .0) (r .q .c) (r .q .size) (r .p .c) (r .p .size) (r .f) (r .distance) ⌝ }
 {
-    let m = product(f, n, big, q1, p1, q2, p2);
+    let m = product(f, n, radicand, q1, p1, q2, p2);
     let s = m.s;
     let q = m.q;
     let p = m.p;
-    let r = reduce(f, n, big, d, q, p);
+    let r = reduce(f, n, radicand, d, q, p);
     let x = r.q;
     let y = r.p;
     let less = lower(q.size, s.size, x.size, r.sum);

@@ -13,7 +13,7 @@ use Rattle.polynomial.specs.Record.{poly, Held, Is}
 use Rattle.polynomial.specs.Held.{held-positive}
 use Rattle.polynomial.specs.Result.{Result, result-add}
 use Rattle.polynomial.specs.Bezout.{result-u, result-factor-gcd}
-use Rattle.ideal.specs.Operand.{pairOf}
+use Rattle.ideal.specs.Operand.{heldPair}
 use Rattle.ideal.specs.Sizes.{size-add, size-u}
 
 -- the records of Q_1, P_1, Q_2 and P_2
@@ -29,10 +29,10 @@ module _ {q : ℕ} (p : Prime q) {a : List ℕ} {k : ℕ} (ha : Held q a k) {a�
     pub sum-result : Result q t n (add (modulo q) (poly a′ k′) (poly b′ l′))
     sum-result = result-add q a′ k′ ha′ t n b′ l′ hb′ t-is
 
-    pub S-is : {s : List ℕ} {i : ℕ} → Is q s i (bezout (modulo q) (poly g m) (poly t n) .gcd) → Is q s i (commonOf (modulo q) (pairOf a k a′ k′) (pairOf b l b′ l′))
+    pub S-is : {s : List ℕ} {i : ℕ} → Is q s i (bezout (modulo q) (poly g m) (poly t n) .gcd) → Is q s i (commonOf (modulo q) (heldPair a k a′ k′) (heldPair b l b′ l′))
     S-is {s} {i} h = subst (Is q s i) (bezout-gcd (model q pos) (inverts q pos p) (poly g m) (poly t n) ∙ ap₂ (gcd (modulo q)) (gcd-result .is) (sum-result .is)) h
 
-    pub W-is : {s : List ℕ} {i : ℕ} → Is q s i (bezout (modulo q) (poly g m) (poly t n) .v) → Is q s i (bezoutW (modulo q) (pairOf a k a′ k′) (pairOf b l b′ l′))
+    pub W-is : {s : List ℕ} {i : ℕ} → Is q s i (bezout (modulo q) (poly g m) (poly t n) .v) → Is q s i (bezoutW (modulo q) (heldPair a k a′ k′) (heldPair b l b′ l′))
     W-is {s} {i} h = subst (Is q s i) (ap₂ (λ (G T : List ℕ). bezout (modulo q) G T .v) (gcd-result .is) (sum-result .is)) h
 
     -- the factors of U
@@ -50,5 +50,5 @@ module _ {q : ℕ} (p : Prime q) {a : List ℕ} {k : ℕ} (ha : Held q a k) {a�
           let v = size-u ha hb p 64 (omega arith) h y-is in
           omega arith
 
-      pub U-is : {s : List ℕ} {o : ℕ} → Is q s o (mul (modulo q) (poly x i) (poly y j)) → Is q s o (bezoutU (modulo q) (pairOf a k a′ k′) (pairOf b l b′ l′))
+      pub U-is : {s : List ℕ} {o : ℕ} → Is q s o (mul (modulo q) (poly x i) (poly y j)) → Is q s o (bezoutU (modulo q) (heldPair a k a′ k′) (heldPair b l b′ l′))
       U-is {s} {o} h = subst (Is q s o) (ap₂ (mul (modulo q)) (second-result .is ∙ ap₂ (λ (G T : List ℕ). bezout (modulo q) G T .u) (gcd-result .is) (sum-result .is)) (first-result .is)) h

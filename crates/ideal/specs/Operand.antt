@@ -21,8 +21,8 @@ use Rattle.polynomial.specs.Record.{poly, Held, Is}
 use Rattle.polynomial.specs.Result.{Result, result, held-size}
 
 -- the pair of two records
-abbrev pub pairOf : List ℕ → ℕ → List ℕ → ℕ → Ideal ℕ
-pairOf c m e n = record { q = poly c m; p = poly e n }
+abbrev pub heldPair : List ℕ → ℕ → List ℕ → ℕ → Ideal ℕ
+heldPair c m e n = record { q = poly c m; p = poly e n }
 
 pub record Operand (q g : ℕ) (D c : List ℕ) (m : ℕ) (e : List ℕ) (n : ℕ) : Type 0 where
   pub pair : Ideal ℕ
@@ -53,13 +53,13 @@ module _ {q g : ℕ} {D : List ℕ} (h : Admitted q g D) where
     pub operand-p : Held q e n
     operand-p = p-result .held
 
-    operand-pair : pairOf c m e n ≡ trimmed K M I D (t .pair)
+    operand-pair : heldPair c m e n ≡ trimmed K M I D (t .pair)
     operand-pair = ap₂ (λ (a b : List ℕ). record { q = a; p = b }) (q-result .is) (p-result .is)
 
-    pub operand-same : SamePair K M I D (pairOf c m e n) (t .pair)
+    pub operand-same : SamePair K M I D (heldPair c m e n) (t .pair)
     operand-same = subst (λ (x : Ideal ℕ). SamePair K M I D x (t .pair)) (sym operand-pair) (trimmed-same K M I D (t .pair))
 
-    pub operand-ideal : IsIdeal K M D (pairOf c m e n)
+    pub operand-ideal : IsIdeal K M D (heldPair c m e n)
     operand-ideal = ideal-cong K M I D (record { q = sym (operand-same .q); p = sym (operand-same .p) }) (pair-ideal h (t .passes))
 
     pub operand-q-size : m ≤ suc g

@@ -18,7 +18,7 @@ use Rattle.laws.specs.Product.{commonOf, productQ, bracket, bezoutU, bezoutW, p
 use Rattle.laws.specs.ProductSizes.{cofactor-length, common-length, W-length, U-length, Q-length, bracket-length}
 use Rattle.polynomial.specs.Record.{poly, Is}
 use Rattle.polynomial.specs.Result.{Result, result}
-use Rattle.ideal.specs.Operand.{pairOf, Operand, K, M, I, operand-ideal, operand-degree}
+use Rattle.ideal.specs.Operand.{heldPair, Operand, K, M, I, operand-ideal, operand-degree}
 
 -- the records stand for S, Q and P of the product
 pub record Multiplied (q : ℕ) (D : List ℕ) (x y : Ideal ℕ) (s : List ℕ) (i : ℕ) (c : List ℕ) (m : ℕ) (e : List ℕ) (j : ℕ) : Type 0 where
@@ -28,10 +28,10 @@ pub record Multiplied (q : ℕ) (D : List ℕ) (x y : Ideal ℕ) (s : List ℕ) 
 
 module _ {q g : ℕ} {D : List ℕ} (h : Admitted q g D) {a : List ℕ} {k : ℕ} {a′ : List ℕ} {k′ : ℕ} (t : Operand q g D a k a′ k′) {b : List ℕ} {l : ℕ} {b′ : List ℕ} {l′ : ℕ} (t′ : Operand q g D b l b′ l′) where
   abbrev x : Ideal ℕ
-  x = pairOf a k a′ k′
+  x = heldPair a k a′ k′
 
   abbrev y : Ideal ℕ
-  y = pairOf b l b′ l′
+  y = heldPair b l b′ l′
 
   abbrev U : List ℕ
   U = bezoutU (modulo q) x y

@@ -1,6 +1,5 @@
-// Pairs (Q, P) of polynomials that are ideals: the test of refusal 9, and the product of two of them.
+// Pairs (Q, P) of polynomials that are ideals, and the product of two of them.
 pub mod multiply;
-pub mod operand;
 
 use polynomial::Poly;
 
@@ -14,13 +13,6 @@ pub struct Multipliers {
 // S, and the pair (Q, P).
 pub struct Product {
     pub s: Poly,
-    pub q: Poly,
-    pub p: Poly,
-}
-
-// A pair (Q, P) that was handed in: whether it is an ideal as refusal 9 asks, and its polynomials, 0 where it is not.
-pub struct Pair {
-    pub ok: bool,
     pub q: Poly,
     pub p: Poly,
 }

@@ -8,7 +8,7 @@ ghost use Rattle.laws.specs.Admitted.{Admitted};
 ghost use Rattle.laws.specs.Pairs.{normAt, cofactorAt};
 ghost use Rattle.laws.specs.Product.{commonOf, bezoutU, bezoutW};
 ghost use Rattle.polynomial.specs.Record.{poly, Held, Is};
-ghost use Rattle.ideal.specs.Operand.{pairOf, Operand};
+ghost use Rattle.ideal.specs.Operand.{heldPair, Operand};
 ghost use Rattle.ideal.specs.Product.{Multiplied};
 use crate::Multipliers;
 use crate::Product;
@@ -26,9 +26,9 @@ pub fn multipliers(f: Field, q1: Poly, p1: Poly, q2: Poly, p2: Poly) -> Multipli
     requires { ⌜ Prime (f .q) × (f .q < 4096) × (q2 .size ≤ 64) × (p1 .size ≤ 64) × (p2 .size ≤ 64) ⌝ }
     requires { ⌜ Held (f .q) (q1 .c) (q1 .size) × Held (f .q) (p1 .c) (p1 .size) ⌝ }
     requires { ⌜ Held (f .q) (q2 .c) (q2 .size) × Held (f .q) (p2 .c) (p2 .size) ⌝ }
-    ensures { λ r. ⌜ Is (f .q) (r .s .c) (r .s .size) (commonOf (modulo (f .q)) (pairOf (q1 .c) (q1 .size) (p1 .c) (p1 .size)) (pairOf (q2 .c) (q2 .size) (p2 .c) (p2 .size))) ⌝ }
-    ensures { λ r. ⌜ Is (f .q) (r .u .c) (r .u .size) (bezoutU (modulo (f .q)) (pairOf (q1 .c) (q1 .size) (p1 .c) (p1 .size)) (pairOf (q2 .c) (q2 .size) (p2 .c) (p2 .size))) ⌝ }
-    ensures { λ r. ⌜ Is (f .q) (r .w .c) (r .w .size) (bezoutW (modulo (f .q)) (pairOf (q1 .c) (q1 .size) (p1 .c) (p1 .size)) (pairOf (q2 .c) (q2 .size) (p2 .c) (p2 .size))) ⌝ }
+    ensures { λ r. ⌜ Is (f .q) (r .s .c) (r .s .size) (commonOf (modulo (f .q)) (heldPair (q1 .c) (q1 .size) (p1 .c) (p1 .size)) (heldPair (q2 .c) (q2 .size) (p2 .c) (p2 .size))) ⌝ }
+    ensures { λ r. ⌜ Is (f .q) (r .u .c) (r .u .size) (bezoutU (modulo (f .q)) (heldPair (q1 .c) (q1 .size) (p1 .c) (p1 .size)) (heldPair (q2 .c) (q2 .size) (p2 .c) (p2 .size))) ⌝ }
+    ensures { λ r. ⌜ Is (f .q) (r .w .c) (r .w .size) (bezoutW (modulo (f .q)) (heldPair (q1 .c) (q1 .size) (p1 .c) (p1 .size)) (heldPair (q2 .c) (q2 .size) (p2 .c) (p2 .size))) ⌝ }
 {
     let b = bezout(f, q1, q2);
     let t = add(f, p1, p2);
@@ -55,14 +55,14 @@ pub fn norm(f: Field, q1: Poly, q2: Poly, s: Poly) -> Poly
 }
 
 // D − P² divided by Q.
-pub fn cofactor(f: Field, big: Poly, q: Poly, p: Poly) -> Split
+pub fn cofactor(f: Field, radicand: Poly, q: Poly, p: Poly) -> Split
     requires { ⌜ Prime (f .q) × (f .q < 4096) × (p .size ≤ 65) ⌝ }
-    requires { ⌜ Held (f .q) (big .c) (big .size) × Held (f .q) (q .c) (q .size) × Held (f .q) (p .c) (p .size) ⌝ }
-    ensures { λ r. ⌜ Is (f .q) (r .quo .c) (r .quo .size) (cofactorAt (modulo (f .q)) (poly (big .c) (big .size)) (pairOf (q .c) (q .size) (p .c) (p .size))) ⌝ }
-    ensures { λ r. ⌜ Is (f .q) (r .rem .c) (r .rem .size) (remOf (modulo (f .q)) (normAt (modulo (f .q)) (poly (big .c) (big .size)) (pairOf (q .c) (q .size) (p .c) (p .size))) (poly (q .c) (q .size))) ⌝ }
+    requires { ⌜ Held (f .q) (radicand .c) (radicand .size) × Held (f .q) (q .c) (q .size) × Held (f .q) (p .c) (p .size) ⌝ }
+    ensures { λ r. ⌜ Is (f .q) (r .quo .c) (r .quo .size) (cofactorAt (modulo (f .q)) (poly (radicand .c) (radicand .size)) (heldPair (q .c) (q .size) (p .c) (p .size))) ⌝ }
+    ensures { λ r. ⌜ Is (f .q) (r .rem .c) (r .rem .size) (remOf (modulo (f .q)) (normAt (modulo (f .q)) (poly (radicand .c) (radicand .size)) (heldPair (q .c) (q .size) (p .c) (p .size))) (poly (q .c) (q .size))) ⌝ }
 {
     let square = mul(f, p, p);
-    let n = sub(f, big, square);
+    let n = sub(f, radicand, square);
     div_rem(f, n, q)
 }
 
@@ -94,17 +94,25 @@ fn residue(f: Field, q1: Poly, p1: Poly, s: Poly, b: Poly, q: Poly) -> Poly
     r.rem
 }
 
-// The product of two ideals of degree at most g = n/2 − 1. D is `big`, of degree n.
-pub fn product(f: Field, n: usize, big: Poly, q1: Poly, p1: Poly, q2: Poly, p2: Poly) -> Product
-    requires { ⌜ Admitted (f .q) (genus n) (poly (big .c) (big .size)) × Held (f .q) (big .c) (big .size) ⌝ }
-    requires { ⌜ Operand (f .q) (genus n) (poly (big .c) (big .size)) (q1 .c) (q1 .size) (p1 .c) (p1 .size) ⌝ }
-    requires { ⌜ Operand (f .q) (genus n) (poly (big .c) (big .size)) (q2 .c) (q2 .size) (p2 .c) (p2 .size) ⌝ }
-    ensures { λ r. ⌜ Multiplied (f .q) (poly (big .c) (big .size)) (pairOf (q1 .c) (q1 .size) (p1 .c) (p1 .size)) (pairOf (q2 .c) (q2 .size) (p2 .c) (p2 .size)) (r .s .c) (r .s .size) (r .q .c) (r .q .size) (r .p .c) (r .p .size) ⌝ }
+// The product of two ideals of degree at most g = n/2 − 1. D is the radicand, of degree n.
+pub fn product(
+    f: Field,
+    n: usize,
+    radicand: Poly,
+    q1: Poly,
+    p1: Poly,
+    q2: Poly,
+    p2: Poly,
+) -> Product
+    requires { ⌜ Admitted (f .q) (genus n) (poly (radicand .c) (radicand .size)) × Held (f .q) (radicand .c) (radicand .size) ⌝ }
+    requires { ⌜ Operand (f .q) (genus n) (poly (radicand .c) (radicand .size)) (q1 .c) (q1 .size) (p1 .c) (p1 .size) ⌝ }
+    requires { ⌜ Operand (f .q) (genus n) (poly (radicand .c) (radicand .size)) (q2 .c) (q2 .size) (p2 .c) (p2 .size) ⌝ }
+    ensures { λ r. ⌜ Multiplied (f .q) (poly (radicand .c) (radicand .size)) (heldPair (q1 .c) (q1 .size) (p1 .c) (p1 .size)) (heldPair (q2 .c) (q2 .size) (p2 .c) (p2 .size)) (r .s .c) (r .s .size) (r .q .c) (r .q .size) (r .p .c) (r .p .size) ⌝ }
 {
     let m = multipliers(f, q1, p1, q2, p2);
     let s = m.s;
     let q = norm(f, q1, q2, s);
-    let k = cofactor(f, big, q1, p1);
+    let k = cofactor(f, radicand, q1, p1);
     let u = m.u;
     let w = m.w;
     let c = k.quo;

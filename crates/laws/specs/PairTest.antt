@@ -22,9 +22,10 @@ use Rattle.bridge.specs.Residues.{pos, model, field}
 use Rattle.laws.specs.Admitted.{Admitted, below-of}
 use Rattle.laws.specs.Pairs.{IsIdeal, normAt}
 
-both : (s t : Bool) → (s && t) ≡ true → (s ≡ true) × (t ≡ true)
-both true t e = (refl, e)
-both false t e = absurd (let z : _≡_ {A = ℕ} 0 1 = cc in omega arith)
+-- both of two tests
+pub both-true : (s t : Bool) → (s && t) ≡ true → (s ≡ true) × (t ≡ true)
+both-true true t e = (refl, e)
+both-true false t e = absurd (let z : _≡_ {A = ℕ} 0 1 = cc in omega arith)
 
 pub record Passes (q g : ℕ) (D : List ℕ) (x : Ideal ℕ) : Type 0 where
   pub q-length : length (x .q) ≡ suc g
@@ -38,12 +39,12 @@ pub record Passes (q g : ℕ) (D : List ℕ) (x : Ideal ℕ) : Type 0 where
 pub pair-passes : (t : Ticket) (x : Ideal ℕ) → isPair t x ≡ true → Passes (t .q) (genus (t .n)) (t .D) x
 unfolding isPair
 pair-passes t x e =
-    let a = both _ _ e in
-    let b = both _ _ (a .0) in
-    let c = both _ _ (b .0) in
-    let d = both _ _ (c .0) in
-    let f = both _ _ (d .0) in
-    let g = both _ _ (f .0) in
+    let a = both-true _ _ e in
+    let b = both-true _ _ (a .0) in
+    let c = both-true _ _ (b .0) in
+    let d = both-true _ _ (c .0) in
+    let f = both-true _ _ (d .0) in
+    let g = both-true _ _ (f .0) in
     record {
       q-length = eqb-true _ _ (g .0);
       p-length = eqb-true _ _ (g .1);

@@ -3,3 +3,4 @@ pub mod Records
 pub mod Passes
 pub mod Search
 pub mod Refusal
+pub mod Part

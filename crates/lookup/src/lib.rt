@@ -2,7 +2,6 @@
 use counters::Distance;
 ghost use mathlib.Core.Path.{_≡_};
 ghost use mathlib.Core.Bool.{true, false, not};
-ghost use mathlib.Core.List.{[]};
 ghost use Prim.Native.Nat.{_+_, _*_, _-_, _<_, _≤_};
 ghost use lib.Dec.{eqb};
 ghost use lib.ListN.{length, getD};
@@ -102,7 +101,7 @@ fn rising(list: &[u32], n: usize) -> bool
 }
 
 // Whether the list is one or more whole records of degree n, from distance 0 on and rising.
-pub fn listing_ok(list: &[u32], n: u64) -> bool
+fn listing_ok(list: &[u32], n: u64) -> bool
     ensures { λ r. ⌜ r ≡ not (wrongListing (now (list .entry)) n) ⌝ }
 {
     if !degree_ok(n) {
@@ -125,7 +124,7 @@ pub fn listing_ok(list: &[u32], n: u64) -> bool
 }
 
 // Where the last record with distance at most y starts, in words: from the end down, to the first record at 0.
-pub fn last_within(list: &[u32], n: usize, y: u64) -> usize
+fn last_within(list: &[u32], n: usize, y: u64) -> usize
     requires { ⌜ Records (now list) n ⌝ }
     ensures { λ r. ⌜ r ≡ lastWithin (now (list .entry)) n y (recordCount (now (list .entry)) n - 1) * (n + 4) ⌝ }
 {
@@ -139,28 +138,37 @@ pub fn last_within(list: &[u32], n: usize, y: u64) -> usize
     0
 }
 
-// The empty part of a list before its word at.
-fn empty_part<'a>(list: &'a [u32], at: usize) -> &'a [u32]
-    requires { ⌜ at ≤ length (now list) ⌝ }
-    ensures content { λ r. ⌜ now r ≡ [] ⌝ }
-    ensures block { λ r. ⌜ r .ptr .0 ≡ list .entry .ptr .0 ⌝ }
-    ensures place { λ r. ⌜ r .ptr .1 ≡ list .entry .ptr .1 + 4 * at ⌝ }
-{
-    &list[at..at]
+// A part of a list: how many words stand before it, and how many it has.
+pub struct Part {
+    pub offset: usize,
+    pub length: usize,
 }
 
-// The record of the listing with the largest distance at most y, as a part of the list itself.
-// Refusal 8 is the empty part at the list's start; the list is the listing's words alone, with nothing after them.
+// Where the record of the listing with the largest distance at most y stands. Refusal 8 is the empty part at the list's start.
+pub fn place(list: &[u32], n: u64, y: Distance) -> Part
+    ensures offset { λ r. ⌜ r .offset ≡ placeOf (now (list .entry)) n (y .0) ⌝ }
+    ensures length { λ r. ⌜ r .length ≡ length (lookupOf (now (list .entry)) n (y .0)) ⌝ }
+{
+    if !listing_ok(list, n) {
+        return Part {
+            offset: 0,
+            length: 0,
+        };
+    }
+    let degree = n as usize;
+    let offset = last_within(list, degree, y.0);
+    let length = degree + 4;
+    Part { offset, length }
+}
+
+// The record itself, as a part of the caller's list; the list is the listing's words alone, with nothing after them.
 pub fn lookup<'a>(list: &'a [u32], n: u64, y: Distance) -> &'a [u32]
     ensures content { λ r. ⌜ now r ≡ lookupOf (now (list .entry)) n (y .0) ⌝ }
     ensures block { λ r. ⌜ r .ptr .0 ≡ list .entry .ptr .0 ⌝ }
     ensures place { λ r. ⌜ r .ptr .1 ≡ list .entry .ptr .1 + 4 * placeOf (now (list .entry)) n (y .0) ⌝ }
 {
-    if !listing_ok(list, n) {
-        return empty_part(list, 0);
-    }
-    let degree = n as usize;
-    let at = last_within(list, degree, y.0);
-    let end = at + degree + 4;
+    let part = place(list, n, y);
+    let at = part.offset;
+    let end = at + part.length;
     &list[at..end]
 }

@@ -2,15 +2,13 @@
 use Prim.Native.Nat.{ℕ, min, zero, suc, _+_, _*_, _-_, _≤_, _<_}
 use native.Mathlib.Omega.{arith}
 use mathlib.Core.Path.{_≡_, refl, sym, subst}
-use mathlib.Core.Bool.{Bool, true, false}
-use mathlib.Core.List.{List, _++_}
-use lib.Dec.{leb}
+use mathlib.Core.List.{List}
 use lib.ListN.{length, getD, take, drop, length-map, length-take, length-drop}
-use borrow.Author.Tests.{leb-true}
 use Rattle.definitions.specs.Words.{value}
 use Rattle.definitions.specs.Ticket.{Ticket, genus, ticketOf, refusalOf}
 use Rattle.definitions.specs.Answers.{Outcome, found, spent, refused, said, said-injective, outcomeOf, wordsOutcome}
-use Rattle.definitions.specs.Listing.{ListingAnswer, listingOf, listingFrom, listingAnswer}
+use Rattle.definitions.specs.Listing.{listingFrom, listingAnswer}
+use Rattle.listings.specs.Listing.{room-cases}
 use Rattle.laws.specs.Admitted.{passed, admitted, degree-of}
 
 pub record Fits (w l : List ℕ) (m : ℕ) : Type 0 where
@@ -26,20 +24,13 @@ module _ (R m c : ℕ) where
   not-spent : (k e : ℕ) → said (found R m c) ≡ said (spent k e) → ⊥
   not-spent k e h = let g = said-injective (found R m c) (spent k e) h in let z : _≡_ {A = ℕ} 0 1 = cc in omega arith
 
-  abbrev answer : (t : Ticket) (R′ m′ c′ : ℕ) (l : List ℕ) → Bool → ListingAnswer
-  answer t R′ m′ c′ l x =
-      elim x [
-        | true ↦ record { says = said (found R′ m′ c′); list = listingOf t R′ m′ ++ drop (m′ * (t .n + 4)) l }
-        | false ↦ record { says = said (refused 13); list = l }
-      ]
-
   room-of : (t : Ticket) (x : Outcome) (l : List ℕ) → said (found R m c) ≡ listingFrom t x l .says → m * (t .n + 4) ≤ length l
   unfolding listingFrom
-  room-of t (found R′ m′ c′) l e = go (leb (m′ * (t .n + 4)) (length l)) refl e
-    where
-      go : (x : Bool) → leb (m′ * (t .n + 4)) (length l) ≡ x → said (found R m c) ≡ answer t R′ m′ c′ l x .says → m * (t .n + 4) ≤ length l
-      go true k e = let h : found R m c ≡ found R′ m′ c′ = said-injective _ _ e in let i : m′ ≡ m = cc in subst (λ (j : ℕ). j * (t .n + 4) ≤ length l) i (leb-true (m′ * (t .n + 4)) (length l) k)
-      go false k e = absurd (not-refused 13 e)
+  room-of t (found R′ m′ c′) l e =
+      room-cases (λ a. said (found R m c) ≡ a .says → m * (t .n + 4) ≤ length l) t R′ m′ c′ l
+      (λ k f. let h : found R m c ≡ found R′ m′ c′ = said-injective _ _ f in let i : m′ ≡ m = cc in subst (λ (j : ℕ). j * (t .n + 4) ≤ length l) i k)
+      (λ k f. absurd (not-refused 13 f))
+      e
   room-of t (spent k d) l e = absurd (not-spent k d e)
   room-of t (refused j) l e = absurd (not-refused j e)
 

@@ -1,57 +1,91 @@
--- Bytes printed into a buffer one after the other: what stands before a place is kept, and the place after the bytes is handed on.
+-- Bytes printed into a buffer one after the other: all else in it is kept, and the place after the bytes is handed on.
 use Prim.Native.Nat.{ℕ, zero, suc, _+_, _-_, _*_, _≤_}
 use native.Mathlib.Omega.{arith}
 use native.Mathlib.Numerals.{add-one}
 use native.Mathlib.Nat.{zero-add, suc-add, add-suc, add-zero}
 use mathlib.Core.Path.{_≡_, sym, ap, _∙_, subst}
 use mathlib.Core.List.{List, [], _∷_, _++_, map, append-assoc, append-nil}
-use lib.ListN.{length, take, drop, length-append, length-drop}
-use lib.Seq.{length-take-le, take-append-add, take-append-le}
+use lib.ListN.{length, take, drop, length-append, length-drop, take-append-drop}
+use lib.Seq.{length-take-le, drop-append-le, drop-drop, sets-eq}
 use Rattle.definitions.specs.Words.{value}
 use Rattle.definitions.specs.Text.{decimal, spaced}
 use Rattle.definitions.specs.Lookup.{recordAt}
-use Rattle.definitions.specs.Program.{recordLine, recordLines}
+use Rattle.definitions.specs.Program.{recordLine, recordLines, programOf}
 use Rattle.text.specs.Lines.{digits-value, headBytes, length-head, record-line}
-use Rattle.text.specs.Writing.{Line, line-part, line-fits}
+use Rattle.text.specs.Writing.{Put, Line, line-fits, put-none, put-then, put-length, sets-start}
 
+-- `bytes` are written from `at` on, `next` is the place after them, and there is room for them
 pub record Printed (before : List ℕ) (at : ℕ) (after : List ℕ) (next : ℕ) (bytes : List ℕ) : Type 0 where
-  pub content : take next after ≡ take at before ++ bytes
-  pub within : next ≤ length after
+  pub put : Put before after at next bytes
+  pub within : next ≤ length before
 
 pub printed-none : (l : List ℕ) (at : ℕ) → at ≤ length l → Printed l at l at []
-printed-none l at h = record { content = sym (append-nil (take at l)); within = h }
+printed-none l at h = record { put = put-none l at; within = h }
 
 pub printed-then : {a b c : List ℕ} {i j k : ℕ} {x y : List ℕ} → Printed a i b j x → Printed b j c k y → Printed a i c k (x ++ y)
-printed-then {a} {b} {c} {i} {j} {k} {x} {y} p q = record { content = q .content ∙ ap (λ (l : List ℕ). l ++ y) (p .content) ∙ append-assoc (take i a) x y; within = q .within }
+printed-then {a} {b} {c} {i} {j} {k} {x} {y} p q = record { put = put-then (p .put) (q .put); within = let h : length b ≡ length a = put-length (p .put) in let g : k ≤ length b = q .within in omega arith }
 
 pub printed-same : {a b : List ℕ} {i j : ℕ} {x y : List ℕ} → x ≡ y → Printed a i b j x → Printed a i b j y
 printed-same {a} {b} {i} {j} e p = subst (Printed a i b j) e p
 
 -- a line at the start
-pub printed-line : {a b : List ℕ} {j : ℕ} {x : List ℕ} → Line a b j x → Printed a 0 b j x
-printed-line h = record { content = line-part h; within = line-fits h }
+pub printed-line : {a b : List ℕ} {j : ℕ} {x : List ℕ} → length b ≡ length a → Line a b j x → Printed a 0 b j x
+printed-line {a} {b} {j} {x} e p =
+    let s : j ≡ length x = p .size in
+    let f : j ≤ length b = line-fits p in
+    record { put = record { written = p .content ∙ sym (sets-start a x (omega arith)); end = s ∙ sym (zero-add (length x)) }; within = omega arith }
 
--- a line in the part from `at` on
-pub printed-part : (a : List ℕ) (at : ℕ) (b post : List ℕ) {d : List ℕ} {j : ℕ} {x : List ℕ} → at ≤ length a → Line d b j x → Printed a at (take at a ++ (b ++ post)) (at + j) x
-printed-part a at b post {d} {j} {x} h p = record {
-  content = ap (λ (k : ℕ). take (k + j) (take at a ++ (b ++ post))) (sym len) ∙ take-append-add (take at a) (b ++ post) j ∙ ap (λ (l : List ℕ). take at a ++ l) (take-append-le j b post (line-fits p) ∙ line-part p);
-  within =
-      let m = len in
-      let f : j ≤ length b = line-fits p in
-      let s : length (take at a ++ (b ++ post)) ≡ length (take at a) + length (b ++ post) = length-append (take at a) (b ++ post) in
-      let t : length (b ++ post) ≡ length b + length post = length-append b post in
-      omega arith;
-}
-  where
-    len : length (take at a) ≡ at
-    len = length-take-le at a h
+-- how a whole print is read: its bytes, and then what was there
+pub printed-whole : {a b : List ℕ} {j : ℕ} {x : List ℕ} → Printed a 0 b j x → (j ≡ length x) × (b ≡ x ++ drop j a)
+printed-whole {a} {b} {j} {x} p =
+    let e : j ≡ length x = p .put .end ∙ zero-add (length x) in
+    let f : j ≤ length a = p .within in
+    (e, p .put .written ∙ sets-start a x (omega arith) ∙ ap (λ (k : ℕ). x ++ drop k a) (sym e))
+
+-- what the program prints lies within the buffer
+pub program-within : (input a : List ℕ) {b : List ℕ} {j : ℕ} → j ≡ length (programOf input) → b ≡ programOf input ++ drop j a → j ≤ length b
+program-within input a {b} {j} e f = let g : length b ≡ length (programOf input ++ drop j a) = ap length f in let h : length (programOf input ++ drop j a) ≡ length (programOf input) + length (drop j a) = length-append (programOf input) (drop j a) in omega arith
+
+-- a part that begins with x, put back before what stands after the part
+part-kept : (x e : List ℕ) (size : ℕ) → length x ≤ size → size ≤ length e → (x ++ drop (length x) (take size e)) ++ drop size e ≡ x ++ drop (length x) e
+part-kept x e size h k =
+    append-assoc x (drop (length x) (take size e)) (drop size e)
+    ∙ ap (λ (l : List ℕ). x ++ l) (sym (drop-append-le (length x) (take size e) (drop size e) (let m : length (take size e) ≡ size = length-take-le size e k in omega arith)) ∙ ap (λ (l : List ℕ). drop (length x) l) (take-append-drop size e))
+
+-- a line in the part of some size from `at` on
+pub printed-part : (a : List ℕ) (at size : ℕ) (b : List ℕ) {j : ℕ} {x : List ℕ} → at + size ≤ length a → length x ≤ size → Line (take size (drop at a)) b j x → Printed a at (take at a ++ (b ++ drop size (drop at a))) (at + j) x
+printed-part a at size b {j} {x} h k p =
+    let s : j ≡ length x = p .size in
+    let d : length (drop at a) ≡ length a - at = length-drop at a in
+    let e : b ++ drop size (drop at a) ≡ x ++ drop (at + length x) a =
+    ap (λ (l : List ℕ). l ++ drop size (drop at a)) (p .content)
+    ∙ part-kept x (drop at a) size k (omega arith)
+    ∙ ap (λ (l : List ℕ). x ++ l) (drop-drop (length x) at a) in
+    record {
+      put = record {
+        written = ap (λ (l : List ℕ). take at a ++ l) e ∙ sym (append-assoc (take at a) x (drop (at + length x) a)) ∙ sym (sets-eq x a at (omega arith));
+        end = ap (λ (i : ℕ). at + i) s;
+      };
+      within = omega arith;
+    }
 
 -- what is printed into a part at the start
-pub printed-prefix : (a b post : List ℕ) {d : List ℕ} {j : ℕ} {x : List ℕ} → Printed d 0 b j x → Printed a 0 (b ++ post) j x
-printed-prefix a b post {d} {j} {x} p = record {
-  content = take-append-le j b post (p .within) ∙ p .content;
-  within = let f : j ≤ length b = p .within in let s : length (b ++ post) ≡ length b + length post = length-append b post in omega arith;
-}
+pub printed-prefix : (a : List ℕ) (size : ℕ) (b : List ℕ) {j : ℕ} {x : List ℕ} → size ≤ length a → Printed (take size a) 0 b j x → Printed a 0 (b ++ drop size a) j x
+printed-prefix a size b {j} {x} h p =
+    let w = printed-whole p in
+    let s : j ≡ length x = w .0 in
+    let m : length (take size a) ≡ size = length-take-le size a h in
+    let f : j ≤ length (take size a) = p .within in
+    record {
+      put = record {
+        written =
+            ap (λ (l : List ℕ). l ++ drop size a) (w .1 ∙ ap (λ (i : ℕ). x ++ drop i (take size a)) s)
+            ∙ part-kept x a size (omega arith) h
+            ∙ sym (sets-start a x (omega arith));
+        end = p .put .end;
+      };
+      within = omega arith;
+    }
 
 -- a record's line has at most ten bytes for each of its words
 values-length : (l : List ℕ) → length (spaced (map value l)) ≤ 10 * length l

@@ -1,16 +1,15 @@
 -- The numbers of refusals: none is 0 or 11, by which the first line tells what is found or spent.
-use Prim.Native.Nat.{ℕ, zero, suc, _+_, _*_}
+use Prim.Native.Nat.{ℕ, zero, suc}
 use native.Mathlib.Omega.{arith}
 use mathlib.Core.Path.{_≡_, sym, subst}
 use mathlib.Core.Bool.{Bool, true, false}
-use mathlib.Core.List.{List, [], _∷_, _++_}
+use mathlib.Core.List.{List, [], _∷_}
 use mathlib.Core.Option.{Option, none, some}
-use lib.Dec.{leb}
-use lib.ListN.{length, drop}
 use Rattle.definitions.specs.Ticket.{Ticket, ticketOf, refusalOf, firstOf, testsOf}
 use Rattle.definitions.specs.Walk.{quasiPeriod, degreeBefore, constantOf}
 use Rattle.definitions.specs.Answers.{Outcome, found, spent, refused, said, said-injective, opsOf, rootOf, outcomeOf, wordsOutcome}
-use Rattle.definitions.specs.Listing.{ListingAnswer, listingOf, listingFrom, listingAnswer}
+use Rattle.definitions.specs.Listing.{listingFrom, listingAnswer}
+use Rattle.listings.specs.Listing.{room-cases}
 
 -- a refusal has a number of its own
 pub record Numbered (x : Outcome) : Type 0 where
@@ -70,20 +69,10 @@ said-as : (x y : Outcome) → said x ≡ said y → Numbered y → Numbered x
 said-as x y e h = subst Numbered (sym (said-injective x y e)) h
 
 module _ (t : Ticket) (l : List ℕ) (x : Outcome) where
-  abbrev answer : (R m c : ℕ) → Bool → ListingAnswer
-  answer R m c y =
-      elim y [
-        | true ↦ record { says = said (found R m c); list = listingOf t R m ++ drop (m * (t .n + 4)) l }
-        | false ↦ record { says = said (refused 13); list = l }
-      ]
-
   numbered-from : (y : Outcome) → Numbered y → said x ≡ listingFrom t y l .says → Numbered x
   unfolding listingFrom
-  numbered-from (found R m c) h e = go (leb (m * (t .n + 4)) (length l)) e
-    where
-      go : (b : Bool) → said x ≡ answer R m c b .says → Numbered x
-      go true k = said-as x (found R m c) k (numbered-found R m c)
-      go false k = said-as x (refused 13) k (numbered 13 (λ z. omega arith) (λ z. omega arith))
+  numbered-from (found R m c) h e =
+      room-cases (λ a. said x ≡ a .says → Numbered x) t R m c l (λ _ k. said-as x (found R m c) k h) (λ _ k. said-as x (refused 13) k (numbered 13 (λ z. omega arith) (λ z. omega arith))) e
   numbered-from (spent k d) h e = said-as x (spent k d) e h
   numbered-from (refused j) h e = said-as x (refused j) e h
 

@@ -1,7 +1,8 @@
 // What the program prints, as bytes in a lent buffer: the first line of the answer, and after "found" one line a record.
 ghost use mathlib.Core.Path.{_≡_};
 ghost use Prim.Native.Nat.{_+_, _*_, _<_, _≤_};
-ghost use lib.ListN.{length, take, replicate};
+ghost use mathlib.Core.List.{_++_};
+ghost use lib.ListN.{length, drop, replicate};
 ghost use Rattle.definitions.specs.Ticket.{ticketOf};
 ghost use Rattle.definitions.specs.Answers.{said};
 ghost use Rattle.definitions.specs.Listing.{listingAnswer};
@@ -10,12 +11,12 @@ ghost use Rattle.run.specs.Outcome.{meaning};
 ghost use Rattle.orders.specs.Printed.{Printed};
 ghost use Rattle.orders.specs.Refused.{Numbered};
 use engine::listing::listing;
+use reading::words_of;
 use run::Outcome;
 use text::lines::found_line;
 use text::lines::record_line;
 use text::lines::refused_line;
 use text::lines::spent_line;
-use text::reading::words_of;
 use ticket::words::value;
 
 // The line of a record from a place on, at most ten bytes for each of its words. Each of these functions returns the place after its last byte.
@@ -79,11 +80,10 @@ fn put_answer(out: &mut [u8], ticket: &[u32]) -> usize
     put_records(out, first, &list, degree(ticket), m.0 as usize)
 }
 
-// All that the program prints for an input, in a buffer that has room for every answer.
-pub fn output(input: &[u8], out: &mut [u8]) -> usize
-    requires { ⌜ 98304 ≤ length (now out) ⌝ }
-    ensures prints { λ r. ⌜ take r (now (out .exit)) ≡ programOf (now (input .entry)) ⌝ }
-    ensures within { λ r. ⌜ r ≤ length (now (out .exit)) ⌝ }
+// All that the program prints for an input, in a buffer that has room for every answer; what stands after it is kept.
+pub fn output(input: &[u8], out: &mut [u8; 98304]) -> usize
+    ensures size { λ r. ⌜ r ≡ length (programOf (now (input .entry))) ⌝ }
+    ensures prints { λ r. ⌜ now (out .exit) ≡ programOf (now (input .entry)) ++ drop r (now (out .entry)) ⌝ }
 {
     let read = words_of(input);
     if read.cut {

@@ -4,17 +4,13 @@ use native.Mathlib.Nat.{add-zero, zero-add}
 use native.Mathlib.Omega.{arith}
 use mathlib.Core.Path.{_≡_, refl, sym, ap, ap₂, subst, _∙_}
 use mathlib.Core.List.{List, [], _∷_, _++_}
-use lib.ListN.{length, take, drop, set, length-append}
-use lib.Seq.{sets, sets-eq, length-sets, take-at}
+use lib.ListN.{length, drop, set, length-append}
+use lib.Seq.{sets, sets-eq, length-sets}
 
 -- two writings in a row are one
 pub sets-append : (l : List ℕ) (i : ℕ) (a b : List ℕ) → sets (sets l i a) (i + length a) b ≡ sets l i (a ++ b)
 sets-append l i [] b = ap (λ (k : ℕ). sets l k b) (add-zero i)
 sets-append l i (x ∷ a) b = let e : i + suc (length a) ≡ suc i + length a = omega arith in ap (λ (k : ℕ). sets (sets (set l i x) (suc i) a) k b) e ∙ sets-append (set l i x) (suc i) a b
-
--- one byte more
-pub sets-more : (l : List ℕ) (i : ℕ) (a : List ℕ) (x : ℕ) → set (sets l i a) (i + length a) x ≡ sets l i (a ++ (x ∷ []))
-sets-more l i a x = sets-append l i a (x ∷ [])
 
 -- written from the start on, bytes stand before what is left
 pub sets-start : (l a : List ℕ) → length a ≤ length l → sets l 0 a ≡ a ++ drop (length a) l
@@ -52,10 +48,6 @@ put-length {a} {b} {i} {j} {x} p = ap length (p .written) ∙ length-sets a i x
 -- a whole line
 pub line-put : {a b : List ℕ} {j : ℕ} {x : List ℕ} → Put a b 0 j x → j ≤ length a → Line a b j x
 line-put {a} {b} {j} {x} p h = let e : j ≡ length x = p .end ∙ zero-add (length x) in record { content = p .written ∙ sets-start a x (omega arith); size = e }
-
--- how a line is read: it is the part of the buffer before the count
-pub line-part : {a b : List ℕ} {j : ℕ} {x : List ℕ} → Line a b j x → take j b ≡ x
-line-part {a} {b} {j} {x} h = ap₂ take (h .size) (h .content) ∙ take-at x (drop (length x) a) (length x) refl
 
 pub put-at : {a b : List ℕ} {i j k : ℕ} {x : List ℕ} → j ≡ k → Put a b i j x → Put a b i k x
 put-at {a} {b} {i} {j} {k} {x} e p = subst (λ (m : ℕ). Put a b i m x) e p

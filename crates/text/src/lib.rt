@@ -1,3 +1,2 @@
-// The text of the program: bytes into words, and an answer into lines.
+// The text that the program writes: an answer as lines.
 pub mod lines;
-pub mod reading;

@@ -1,5 +1,5 @@
 -- The invariant: the record looked for is at the word offset or before it.
-use Prim.Native.Nat.{_≤_, _+_, _-_}
+use Prim.Native.Nat.{_≤_, _+_}
 use native.Mathlib.Omega.{arith}
 use mathlib.Core.Path.{_≡_, subst}
 use lib.ListN.{length}

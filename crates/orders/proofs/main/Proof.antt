@@ -1,6 +1,7 @@
 -- What is printed lies within the buffer.
 use mathlib.Core.Path.{sym}
 use lib.Seq.{length-take-le}
+use Rattle.orders.specs.Printed.{program-within}
 use borrow.Author.Needs.{needs}
 use Rattle.orders.proofs.main.Statement.{statement}
 use Rattle.orders.proofs.main.Tie as tie
@@ -17,17 +18,14 @@ array-share-prefix-bytes c = search needs
 slice-aggregate-output : tie.Need-slice-aggregate-output
 slice-aggregate-output c = search needs
 
-slice-aggregate-output-2 : tie.Need-slice-aggregate-output-2
-slice-aggregate-output-2 c = search needs
-
 output-requires : tie.Need-output-requires
 output-requires c κs = search needs
 
 array-share-prefix-lines : tie.Need-array-share-prefix-lines
-array-share-prefix-lines c = search needs
+array-share-prefix-lines c = program-within _ _ (c .output .ensures .0) (c .output .ensures .1)
 
 slice-aggregate-write-all : tie.Need-slice-aggregate-write-all
-slice-aggregate-write-all c = sym (length-take-le _ _ (c .before .before .output .ensures .1))
+slice-aggregate-write-all c = sym (length-take-le _ _ (program-within _ _ (c .before .output .ensures .0) (c .before .output .ensures .1)))
 
 write-all-requires : tie.Need-write-all-requires
 write-all-requires c κs = search needs
@@ -43,7 +41,6 @@ main-spec =
     read-full-requires
     array-share-prefix-bytes
     slice-aggregate-output
-    slice-aggregate-output-2
     output-requires
     array-share-prefix-lines
     slice-aggregate-write-all

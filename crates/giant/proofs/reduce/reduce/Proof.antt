@@ -6,18 +6,18 @@ use mathlib.Core.Path.{subst}
 use Rattle.polynomial.specs.Record.{poly}
 use Rattle.definitions.specs.Walk.{Ideal}
 use Rattle.state.specs.Start.{half-degree}
-use Rattle.ideal.specs.Operand.{pairOf}
+use Rattle.ideal.specs.Operand.{heldPair}
 use Rattle.giant.specs.Start.{root-result, begun-again, same-pair}
 use Rattle.giant.specs.Turn.{At, at-start, a-result, q-result, p-result, q-some, product-fits, a-path, next-short, a-some, sum-fits, size-less, at-next, Reduces, reduces}
 use Rattle.giant.proofs.reduce.reduce.Statement.{statement}
 use Rattle.giant.proofs.reduce.reduce.Tie as tie
 
 abbrev Inv-loop : tie.InvT-loop
-Inv-loop f n big d top s₀ sum₀ s sum =
-    At (f .q) (genus n) (poly (big .c) (big .size)) (pairOf (s₀ .q .c) (s₀ .q .size) (s₀ .p .c) (s₀ .p .size)) (s .a .c) (s .a .size) (s .q .c) (s .q .size) (s .p .c) (s .p .size) sum
+Inv-loop f n radicand d top s₀ sum₀ s sum =
+    At (f .q) (genus n) (poly (radicand .c) (radicand .size)) (heldPair (s₀ .q .c) (s₀ .q .size) (s₀ .p .c) (s₀ .p .size)) (s .a .c) (s .a .size) (s .q .c) (s .q .size) (s .p .c) (s .p .size) sum
 
 abbrev μ-loop : tie.MeasureT-loop
-μ-loop f n big d top s₀ sum₀ s sum = s .q .size
+μ-loop f n radicand d top s₀ sum₀ s sum = s .q .size
 
 stage-requires : tie.Need-stage-requires Inv-loop μ-loop
 stage-requires c κs = let h = c .pre .0 in ((h .admitted .prime, h .admitted .small), (root-result (h .admitted) (h .root-is) .held, h .held-q, h .held-p))
@@ -83,7 +83,7 @@ returns c =
     let l = i .before .before .loop in
     let z = half-degree (a .n) (s .before .pre .1) in
     let low = i .if1 .left in
-    subst (λ (x : Ideal ℕ). Reduces (a .f .q) (genus (a .n)) (poly (a .big .c) (a .big .size)) x (l .s .q .c) (l .s .q .size) (l .s .p .c) (l .s .p .size) (l .sum)) (same-pair h (e .0) (e .1 .0)) (reduces (begun-again h (e .0) (e .1 .0)) (l .inv) (omega arith))
+    subst (λ (x : Ideal ℕ). Reduces (a .f .q) (genus (a .n)) (poly (a .radicand .c) (a .radicand .size)) x (l .s .q .c) (l .s .q .size) (l .s .p .c) (l .s .p .size) (l .sum)) (same-pair h (e .0) (e .1 .0)) (reduces (begun-again h (e .0) (e .1 .0)) (l .inv) (omega arith))
 
 pub reduce-spec : {M : Type 1} → statement M
 reduce-spec =

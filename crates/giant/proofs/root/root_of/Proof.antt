@@ -1,4 +1,4 @@
--- The places of big are the coefficients of D, so that their root is D's, of size g + 2.
+-- The places of the radicand are the coefficients of D, so that their root is D's, of size g + 2.
 use Prim.Native.Nat.{suc, _/_, _≤_}
 use native.Mathlib.Omega.{arith}
 use mathlib.Core.Path.{_≡_}

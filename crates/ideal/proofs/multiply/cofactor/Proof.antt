@@ -31,7 +31,7 @@ returns c =
     let p = s .pre .1 .2 in
     let m = result-mul _ _ _ p _ _ p _ _ (omega arith) (c .before .before .mul .ensures) in
     let n = result-sub _ _ _ (s .pre .1 .0) _ _ _ _ (m .held) (c .before .sub .ensures) in
-    let e = n .is ∙ ap (sub (modulo q) (poly (s .args .big .c) (s .args .big .size))) (m .is) in
+    let e = n .is ∙ ap (sub (modulo q) (poly (s .args .radicand .c) (s .args .radicand .size))) (m .is) in
     let b : List ℕ = poly (s .args .q .c) (s .args .q .size) in (
       subst (λ (l : List ℕ). Is q (c .div-rem .result .quo .c) (c .div-rem .result .quo .size) (quo (modulo q) l b)) e (c .div-rem .ensures .0),
       subst (λ (l : List ℕ). Is q (c .div-rem .result .rem .c) (c .div-rem .result .rem .size) (rem (modulo q) l b)) e (c .div-rem .ensures .1),

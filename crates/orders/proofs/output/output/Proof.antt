@@ -6,7 +6,7 @@ use lib.Seq.{length-take-le}
 use Rattle.orders.specs.Words.{count-most}
 use Rattle.orders.specs.Refused.{numbered}
 use Rattle.orders.specs.Program.{program-cut, program-whole}
-use Rattle.orders.specs.Printed.{printed-same}
+use Rattle.orders.specs.Printed.{printed-same, printed-whole}
 use borrow.Author.Needs.{needs}
 use Rattle.orders.proofs.output.output.Statement.{statement}
 use Rattle.orders.proofs.output.output.Tie as tie
@@ -17,13 +17,8 @@ words-of-requires c κs = search needs
 put-first-requires : tie.Need-put-first-requires
 put-first-requires c κs = (omega arith, numbered 1 (λ e. omega arith) (λ e. omega arith))
 
-same-length : tie.Need-same-length
-same-length c = search needs
-
 returns : tie.Need-returns
-returns c =
-    let p = printed-same (program-cut _ (sym (c .before .before .before .before .before .words-of .ensures .cut-is) ∙ c .before .before .before .before .if1 .taken)) (c .before .before .put-first .ensures) in
-    (p .content, p .within)
+returns c = printed-whole (printed-same (program-cut _ (sym (c .before .before .before .words-of .ensures .cut-is) ∙ c .before .before .if1 .taken)) (c .put-first .ensures))
 
 array-share-prefix-words : tie.Need-array-share-prefix-words
 array-share-prefix-words c =
@@ -40,13 +35,8 @@ slice-aggregate-put-answer c =
 put-answer-requires : tie.Need-put-answer-requires
 put-answer-requires c κs = search needs
 
-same-length-2 : tie.Need-same-length-2
-same-length-2 c = search needs
-
 returns-2 : tie.Need-returns-2
-returns-2 c =
-    let p = printed-same (program-whole _ (sym (c .before .before .before .before .before .before .before .words-of .ensures .cut-is) ∙ c .before .before .before .before .before .before .if1 .left) _ (c .before .before .before .before .before .before .before .words-of .ensures .words-are)) (c .before .before .put-answer .ensures) in
-    (p .content, p .within)
+returns-2 c = printed-whole (printed-same (program-whole _ (sym (c .before .before .before .before .before .words-of .ensures .cut-is) ∙ c .before .before .before .before .if1 .left) _ (c .before .before .before .before .before .words-of .ensures .words-are)) (c .put-answer .ensures))
 
 pub output-spec : {M : Type 1} → statement M
 output-spec =
@@ -54,10 +44,8 @@ output-spec =
     (tie.spec
     words-of-requires
     put-first-requires
-    same-length
     returns
     array-share-prefix-words
     slice-aggregate-put-answer
     put-answer-requires
-    same-length-2
     returns-2)

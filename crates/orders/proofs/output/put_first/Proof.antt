@@ -38,13 +38,13 @@ same-length : tie.Need-same-length
 same-length c = search needs
 
 returns : tie.Need-returns
-returns c = printed-same (ap (λ o. firstLine (said (meaning o))) (sym (c .before .before .before .before .before .outcome .given .1))) (printed-line (c .before .before .found-line .ensures))
+returns c = printed-same (ap (λ o. firstLine (said (meaning o))) (sym (c .before .before .before .before .before .outcome .given .1))) (printed-line (c .before .before .found-line .kept .0) (c .before .before .found-line .ensures))
 
 same-length-2 : tie.Need-same-length-2
 same-length-2 c = search needs
 
 returns-2 : tie.Need-returns-2
-returns-2 c = printed-same (ap (λ o. firstLine (said (meaning o))) (sym (c .before .before .before .before .before .outcome2 .given .1))) (printed-line (c .before .before .spent-line .ensures))
+returns-2 c = printed-same (ap (λ o. firstLine (said (meaning o))) (sym (c .before .before .before .before .before .outcome2 .given .1))) (printed-line (c .before .before .spent-line .kept .0) (c .before .before .spent-line .ensures))
 
 same-length-3 : tie.Need-same-length-3
 same-length-3 c = search needs
@@ -52,7 +52,7 @@ same-length-3 c = search needs
 returns-3 : tie.Need-returns-3
 returns-3 c =
     let n = subst (λ o. Numbered (meaning o)) (c .before .before .before .before .before .outcome3 .given .1) (c .before .before .before .before .before .before .before .before .pre .1) in
-    printed-same (refused-first _ n ∙ ap (λ o. firstLine (said (meaning o))) (sym (c .before .before .before .before .before .outcome3 .given .1))) (printed-line (c .before .before .refused-line .ensures))
+    printed-same (refused-first _ n ∙ ap (λ o. firstLine (said (meaning o))) (sym (c .before .before .before .before .before .outcome3 .given .1))) (printed-line (c .before .before .refused-line .kept .0) (c .before .before .refused-line .ensures))
 
 pub put-first-spec : {M : Type 1} → statement M
 put-first-spec =

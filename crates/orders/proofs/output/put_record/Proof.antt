@@ -1,5 +1,7 @@
 -- The part from `at` on begins with the line.
+use Prim.Native.Nat.{_-_}
 use native.Mathlib.Omega.{arith}
+use lib.ListN.{length}
 use Rattle.orders.specs.Printed.{printed-part, record-line-length}
 use borrow.Author.Needs.{needs}
 use Rattle.orders.proofs.output.put_record.Statement.{statement}
@@ -30,7 +32,8 @@ returns : tie.Need-returns
 returns c =
     let e = c .before .before .record-line .ensures .size in
     let l = record-line-length (c .before .before .before .before .before .before .args .words .now) (omega arith) in
-    (printed-part _ _ _ _ (omega arith) (c .before .before .record-line .ensures), omega arith)
+    let o = c .before .before .before .before .before .before .args in
+    (printed-part (o .out .now) (o .at) (length (o .out .now) - o .at) _ (omega arith) (omega arith) (c .before .before .record-line .ensures), omega arith)
 
 pub put-record-spec : {M : Type 1} → statement M
 put-record-spec =

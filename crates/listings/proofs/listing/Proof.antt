@@ -1,0 +1,61 @@
+-- `listing` meets its contract: a refused or spent ticket leaves the list as it is, a found one goes to `list_found`.
+use mathlib.Core.Path.{refl, sym, ap, _∙_}
+use native.Mathlib.Omega.{arith}
+use borrow.Author.Needs.{needs}
+use Rattle.run.specs.Outcome.{meaning}
+use Rattle.regulators.specs.Accepted.{accepted, number-is}
+use Rattle.regulators.specs.Regulator.{refused-outcome, accepted-outcome}
+use Rattle.listings.specs.Listing.{kept, kept-refused, words-answer}
+use Rattle.regulators.proofs.Kept.{not-found}
+use Rattle.listings.proofs.listing.Statement.{statement}
+use Rattle.listings.proofs.listing.Tie as tie
+
+read-ticket-requires : tie.Need-read-ticket-requires
+read-ticket-requires c κs = search needs
+
+returns : tie.Need-returns
+returns c =
+    let a = words-answer _ _ _ _ _ _ refl (refused-outcome _ _ (number-is _ (c .before .before .read-ticket .ensures)) (λ e. omega arith)) (kept-refused _ _ _) in
+    (refl, (a .says, a .list))
+
+run-requires : tie.Need-run-requires
+run-requires c κs =
+    let a = accepted _ (c .before .before .read-ticket .ensures) (omega arith) in
+    (a .radicand, (a .held, (let h = a .half in omega arith), a .budget))
+
+enum-known-o : tie.Need-enum-known-o
+enum-known-o c = search needs
+
+returns-2 : tie.Need-returns-2
+returns-2 c =
+    let a = accepted _ (c .before .before .before .before .read-ticket .ensures) (omega arith) in
+    let r = words-answer _ _ _ _ _ _ (a .ticket-is) (accepted-outcome _ _ a (c .before .run .ensures)) (kept _ _ _ (not-found (c .before .run .result) (c .match .keys2))) in
+    (refl, (r .says, r .list))
+
+list-found-requires : tie.Need-list-found-requires
+list-found-requires c κs =
+    let a = accepted _ (c .before .before .before .before .before .before .before .read-ticket .ensures) (omega arith) in
+    (record { admitted = a .radicand; even = a .half; budget = a .budget; outcome = sym (c .before .before .before .before .run .ensures) ∙ ap meaning (c .before .before .o .given .1) }, a .held)
+
+same-length : tie.Need-same-length
+same-length c = search needs
+
+returns-3 : tie.Need-returns-3
+returns-3 c =
+    let a = accepted _ (c .before .before .before .before .before .before .before .before .before .before .read-ticket .ensures) (omega arith) in
+    let o = accepted-outcome _ _ a (c .before .before .before .before .before .before .before .run .ensures) in
+    let r = words-answer _ _ _ _ _ _ (a .ticket-is) (sym (ap meaning (c .before .before .before .before .before .o .given .1)) ∙ o) (c .before .before .list-found .ensures) in
+    (refl, (r .says, r .list))
+
+pub listing-spec : {M : Type 1} → statement M
+listing-spec =
+    tie.close
+    (tie.spec
+    read-ticket-requires
+    returns
+    run-requires
+    enum-known-o
+    returns-2
+    list-found-requires
+    same-length
+    returns-3)
