@@ -21,6 +21,7 @@ use Rattle.bridge.specs.Residues.{model}
 use Rattle.polynomial.specs.Record.{poly, Held, Is}
 use Rattle.polynomial.specs.Held.{held-positive, length-poly, at-poly, is-of}
 use Rattle.places.specs.Places.{Places, Within, Top, zeros, length-zeros, at-zeros}
+pub use Rattle.places.specs.Zeros.{add-zeros, sub-zeros, scale-zero}
 
 -- the size found is the length of the trimmed list
 pub top-length : (q : ℕ) (pos : 0 < q) (c : List ℕ) (n : ℕ) (l : List ℕ) → trim (modulo q) l ≡ l → Places c (λ i. getD l i 0) → Top c n → n ≡ length l
