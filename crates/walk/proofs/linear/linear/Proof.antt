@@ -1,14 +1,13 @@
 -- The two coefficients, then the two passes.
-use borrow.Author.Needs.{needs}
 use Rattle.walk.specs.Result.{division}
 use Rattle.walk.proofs.linear.linear.Statement.{statement}
 use Rattle.walk.proofs.linear.linear.Tie as tie
 
 upper-requires : tie.Need-upper-requires
-upper-requires c κs = search needs
+upper-requires c κs = (c .pre .0, (c .pre .1 .0, c .pre .1 .1, division (c .pre .1 .2)))
 
 lower-requires : tie.Need-lower-requires
-lower-requires c κs = search needs
+lower-requires c κs = let s = c .before in (s .pre .0, ((s .pre .1 .0, s .pre .1 .1, division (s .pre .1 .2)), c .upper .ensures))
 
 remainder-requires : tie.Need-remainder-requires
 remainder-requires c κs =

@@ -1,7 +1,7 @@
 -- The invariant: the coefficients below k are the next Q's, and y is next r − r at the place before k, with q added.
 use Prim.Native.Nat.{ℕ, _+_, _-_, _≤_, _<_}
 use native.Mathlib.Omega.{arith}
-use mathlib.Core.Path.{_≡_}
+use mathlib.Core.Path.{_≡_, sym, ap₂}
 use lib.ListN.{getD}
 use borrow.Author.Needs.{needs}
 use Rattle.bridge.specs.Product.{shifted}
@@ -92,7 +92,7 @@ loop-again c =
     let g = s .pre .1 .0 .2 in
     let d = division g in
     let l = c .before .before .before .before .before .loop in
-    (omega arith, rw (shifted-next, shifted-next), filled-more _ (l .w) (l .k) _ (l .inv .2) (omega arith) (next-of-is p d (s .args .a0) (s .args .a1) (s .pre .1 .1 .0 .0) (s .pre .1 .1 .0 .1) (s .args .before .now) (s .args .z .now) (s .pre .1 .1 .1 .at) (l .k) _ (l .y) (l .inv .1) (c .next-of .ensures)))
+    (omega arith, sym (ap₂ (λ (u v : ℕ). u + (s .args .f .q - v)) (shifted-next (s .args .z .now) (l .k)) (shifted-next (s .args .r .now) (l .k))), filled-more _ (l .w) (l .k) _ (l .inv .2) (omega arith) (next-of-is p d (s .args .a0) (s .args .a1) (s .pre .1 .1 .0 .0) (s .pre .1 .1 .0 .1) (s .args .before .now) (s .args .z .now) (s .pre .1 .1 .1 .at) (l .k) _ (l .y) (l .inv .1) (c .next-of .ensures)))
 
 returns : tie.Need-returns Inv-loop μ-loop
 returns c =

@@ -17,13 +17,13 @@ linear-requires c κs =
     (s .pre .0, (s .pre .1 .0 .0, omega arith, subst (λ (m : ℕ). Ready (s .args .f .q) m (s .args .n) (s .args .s .now) (s .args .before .now) (s .args .b .now) (s .args .r .now)) e (s .pre .1 .1)))
 
 general-requires : tie.Need-general-requires
-general-requires c κs = search needs
+general-requires c κs = let s = c .before .before .before in (s .pre .0, (s .pre .1 .0, s .pre .1 .1))
 
 returns : tie.Need-returns
-returns c = search needs
+returns c = c .linear .ensures
 
 returns-2 : tie.Need-returns-2
-returns-2 c = search needs
+returns-2 c = c .general .ensures
 
 pub fill-spec : {M : Type 1} → statement M
 fill-spec = tie.close (tie.spec add-if1 linear-requires general-requires returns returns-2)

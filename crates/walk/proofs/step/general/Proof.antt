@@ -7,7 +7,7 @@ use Rattle.walk.proofs.step.general.Statement.{statement}
 use Rattle.walk.proofs.step.general.Tie as tie
 
 quotient-requires : tie.Need-quotient-requires
-quotient-requires c κs = search needs
+quotient-requires c κs = let s = c .before in (s .pre .0, (s .pre .1 .0, division (s .pre .1 .1)))
 
 remainder-requires : tie.Need-remainder-requires
 remainder-requires c κs =
