@@ -7,10 +7,10 @@ use Rattle.polynomial.specs.Record.{poly}
 use Rattle.definitions.specs.Walk.{Ideal}
 use Rattle.run.specs.Start.{half-degree}
 use Rattle.ideal.specs.Operand.{heldPair}
-use Rattle.giant.specs.Start.{root-result, begun-again, same-pair}
-use Rattle.giant.specs.Turn.{At, at-start, a-result, q-result, p-result, q-some, product-fits, a-path, next-short, a-some, sum-fits, size-less, at-next, Reduces, reduces}
-use Rattle.giant.proofs.reduce.reduce.Statement.{statement}
-use Rattle.giant.proofs.reduce.reduce.Tie as tie
+use Rattle.reduction.specs.Start.{root-result, begun-again, same-pair}
+use Rattle.reduction.specs.Turn.{At, at-start, a-result, q-result, p-result, q-some, product-fits, a-path, next-short, a-some, sum-fits, size-less, at-next, Reduces, reduces}
+use Rattle.reduction.proofs.reduce.reduce.Statement.{statement}
+use Rattle.reduction.proofs.reduce.reduce.Tie as tie
 
 abbrev Inv-loop : tie.InvT-loop
 Inv-loop f n radicand d top s₀ sum₀ s sum =

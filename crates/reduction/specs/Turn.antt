@@ -23,7 +23,7 @@ use Rattle.polynomial.specs.Record.{poly, Held, Is}
 use Rattle.polynomial.specs.Result.{Result, result}
 use Rattle.run.specs.State.{rootD}
 use Rattle.ideal.specs.Operand.{heldPair, K, M}
-use Rattle.giant.specs.Start.{Start, Begun, root-result, same-poly, same-pair}
+use Rattle.reduction.specs.Start.{Start, Begun, root-result, same-poly, same-pair}
 
 -- the degree of each Q before is above g
 pub record At (q g : ℕ) (D : List ℕ) (x : Ideal ℕ) (u : List ℕ) (k : ℕ) (c : List ℕ) (m : ℕ) (e : List ℕ) (n sum : ℕ) : Type 0 where

@@ -1,8 +1,8 @@
 -- Each result is held, and the pair that is left is the definition's next one.
 use borrow.Author.Needs.{needs}
-use Rattle.giant.specs.Advance.{product-result, P-result, P-short, Q-result, q-next, p-next, a-next}
-use Rattle.giant.proofs.reduce.advance.Statement.{statement}
-use Rattle.giant.proofs.reduce.advance.Tie as tie
+use Rattle.reduction.specs.Advance.{product-result, P-result, P-short, Q-result, q-next, p-next, a-next}
+use Rattle.reduction.proofs.reduce.advance.Statement.{statement}
+use Rattle.reduction.proofs.reduce.advance.Tie as tie
 
 mul-requires : tie.Need-mul-requires
 mul-requires c κs = search needs

@@ -7,8 +7,8 @@ use Rattle.definitions.specs.Ticket.{genus}
 use Rattle.laws.specs.Admitted.{surd-of}
 use Rattle.laws.specs.Walk.{d-length}
 use Rattle.run.specs.Start.{half-degree, root-places}
-use Rattle.giant.proofs.root.root_of.Statement.{statement}
-use Rattle.giant.proofs.root.root_of.Tie as tie
+use Rattle.reduction.proofs.root.root_of.Statement.{statement}
+use Rattle.reduction.proofs.root.root_of.Tie as tie
 
 root-requires : tie.Need-root-requires
 root-requires c κs =

@@ -8,9 +8,9 @@ use Rattle.definitions.specs.Polynomials.{quo}
 use Rattle.definitions.specs.Walk.{partial}
 use Rattle.polynomial.specs.Record.{poly, Is}
 use Rattle.polynomial.specs.Result.{result-add}
-use Rattle.giant.specs.Start.{held-is}
-use Rattle.giant.proofs.reduce.stage.Statement.{statement}
-use Rattle.giant.proofs.reduce.stage.Tie as tie
+use Rattle.reduction.specs.Start.{held-is}
+use Rattle.reduction.proofs.reduce.stage.Statement.{statement}
+use Rattle.reduction.proofs.reduce.stage.Tie as tie
 
 add-requires : tie.Need-add-requires
 add-requires c κs = search needs
