@@ -10,7 +10,7 @@ use Rattle.definitions.specs.Ticket.{Ticket, genus, ticketOf, refusalOf}
 use Rattle.laws.specs.Admitted.{Admitted, admitted, passed, degree-of, budget-less}
 use Rattle.polynomial.specs.Record.{poly, Held, Is}
 use Rattle.polynomial.specs.Held.{is-poly, is-held}
-use Rattle.ticket.specs.Radicand.{trim-lead-one}
+use Rattle.refusals.specs.Radicand.{trim-lead-one}
 use Rattle.ticket.specs.Read.{readOf, Stands, read-number, read-accepted}
 use Rattle.run.specs.Outcome.{ticket}
 
