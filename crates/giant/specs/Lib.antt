@@ -1,5 +1,2 @@
-pub mod Advance
 pub mod Signed
-pub mod Start
 pub mod Stepped
-pub mod Turn

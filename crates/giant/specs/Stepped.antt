@@ -25,8 +25,8 @@ use Rattle.run.specs.Outcome.{ticket}
 use Rattle.state.specs.State.{rootD}
 use Rattle.ideal.specs.Operand.{heldPair, Operand, K, M, I, operand-ideal, operand-degree}
 use Rattle.ideal.specs.Product.{S-result, S-bounds}
-use Rattle.giant.specs.Start.{Start}
-use Rattle.giant.specs.Turn.{Reduces}
+use Rattle.reduction.specs.Start.{Start}
+use Rattle.reduction.specs.Turn.{Reduces}
 
 pub record Stepped (q n : ℕ) (D : List ℕ) (x : Ideal ℕ) (d : ℕ) (y : Ideal ℕ) (e : ℕ) (c : List ℕ) (m : ℕ) (u : List ℕ) (k : ℕ) (f distance : ℤ) : Type 0 where
   pub q-is : (b : ℕ) → Is q c m (giantDone (ticket q n D b) x d y e .q)

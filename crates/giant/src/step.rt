@@ -9,13 +9,13 @@ ghost use Rattle.state.specs.State.{rootD};
 ghost use Rattle.ideal.specs.Operand.{heldPair, Operand};
 ghost use Rattle.giant.specs.Stepped.{Stepped};
 use crate::Giant;
-use crate::reduce::reduce;
 use counters::Distance;
 use field::Field;
 use ideal::multiply::product;
 use polynomial::Poly;
 use polynomial::division::div_rem;
 use polynomial::linear::monic;
+use reduction::reduce::reduce;
 
 // total − lower.
 fn signed(total: u64, lower: u64) -> i64

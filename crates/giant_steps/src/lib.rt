@@ -13,13 +13,13 @@ ghost use Rattle.run.specs.Outcome.{ticket};
 ghost use Rattle.products.specs.Products.{pairOf};
 ghost use Rattle.giant_steps.specs.GiantSteps.{GiantSays, giantNear};
 use counters::Distance;
-use giant::root::root_of;
 use giant::step::giant;
 use pairs::Pair;
 use pairs::operand::pair;
 use polynomial::Poly;
 use polynomial::linear::zero;
 use products::both;
+use reduction::root::root_of;
 use ticket::Ticket;
 use ticket::read_ticket;
 

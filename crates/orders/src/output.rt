@@ -12,12 +12,12 @@ ghost use Rattle.orders.specs.Printed.{Printed};
 ghost use Rattle.orders.specs.Refused.{Numbered};
 use engine::listing::listing;
 use reading::words_of;
+use refusals::words::value;
 use run::Outcome;
 use text::lines::found_line;
 use text::lines::record_line;
 use text::lines::refused_line;
 use text::lines::spent_line;
-use ticket::words::value;
 
 // The line of a record from a place on, at most ten bytes for each of its words. Each of these functions returns the place after its last byte.
 fn put_record(out: &mut [u8], at: usize, words: &[u32]) -> usize

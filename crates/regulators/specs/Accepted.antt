@@ -10,7 +10,7 @@ use Rattle.definitions.specs.Ticket.{Ticket, genus, ticketOf, refusalOf}
 use Rattle.laws.specs.Admitted.{Admitted, admitted, passed, degree-of, budget-less}
 use Rattle.polynomial.specs.Record.{poly, Held, Is}
 use Rattle.polynomial.specs.Held.{is-poly, is-held}
-use Rattle.ticket.specs.Radicand.{trim-lead-one}
+use Rattle.refusals.specs.Radicand.{trim-lead-one}
 use Rattle.ticket.specs.Read.{readOf, Stands, read-number, read-accepted}
 use Rattle.run.specs.Outcome.{ticket}
 
@@ -21,6 +21,9 @@ pub record Accepted (w : List ℕ) (q n : ℕ) (c : List ℕ) (size b : ℕ) : T
   pub held : Held q c size
   pub budget : b < 268435456
   pub half : suc (genus n) + suc (genus n) ≡ n
+
+pub degree-two : {w : List ℕ} {q n : ℕ} {c : List ℕ} {size b : ℕ} → Accepted w q n c size b → 2 ≤ n
+degree-two a = let h = a .half in omega arith
 
 ticket-path : {t : Ticket} {q n : ℕ} {D : List ℕ} {b : ℕ} → q ≡ t .q → n ≡ t .n → D ≡ t .D → b ≡ t .b → t ≡ ticket q n D b
 ticket-path {t} e f g h = λ i. record { q = sym e i; n = sym f i; D = sym g i; b = sym h i }

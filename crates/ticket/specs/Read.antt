@@ -8,8 +8,8 @@ use Rattle.definitions.specs.Words.{value}
 use Rattle.definitions.specs.Ticket.{Ticket, ticketOf, wrongDegree, wrongLayout, refusalOf}
 use Rattle.laws.specs.Admitted.{passed}
 use Rattle.polynomial.specs.Record.{Is}
-use Rattle.ticket.specs.Radicand.{coefficients}
-use Rattle.ticket.specs.Refusal.{head-long, degree-most, layout-length}
+use Rattle.refusals.specs.Radicand.{coefficients}
+use Rattle.refusals.specs.Refusal.{head-long, degree-most, layout-length}
 
 pub record Read : Type 0 where
   pub number : ℕ

@@ -1,22 +1,18 @@
 // The job ticket: any words are read as a field, a degree, the polynomial D and a budget, or refused by the number of the first test that applies.
-mod head;
-mod layout;
-mod radicand;
-pub mod words;
 
 ghost use mathlib.Core.Path.{_≡_};
 ghost use Rattle.definitions.specs.Ticket.{refusalOf};
 ghost use Rattle.ticket.specs.Read.{readOf, Stands};
 use field::Field;
 use field::primes::is_odd_prime;
-use head::wrong_degree;
-use head::wrong_head;
-use layout::wrong_layout;
 use polynomial::Poly;
 use polynomial::linear::zero;
-use radicand::radicand;
-use radicand::radicand_refusal;
-use words::value;
+use refusals::head::wrong_degree;
+use refusals::head::wrong_head;
+use refusals::layout::wrong_layout;
+use refusals::radicand::radicand;
+use refusals::radicand::radicand_refusal;
+use refusals::words::value;
 
 // What a ticket says. `number` is that of the first refusal, 1 to 7, with all other values zero, or 0.
 pub struct Ticket {

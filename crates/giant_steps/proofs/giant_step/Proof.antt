@@ -7,7 +7,7 @@ use Rattle.definitions.specs.Ticket.{Ticket}
 use Rattle.laws.specs.PairTest.{both-true}
 use Rattle.pairs.specs.Pair.{paired-operand}
 use Rattle.pairs.specs.Words.{paired-product}
-use Rattle.regulators.specs.Accepted.{accepted, number-is}
+use Rattle.regulators.specs.Accepted.{accepted, number-is, degree-two}
 use Rattle.products.specs.Products.{pairs-wrong, pairs-right, passed-pair}
 use Rattle.giant_steps.specs.GiantSteps.{giant-zeros, giant-refused, giant-wrong, giant-near, giant-modulus}
 use Rattle.giant_steps.proofs.giant_step.Statement.{statement}
@@ -27,12 +27,12 @@ returns c =
 pair-requires : tie.Need-pair-requires
 pair-requires c κs =
     let a = accepted _ (c .before .before .read-ticket .ensures) (omega arith) in
-    (a .radicand, a .held, (let h = a .half in omega arith))
+    (a .radicand, a .held, degree-two a)
 
 pair-requires-2 : tie.Need-pair-requires-2
 pair-requires-2 c κs =
     let a = accepted _ (c .before .before .before .read-ticket .ensures) (omega arith) in
-    (a .radicand, a .held, (let h = a .half in omega arith))
+    (a .radicand, a .held, degree-two a)
 
 both-requires : tie.Need-both-requires
 both-requires c κs = search needs
@@ -51,7 +51,7 @@ stepped-requires : tie.Need-stepped-requires
 stepped-requires c κs =
     let a = accepted _ (c .before .before .before .before .before .before .read-ticket .ensures) (omega arith) in
     let f = both-true _ _ (sym (c .before .both .ensures) ∙ not-false _ (c .if2 .left)) in
-    ((a .radicand, a .held, (let h = a .half in omega arith)), (paired-operand (passed-pair (c .before .before .before .pair .ensures) (f .0)), paired-operand (passed-pair (c .before .before .pair2 .ensures) (f .1))))
+    ((a .radicand, a .held, degree-two a), (paired-operand (passed-pair (c .before .before .before .pair .ensures) (f .0)), paired-operand (passed-pair (c .before .before .pair2 .ensures) (f .1))))
 
 returns-3 : tie.Need-returns-3
 returns-3 c =

@@ -3,7 +3,7 @@ use mathlib.Core.Path.{refl, sym, ap, _∙_}
 use native.Mathlib.Omega.{arith}
 use borrow.Author.Needs.{needs}
 use Rattle.run.specs.Outcome.{meaning}
-use Rattle.regulators.specs.Accepted.{accepted, number-is}
+use Rattle.regulators.specs.Accepted.{accepted, number-is, degree-two}
 use Rattle.regulators.specs.Regulator.{refused-outcome, accepted-outcome}
 use Rattle.listings.specs.Listing.{kept, kept-refused, words-answer}
 use Rattle.regulators.proofs.Kept.{not-found}
@@ -21,7 +21,7 @@ returns c =
 run-requires : tie.Need-run-requires
 run-requires c κs =
     let a = accepted _ (c .before .before .read-ticket .ensures) (omega arith) in
-    (a .radicand, (a .held, (let h = a .half in omega arith), a .budget))
+    (a .radicand, (a .held, degree-two a, a .budget))
 
 enum-known-o : tie.Need-enum-known-o
 enum-known-o c = search needs

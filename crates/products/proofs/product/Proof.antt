@@ -7,7 +7,7 @@ use Rattle.definitions.specs.Ticket.{Ticket}
 use Rattle.laws.specs.PairTest.{both-true}
 use Rattle.pairs.specs.Pair.{paired-operand}
 use Rattle.pairs.specs.Words.{multiplied-words}
-use Rattle.regulators.specs.Accepted.{accepted, number-is}
+use Rattle.regulators.specs.Accepted.{accepted, number-is, degree-two}
 use Rattle.products.specs.Products.{product-zeros, product-refused, product-wrong, product-done, product-done-says, pairs-wrong, pairs-right, product-modulus, passed-pair}
 use Rattle.products.proofs.product.Statement.{statement}
 use Rattle.products.proofs.product.Tie as tie
@@ -26,12 +26,12 @@ returns c =
 pair-requires : tie.Need-pair-requires
 pair-requires c κs =
     let a = accepted _ (c .before .before .read-ticket .ensures) (omega arith) in
-    (a .radicand, a .held, (let h = a .half in omega arith))
+    (a .radicand, a .held, degree-two a)
 
 pair-requires-2 : tie.Need-pair-requires-2
 pair-requires-2 c κs =
     let a = accepted _ (c .before .before .before .read-ticket .ensures) (omega arith) in
-    (a .radicand, a .held, (let h = a .half in omega arith))
+    (a .radicand, a .held, degree-two a)
 
 both-requires : tie.Need-both-requires
 both-requires c κs = search needs

@@ -11,8 +11,8 @@ use borrow.Author.Tests.{not-true, not-false}
 use Rattle.bridge.specs.Prime.{odd-prime-true}
 use Rattle.definitions.specs.Primes.{oddPrime}
 use Rattle.definitions.specs.Ticket.{wrongHead, wrongDegree, wrongLayout}
-use Rattle.ticket.specs.Radicand.{radicand-size, radicand-poly, radicand-itself}
-use Rattle.ticket.specs.Refusal.{refused-1, refused-2, refused-3, refused-4, refused-by-radicand, head-long, degree-most, layout-length}
+use Rattle.refusals.specs.Radicand.{radicand-size, radicand-poly, radicand-itself}
+use Rattle.refusals.specs.Refusal.{refused-1, refused-2, refused-3, refused-4, refused-by-radicand, head-long, degree-most, layout-length}
 use Rattle.ticket.proofs.refusal.Statement.{statement}
 use Rattle.ticket.proofs.refusal.Tie as tie
 

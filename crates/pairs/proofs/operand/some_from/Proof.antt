@@ -9,7 +9,7 @@ use denote.Ref.{now}
 use borrow.Author.Needs.{needs}
 use borrow.Author.Count.{below-more}
 use Rattle.definitions.specs.Words.{someFrom}
-use Rattle.ticket.specs.Radicand.{take-none, take-at}
+use Rattle.refusals.specs.Radicand.{take-none, take-at}
 use Rattle.pairs.proofs.operand.some_from.Statement.{statement}
 use Rattle.pairs.proofs.operand.some_from.Tie as tie
 

@@ -1,0 +1,3 @@
+pub mod Advance
+pub mod Start
+pub mod Turn

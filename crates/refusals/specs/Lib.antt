@@ -1,0 +1,5 @@
+pub mod Any
+pub mod Layout
+pub mod Radicand
+pub mod Refusal
+pub mod Squarefree
