@@ -74,8 +74,8 @@ int main(int argc, char **argv) {
         int k = h - e;
         degree += k;
         if (k == 1) {
-            uint32_t a1 = reduce(2 * unit), s = d2[g] + q;
-            uint32_t a0 = reduce(reduce(g ? s + (q - a1) * Q[g - 1] : s) * unit);
+            uint32_t a1 = reduce(2 * unit), part = g ? reduce(Q[g - 1] * unit) : 0;
+            uint32_t a0 = reduce((d2[g] + q) * unit + (q - a1) * part);
             linear(g, a1, a0, d2, Q, rbefore, r, Z);
         } else {
             general(g, k, e, unit, d2, Q, rbefore, r, Z);
