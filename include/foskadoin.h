@@ -32,8 +32,8 @@
    11 (regulator, unit, listing), after 1 to 7 and before 12 and 13: spent, the quasi-period m is above b; never a refusal.
 
    The walk of sqrt(D): d is the monic polynomial of degree n/2 with deg(D - d^2) < n/2; P_0 = 0, Q_0 = 1, a_0 = d; then P_i = a_(i-1) Q_(i-1) - P_(i-1),
-   Q_i = (D - P_i^2) / Q_(i-1), a_i = (P_i + d) div Q_i. p_(-1) = 1, p_0 = d, p_i = a_i p_(i-1) + p_(i-2). The quasi-period m is the least i from 1 on with Q_i
-   constant, and R = deg p_(m-1). */
+   Q_i = (D - P_i^2) / Q_(i-1), a_i = (P_i + d) div Q_i. p_(-1) = 1, p_0 = d, p_i = a_i p_(i-1) + p_(i-2); s_(-1) = 0, s_0 = 1, and s_i likewise. The
+   quasi-period m is the least i from 1 on with Q_i constant, R = deg p_(m-1), and the unit is p = p_(m-1), s = s_(m-1). */
 #ifndef FOSKADOIN_H
 #define FOSKADOIN_H
 
