@@ -8,9 +8,9 @@
    - Any words and any lengths, 2^32 and more among them, have their answer: no call relies on its caller for more than the three lines above.
    - No call allocates memory, keeps a state or makes a system call; of the C library the code uses memcpy and memset alone. So calls may run at the same time in
      several threads, as long as no list that one of them writes is handed to another.
-   - A call needs at most FOSKADOIN_STACK bytes of stack. That is measured, not proved: the stored vectors (n up to 64) reach 223,000 bytes. Two functions are
-     recursive, with a level for each division: the greatest common divisor of D and its derivative (at most n divisions), and that of two Q with its factors (at
-     most n/2). A smaller stack is not noticed: the call may then end in a fault of memory.
+   - A call needs at most FOSKADOIN_STACK bytes of stack. That is measured, not proved: the stored vectors (n up to 64) reach 223,000 bytes. Three functions are
+     recursive: the greatest common divisor of D and its derivative (a level for each division, at most n), that of two Q with its factors (likewise, at most n/2), and
+     the inverse modulo q (at most 21 levels). A smaller stack is not noticed: the call may then end in a fault of memory.
 
    A ticket is n + 5 words, a kind times 2^28 plus a value: 1|q, 2|n, then 3|c for each coefficient of D from the constant term on, 4|b with the budget b,
    15|n + 4.

@@ -82,7 +82,7 @@ int main(int argc, char **argv) {
     for (; (words = counted(file, ticket)) != SIZE_MAX; jobs++) {
         for (int i = 0; i < 2; i++) {
             sizes[2 * i] = counted(file, Q[i]), sizes[2 * i + 1] = counted(file, P[i]);
-            if (fscanf(file, "%*u %*u") != 0) return 2;
+            if (sizes[2 * i] == SIZE_MAX || sizes[2 * i + 1] == SIZE_MAX || fscanf(file, "%*u %*u") != 0) return 2;
         }
         for (int i = 5; i < 7; i++) measure(i);
         if (fscanf(file, "%*[^\n]") != 0) return 2;

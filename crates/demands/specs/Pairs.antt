@@ -2,10 +2,11 @@
 -- where none applies. The sentences have no test in them; "dividing" is said with a factor.
 use Prim.Native.Nat.{ℕ, zero, suc, _<_}
 use native.Mathlib.Omega.{arith}
-use mathlib.Core.Path.{_≡_, refl, sym, ap, ap₂, _∙_}
+use mathlib.Core.Path.{_≡_, refl, sym, ap, ap₂, _∙_, subst}
 use mathlib.Core.Logic.{_≢_, _⊎_, ⊎-elim}
 use mathlib.Core.Bool.{Bool, true, false, not, _&&_}
 use mathlib.Core.List.{List, []}
+use lib.IntN.{pos as posℤ}
 use lib.ListN.{length, getD}
 use borrow.Author.Tests.{eq-eqb, lt-ltb}
 use Rattle.ring.specs.Residues.{Fq}
@@ -49,6 +50,13 @@ WrongPair t x y = (¬ GivenPair t x) ⊎ (¬ GivenPair t y)
 abbrev pub WrongDistance : ℕ → ℕ → Type 0
 WrongDistance d e = (1099511627776 < d) ⊎ (1099511627776 < e)
 
+-- "polynomials, f and distances in the same answer are then zero"
+abbrev pub ProductZero : ProductAnswer → Type 0
+ProductZero r = (r .s ≡ []) × (r .q ≡ []) × (r .p ≡ [])
+
+abbrev pub GiantZero : GiantStepAnswer → Type 0
+GiantZero r = (r .q ≡ []) × (r .p ≡ []) × (r .f ≡ posℤ 0) × (r .distance ≡ posℤ 0)
+
 -- "Tested in this order; the first that applies is returned.": the words' refusal, which T1 tells, then 9, then 10
 pub record PairRefusals (w : List ℕ) (x : Ideal ℕ) (d : ℕ) (y : Ideal ℕ) (e : ℕ) : Type 0 where
   pub words : refusalOf w ≢ 0 → (productAnswer w x y .number ≡ refusalOf w) × (giantAnswer w x d y e .number ≡ refusalOf w)
@@ -56,6 +64,8 @@ pub record PairRefusals (w : List ℕ) (x : Ideal ℕ) (d : ℕ) (y : Ideal ℕ)
   pub distances : refusalOf w ≡ 0 → ¬ WrongPair (ticketOf w) x y → WrongDistance d e → giantAnswer w x d y e .number ≡ 10
   pub product-done : refusalOf w ≡ 0 → ¬ WrongPair (ticketOf w) x y → productAnswer w x y .number ≡ 0
   pub giant-done : refusalOf w ≡ 0 → ¬ WrongPair (ticketOf w) x y → ¬ WrongDistance d e → giantAnswer w x d y e .number ≡ 0
+  pub product-zero : productAnswer w x y .number ≢ 0 → ProductZero (productAnswer w x y)
+  pub giant-zero : giantAnswer w x d y e .number ≢ 0 → GiantZero (giantAnswer w x d y e)
 
 abbrev pub T1Pairs : Type 0
 T1Pairs = (w : List ℕ) (x : Ideal ℕ) (d : ℕ) (y : Ideal ℕ) (e : ℕ) → PairRefusals w x d y e
@@ -145,6 +155,8 @@ t1-pairs w x d y e = record {
   distances = λ z p f. ap (λ (a : GiantStepAnswer). a .number) (giant-by w x y d e 0 false true z (none z p) (tests-distances d e .1 f));
   product-done = λ z p. ap (λ (a : ProductAnswer). a .number) (product-by w x y 0 false z (none z p));
   giant-done = λ z p f. ap (λ (a : GiantStepAnswer). a .number) (giant-by w x y d e 0 false false z (none z p) (tests-none (tests-distances d e) f));
+  product-zero = subst (λ (r : ProductAnswer). r .number ≢ 0 → ProductZero r) (sym (product-by w x y (refusalOf w) (wrongPair (ticketOf w) x y) refl refl)) (product-none (refusalOf w) (wrongPair (ticketOf w) x y));
+  giant-zero = subst (λ (r : GiantStepAnswer). r .number ≢ 0 → GiantZero r) (sym (giant-by w x y d e (refusalOf w) (wrongPair (ticketOf w) x y) (wrongDistance d e) refl refl refl)) (giant-none (refusalOf w) (wrongPair (ticketOf w) x y) (wrongDistance d e));
 }
   where
     none : refusalOf w ≡ 0 → ¬ WrongPair (ticketOf w) x y → wrongPair (ticketOf w) x y ≡ false
@@ -153,3 +165,14 @@ t1-pairs w x d y e = record {
     words : (r : ℕ) → refusalOf w ≡ r → refusalOf w ≢ 0 → (productAnswer w x y .number ≡ refusalOf w) × (giantAnswer w x d y e .number ≡ refusalOf w)
     words zero h some = absurd (some h)
     words (suc k) h some = (ap (λ (a : ProductAnswer). a .number) (product-by w x y (suc k) (wrongPair (ticketOf w) x y) h refl) ∙ sym h, ap (λ (a : GiantStepAnswer). a .number) (giant-by w x y d e (suc k) (wrongPair (ticketOf w) x y) (wrongDistance d e) h refl refl) ∙ sym h)
+
+    product-none : (r : ℕ) (a : Bool) → productBy w x y r a .number ≢ 0 → ProductZero (productBy w x y r a)
+    product-none zero true some = (refl, refl, refl)
+    product-none zero false some = absurd (some refl)
+    product-none (suc k) a some = (refl, refl, refl)
+
+    giant-none : (r : ℕ) (a b : Bool) → giantBy w x y d e r a b .number ≢ 0 → GiantZero (giantBy w x y d e r a b)
+    giant-none zero true b some = (refl, refl, refl, refl)
+    giant-none zero false true some = (refl, refl, refl, refl)
+    giant-none zero false false some = absurd (some refl)
+    giant-none (suc k) a b some = (refl, refl, refl, refl)
