@@ -1,21 +1,12 @@
 // Calls the static library from C: every stored vector, every lent list to its last place, and what a refusal leaves as it was.
 #include <inttypes.h>
-#include <stdio.h>
-#include <stdlib.h>
 #include <string.h>
 #include "../../include/foskadoin.h"
+#include "vectors.h"
 
 enum { MOST = 1 << 16, MARK = 0xA5A5A5A5 };
 static uint32_t line[MOST];
 static size_t count, at, jobs, wrong;
-
-static FILE *vectors(const char *folder, const char *name) {
-    char path[4096];
-    snprintf(path, sizeof path, "%s/%s", folder, name);
-    FILE *file = fopen(path, "r");
-    if (!file) perror(path), exit(2);
-    return file;
-}
 
 // The numbers of the next line.
 static int next_line(FILE *file) {

@@ -3,10 +3,9 @@
 #define _GNU_SOURCE
 #include <inttypes.h>
 #include <pthread.h>
-#include <stdio.h>
-#include <stdlib.h>
 #include <string.h>
 #include "../../include/foskadoin.h"
+#include "vectors.h"
 
 enum { STACK = 1 << 20, PAINT = 0xC3, WORDS = 256, PLACES = 1 << 16 };
 static uint32_t ticket[WORDS], lists[4][PLACES], Q[2][WORDS], P[2][WORDS];
@@ -50,14 +49,6 @@ static void measure(int call) {
     size_t free_bytes = 0;
     while (stack[free_bytes] == PAINT) free_bytes++;
     if (STACK - free_bytes > calls[call].most) calls[call].most = STACK - free_bytes;
-}
-
-static FILE *vectors(const char *folder, const char *name) {
-    char path[4096];
-    snprintf(path, sizeof path, "%s/%s", folder, name);
-    FILE *file = fopen(path, "r");
-    if (!file) perror(path), exit(2);
-    return file;
 }
 
 static size_t counted(FILE *file, uint32_t *list) {
