@@ -43,7 +43,7 @@ module _ {A B : Type 0} {o : Ops A} {K : Field B} {M : Model o (F K)} {g : ℕ} 
   q = lists.Q o D d
 
   -- ---- the test
-  size-length : (i : ℕ) → size o (q i) ≡ length (q i)
+  pub size-length : (i : ℕ) → size o (q i) ≡ length (q i)
   size-length i = size-is M (q i) ∙ ap length (Q-trim s i)
 
   pub constant-true : (i : ℕ) → constant? o D d i ≡ true → length (q i) ≡ 1

@@ -1,0 +1,4 @@
+pub mod PolynomialPart
+pub mod Pigeonhole
+pub mod Digits
+pub mod QuasiPeriod
