@@ -20,7 +20,8 @@ use Rattle.printed.specs.Lines.{Prints}
 abbrev pub longest : ℕ → List ℕ
 longest k = bytes (ticket 3 (1 ∷ (replicate 63 0 ++ (1 ∷ []))) 0) ++ replicate k 0
 
--- "from the first 280 bytes of standard input, later ones ignored; a cut word among these bytes is refusal 1": 277 bytes are a cut word, 280 a word too many, and of 281 the last is ignored
+-- "from the first 280 bytes of standard input, later ones ignored; a cut word among these bytes is refusal 1":
+-- 277 bytes are a cut word, 280 a word too many, and of 281 the last is ignored
 abbrev pub Lengths : Type 0
 Lengths =
     (length (longest 0) ≡ 276)

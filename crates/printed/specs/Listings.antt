@@ -1,5 +1,5 @@
--- What the program prints after "found", by computation: numbers of one to four digits, and degrees other than the printed example's. The texts were found by a program apart
--- (vectors/check.py), which follows document 01 too.
+-- What the program prints after "found", by computation: numbers of one to four digits, and degrees other than the printed example's. The texts come from
+-- a model of document 01 in another language (vectors/check.py).
 use mathlib.Core.Path.{refl}
 use mathlib.Core.List.{[], _∷_}
 use Rattle.definitions.specs.Field.{inverse, inverseIn}
