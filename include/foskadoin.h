@@ -27,9 +27,11 @@
      9  a list of Q has not n/2 numbers, or a list of P not n/2 - 1, or a number is q or more, or a Q is not monic, or a P has not a lower degree than its Q, or a
         Q does not divide D - P^2 (foskadoin_product, foskadoin_giant_step)
     10  a distance is above 2^40 (foskadoin_giant_step)
+    11  spent: the quasi-period m is above the budget b (foskadoin_regulator, foskadoin_unit, foskadoin_listing). The one refusal that carries counts: the steps made, b,
+        and the degree reached
     12  a list of the unit is shorter than R + 1 places (foskadoin_unit)
     13  the list is shorter than m * (n + 4) words (foskadoin_listing)
-   11 (regulator, unit, listing), after 1 to 7 and before 12 and 13: spent, the quasi-period m is above b; never a refusal.
+   1 to 10 are refused because of the input, 11 to 13 because of the state, which is tested after the input.
 
    The walk of sqrt(D): d is the monic polynomial of degree n/2 with deg(D - d^2) < n/2; P_0 = 0, Q_0 = 1, a_0 = d; then P_i = a_(i-1) Q_(i-1) - P_(i-1),
    Q_i = (D - P_i^2) / Q_(i-1), a_i = (P_i + d) div Q_i. p_(-1) = 1, p_0 = d, p_i = a_i p_(i-1) + p_(i-2); s_(-1) = 0, s_0 = 1, and s_i likewise. The
@@ -47,9 +49,9 @@ extern "C" {
 #endif
 
 /* words: how many words the ticket has.
-   number 0, found:        first = R, the regulator; second = m, the quasi-period; third = c = p^2 - D * s^2 of the unit, 1 to q - 1
-   number 11, spent:       first = b, the steps made; second = deg p_(b-1), the degree reached (0 for b = 0); third = 0
-   another number, refused: 0, 0, 0 */
+   number 0, found:          first = R, the regulator; second = m, the quasi-period; third = c = p^2 - D * s^2 of the unit, 1 to q - 1
+   number 11, spent:         first = b, the steps made; second = deg p_(b-1), the degree reached (0 for b = 0); third = 0
+   another number, refused:  0, 0, 0 */
 struct foskadoin_numbers {
     uint64_t words, number, first, second, third;
 };
@@ -59,20 +61,20 @@ struct foskadoin_part {
     uint64_t offset, length;
 };
 
-/* The regulator. Refusals 1 to 7. */
+/* The regulator. Refusals 1 to 7 and 11. */
 struct foskadoin_numbers foskadoin_regulator(const uint32_t *ticket, size_t ticket_length);
 
-/* The unit p + s * sqrt(D) in four lists of R + 1 places or more. Refusals 1 to 7 and 12.
+/* The unit p + s * sqrt(D) in four lists of R + 1 places or more. Refusals 1 to 7, 11 and 12.
    Found: places 0 to R of p and s are the coefficients, from the constant term on, with zeros above the degree; places 0 to R of x and y are 0;
-   every later place of the four is as before the call. Spent or refused: every place of the four is as before the call. */
+   every later place of the four is as before the call. After a refusal, 11 among them, every place of the four is as before the call. */
 struct foskadoin_numbers foskadoin_unit(const uint32_t *ticket, size_t ticket_length, uint32_t *p, size_t p_length, uint32_t *s, size_t s_length,
                                         uint32_t *x, size_t x_length, uint32_t *y, size_t y_length);
 
-/* The listing, m records of n + 4 words, in a list of m * (n + 4) words or more. Refusals 1 to 7 and 13.
+/* The listing, m records of n + 4 words, in a list of m * (n + 4) words or more. Refusals 1 to 7, 11 and 13.
    A record: 5|index, 6|distance div 2^28, 7|distance mod 2^28, 10|mirror div 2^28, 11|mirror mod 2^28, 8|coefficient for each of Q (n/2),
    9|coefficient for each of P (n/2 - 1), both from the constant term on with zeros above the degree. The record of index i, from 1 to m, has Q_(i-1) divided by its
    leading coefficient as Q, P_(i-1) mod Q as P, the distance deg p_(i-2) (0 for i = 1) and the mirror R less the distance.
-   Found: the first m * (n + 4) words are the records, every later word is as before the call. Spent or refused: every word is as before the call. */
+   Found: the first m * (n + 4) words are the records, every later word is as before the call. After a refusal, 11 among them, every word is as before the call. */
 struct foskadoin_numbers foskadoin_listing(const uint32_t *ticket, size_t ticket_length, uint32_t *out, size_t out_length);
 
 /* Where the record with the largest distance at most y stands. The list is the words of a listing and nothing after them: hand in its

@@ -8,7 +8,8 @@ use Rattle.definitions.specs.Polynomials.{root}
 use Rattle.definitions.specs.Ticket.{Ticket, genus, ticketOf, refusalOf}
 use Rattle.definitions.specs.Walk.{quasiPeriod, degreeBefore, constantOf}
 
--- "one of three outcomes: found with R, m, c; spent with its counts; refused with its number"; spent says that the budget is used up
+-- "one of three outcomes: found with R, m, c; spent with its counts; refused with its number"
+-- spent says that the step budget is used up before the quasi-period
 pub data Outcome : Type 0 where
   found : ℕ → ℕ → ℕ → Outcome
   spent : ℕ → ℕ → Outcome

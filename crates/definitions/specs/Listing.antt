@@ -25,7 +25,7 @@ pub record ListingAnswer : Type 0 where
 unfoldable pub idealOf : Ops ℕ → Ideal ℕ → Ideal ℕ
 idealOf o s = let m = monic o (s .q) in record { q = m; p = rem o (s .p) m }
 
--- "A record's mirror is R less its distance.": document 01's own term; it is not the distance of the conjugate ideal
+-- "A record's mirror is R less its distance.": document 01's own term, the distance left to the end of the quasi-period, not the distance of the conjugate ideal
 unfoldable pub mirrorOf : ℕ → Entry → ℕ
 mirrorOf R e = R - e .distance
 

@@ -47,7 +47,7 @@ module _ {A : Type 0} (o : Ops A) (D d : List A) (g : ℕ) where
   degreeSum s zero = 0
   degreeSum s (suc k) = degreeSum s k + deg o (partial o D d (steps o D d s (suc k)))
 
-  -- "f = deg Q_k − deg Q + (sum of deg a_j, j from 1 to k) − deg S"
+  -- "f = deg Q_k − deg Q + (sum of deg a_j, j from 1 to k) − deg S"; source 000, theorem 3.7, calls it the "error" of the two distances' sum
   unfoldable pub shiftOf : Product A → ℤ
   shiftOf r =
       let k : ℕ = turnsOf (r .ideal) in

@@ -9,6 +9,7 @@ use Rattle.definitions.specs.Polynomials.{size, gcd, derivative}
 use Rattle.definitions.specs.Primes.{oddPrime}
 use Rattle.definitions.specs.Words.{kind, value, same, someFrom}
 
+-- the ticket is the job record: which field, which D, and how many steps at most
 -- "kind 1: q; kind 2: n; kind 3, n+1 words: the coefficients of D, constant term first; kind 4: the step budget b"
 pub record Ticket : Type 0 where
   pub q : ℕ

@@ -12,7 +12,7 @@ pub record Ideal (A : Type 0) : Type 0 where
   pub q : List A
   pub p : List A
 
--- the unit (p, s)
+-- the unit (p, s): p + s·√D is the fundamental unit of F_q[x, √D] up to a constant factor
 pub record Unit (A : Type 0) : Type 0 where
   pub p : List A
   pub s : List A
@@ -70,10 +70,11 @@ module _ {A : Type 0} (o : Ops A) (D d : List A) where
   firstFrom (suc k) i = elim (constant? i) [ true ↦ some i | false ↦ firstFrom k (suc i) ]
 
   -- "The walk stops at the first index from 1 up whose Q is a nonzero constant, and that index m is its yield. m is the quasi-period": within a budget b
+  -- from the quasi-period on the expansion repeats up to constant factors (source 000, section 2C)
   unfoldable pub quasiPeriod : ℕ → Option ℕ
   quasiPeriod b = firstFrom b 1
 
-  -- deg p_{i−1}: "R = deg p_{m−1} the regulator", "The degree reached when spent is deg p_{b−1}"
+  -- deg p_{i−1}: "R = deg p_{m−1} the regulator", which is the degree of the fundamental unit; "The degree reached when spent is deg p_{b−1}"
   unfoldable pub degreeBefore : ℕ → ℕ
   degreeBefore i = deg o (pBefore i)
 
@@ -81,6 +82,6 @@ module _ {A : Type 0} (o : Ops A) (D d : List A) where
   unfoldable pub unitOf : ℕ → Unit A
   unitOf m = record { p = pBefore m; s = sBefore m }
 
-  -- "c = (−1)^m·Q_m the constant"
+  -- "c = (−1)^m·Q_m the constant": the unit's norm, p² − D·s²
   unfoldable pub constantOf : ℕ → A
   constantOf m = elim (eqb (m % 2) 0) [ true ↦ at o (Q m) 0 | false ↦ o .sub (o .zer) (at o (Q m) 0) ]

@@ -1,0 +1,1 @@
+// What the program prints, by computation: everything stands in specs/.
