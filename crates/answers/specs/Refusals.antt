@@ -1,5 +1,5 @@
--- T1 at the level of the answers: a call answers `refused k` exactly where sentence k is the first that applies, for every number k: 1 to 7 of any list of words, then 9 and 10, and
--- after these the state's 11, 12 and 13. 11 comes before 12 and 13: where the walk is spent, a list may have any length.
+-- T1 at the level of the answers: a call answers `refused k` exactly where sentence k is the first that applies, for every number k: 1 to 7 of any list of words,
+-- then 9 and 10, and after the input the state's 11, 12 and 13. 11 comes before 12 and 13: where the walk is spent, a lent list may have any length.
 use Prim.Native.Nat.{ℕ, zero, suc, _+_, _*_, _-_, _/_, _≤_, _<_}
 use native.Mathlib.Nat.{suc-mul, mul-le-mul-right, div-mul-le-self, eq-or-lt-of-le}
 use native.Mathlib.Omega.{arith}

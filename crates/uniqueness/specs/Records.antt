@@ -1,6 +1,6 @@
--- A record's words are the only ones: two lists whose words are read as the same record of the walk have the same words there. So a list that is read as record j + 1 has the words of the
--- definitions, and a list that is read as every record from 1 to m and keeps the words after them is the list at exit. Neither the list's length nor that a word is below 2^32 is asked for:
--- the kinds tell that the words are there, and a word is its kind and its value.
+-- A record's words are the only ones: two lists whose words are read as the same record of the walk have the same words there. So a list that is read as record
+-- j + 1 has the words of the definitions, and a list that is read as every record from 1 to m and keeps the words after them is the list at exit. Neither a length
+-- nor a bound on the words is asked for: the kinds tell that the words are there, and a word is its kind and its value.
 use Prim.Native.Nat.{ℕ, zero, suc, _+_, _*_, _-_, _/_, _%_, _≤_, _<_}
 use native.Mathlib.Nat.{mod-lt, mod-eq-of-lt, div-add-mod', div-lt-iff-lt-mul}
 use native.Mathlib.Omega.{arith}
