@@ -1,1 +1,4 @@
+pub mod Refusals
 pub mod Outcomes
+pub mod Units
+pub mod Records

@@ -1,1 +1,1 @@
-// The demands in the words of document 01 about the answers of the calls: statements and proofs stand in specs/.
+// The demands on what the public calls answer: at the level of the answers, and in the words and places at exit. Statements and proofs stand in specs/.

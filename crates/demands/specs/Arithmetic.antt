@@ -62,10 +62,10 @@ module _ (q : ℕ) (p : Prime q) (more : 2 < q) where
   abbrev M : Model (modulo q) (F K)
   M = model q (pos q p)
 
-  series-same : (f h : List ℕ) → series M f ≡ series M h → Same q f h
+  pub series-same : (f h : List ℕ) → series M f ≡ series M h → Same q f h
   series-same f h e i = to-val q (pos q p) _ _ (ap (λ (u : Px K). u i) e)
 
-  same-series : (f h : List ℕ) → Same q f h → series M f ≡ series M h
+  pub same-series : (f h : List ℕ) → Same q f h → series M f ≡ series M h
   same-series f h e = fun-ext (λ i. to-path q (pos q p) _ _ (e i))
 
   -- a factor where nothing remains, and back

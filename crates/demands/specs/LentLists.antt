@@ -51,7 +51,7 @@ abbrev pub T1Lists : Type 0
 T1Lists = ((w : List ℕ) (l : Lists) → UnitKeeps (wordsOutcome w) l (unitAnswer w l)) × ((w l : List ℕ) → ListingKeeps (ticketOf w) (wordsOutcome w) l (listingAnswer w l))
 
 -- ---- rooms
-at-least : (k m : ℕ) {P : Type 0} → ¬ P → (m < k → P) → k ≤ m
+pub at-least : (k m : ℕ) {P : Type 0} → ¬ P → (m < k → P) → k ≤ m
 at-least k m never f = ⊎-elim (λ s. s) (λ s. absurd (never (f s))) (le-or-lt k m)
 
 and-false : (a : Bool) → (a && false) ≡ false
@@ -111,10 +111,10 @@ module _ {R m c R′ m′ c′ : ℕ} where
 not-found : (x : Outcome) (R m c : ℕ) → ((R m c : ℕ) → x ≡ found R m c → ⊥) → said x ≡ said (found R m c) → ⊥
 not-found x R m c never e = never R m c (said-injective x (found R m c) e)
 
-spent-not : (k e R m c : ℕ) → spent k e ≡ found R m c → ⊥
+pub spent-not : (k e R m c : ℕ) → spent k e ≡ found R m c → ⊥
 spent-not k e R m c h = let z : _≡_ {A = ℕ} 0 1 = cc in omega arith
 
-refused-not : (j R m c : ℕ) → refused j ≡ found R m c → ⊥
+pub refused-not : (j R m c : ℕ) → refused j ≡ found R m c → ⊥
 refused-not j R m c h = let z : _≡_ {A = ℕ} 0 1 = cc in omega arith
 
 -- an outcome other than found is passed on, with the lists as they are
@@ -197,7 +197,7 @@ listing-keeps t (found R m c) l even = go (leb (m * (t .n + 4)) (length l)) refl
     }
 
 -- what is found is past the refusals
-found-passes : (w : List ℕ) (R m c : ℕ) → wordsOutcome w ≡ found R m c → refusalOf w ≡ 0
+pub found-passes : (w : List ℕ) (R m c : ℕ) → wordsOutcome w ≡ found R m c → refusalOf w ≡ 0
 unfolding wordsOutcome
 found-passes w R m c = go (refusalOf w)
   where

@@ -21,15 +21,15 @@ kind-word : (k v : ℕ) → v < 268435456 → kind (word k v) ≡ k
 unfolding kind word
 kind-word k v h = mul-add-div-right (omega arith) k v ∙ ap (λ (x : ℕ). k + x) (div-eq-of-lt h) ∙ add-zero k
 
-value-word : (k v : ℕ) → v < 268435456 → value (word k v) ≡ v
+pub value-word : (k v : ℕ) → v < 268435456 → value (word k v) ≡ v
 unfolding value word
 value-word k v h = mul-add-mod-self-right k 268435456 v ∙ mod-eq-of-lt h
 
-low-less : (x : ℕ) → low x < 268435456
+pub low-less : (x : ℕ) → low x < 268435456
 unfolding low
 low-less x = mod-lt x (omega arith)
 
-joined-back : (x : ℕ) → joined (high x) (low x) ≡ x
+pub joined-back : (x : ℕ) → joined (high x) (low x) ≡ x
 unfolding joined high low
 joined-back x = div-add-mod' x 268435456
 

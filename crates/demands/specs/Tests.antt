@@ -89,7 +89,7 @@ module _ (P : ℕ → Type 0) where
   abbrev pub First : ℕ → Type 0
   First k = P k × NoneBelow k
 
-  none-more : {k : ℕ} → NoneBelow k → ¬ P k → NoneBelow (suc k)
+  pub none-more : {k : ℕ} → NoneBelow k → ¬ P k → NoneBelow (suc k)
   none-more {k} none h j low high = ⊎-elim (λ (e : suc j ≡ suc k). λ p. h (subst P (omega arith) p)) (λ (l : suc j < suc k). none j low (omega arith)) (eq-or-lt-of-le high)
 
   -- the tests are numbered from k; each is that of its statement, where none before that holds

@@ -71,6 +71,11 @@ take-written q (suc k) [] r h (suc i) = take-written q k [] r (omega arith) i
 take-written q (suc k) (x ∷ l) r h zero = refl
 take-written q (suc k) (x ∷ l) r h (suc i) = take-written q k l r (omega arith) i
 
+-- s has at most as many coefficients as p
+pub s-fits : {q g : ℕ} {D : List ℕ} → Admitted q g D → (m : ℕ) → length (sBefore (modulo q) D (root (modulo q) D (suc g)) m) ≤ suc (degreeBefore (modulo q) D (root (modulo q) D (suc g)) m)
+s-fits {q} {g} {D} h zero = let e : length (sBefore (modulo q) D (root (modulo q) D (suc g)) 0) ≡ 0 = ap length (s-zero (surd-of h)) in omega arith
+s-fits h (suc m) = let e = s-length (surd-of h) m in omega arith
+
 -- ---- the call's answer
 module _ (t : Ticket) where
   -- the unit found has at most R + 1 coefficients
@@ -104,13 +109,9 @@ module _ (t : Ticket) where
       d : List ℕ
       d = root (opsOf t) (t .D) (suc (genus (t .n)))
 
-      short : (m : ℕ) → length (sBefore (opsOf t) (t .D) d m) ≤ suc (degreeBefore (opsOf t) (t .D) d m)
-      short zero = let e : length (sBefore (opsOf t) (t .D) d 0) ≡ 0 = ap length (s-zero (surd-of h)) in omega arith
-      short (suc m) = let e = s-length (surd-of h) m in omega arith
-
       go : (x : Option ℕ) → Fits (elim x [ none ↦ spent (t .b) (degreeBefore (opsOf t) (t .D) d (t .b)) | some m ↦ found (degreeBefore (opsOf t) (t .D) d m) m (constantOf (opsOf t) (t .D) d m) ])
       go none = tt
-      go (some m) = ((let e = p-length (surd-of h) m in omega arith), short m)
+      go (some m) = ((let e = p-length (surd-of h) m in omega arith), s-fits h m)
 
 pub t3-unit : T3-unit
 unfolding unitAnswer wordsOutcome unitFrom

@@ -1,0 +1,4 @@
+pub mod Refusals
+pub mod Lookups
+pub mod Units
+pub mod Records
