@@ -1,0 +1,5 @@
+pub mod Division
+pub mod Walk
+pub mod Outcomes
+pub mod Products
+pub mod GiantSteps

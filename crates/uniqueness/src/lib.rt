@@ -1,0 +1,1 @@
+// Whatever satisfies a statement of `demands` is the definition's value: everything stands in specs/.
