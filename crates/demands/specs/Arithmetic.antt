@@ -1,4 +1,5 @@
--- "Div and mod are division with remainder": for every allowed q and all lists, a = quo·b + rem with a remainder of lower degree than b; 1/a is the inverse of a; gcd has the paper's rule.
+-- "Div and mod are division with remainder": for every allowed q and all lists, a = quo·b + rem with a remainder of lower degree than b; 1/a is the inverse of a; gcd has the paper's rule,
+-- divides both polynomials, and is divided by each polynomial that does.
 -- What it is to divide is said with a factor, not with a remainder; both say the same. Polynomials are lists of any numbers and any length, read modulo q.
 use Prim.Native.Nat.{ℕ, _*_, _%_, _<_}
 use native.Mathlib.Nat.{eq-zero-or-pos}
@@ -12,7 +13,8 @@ use Rattle.ring.specs.Identity.{ring, quote}
 use Rattle.ring.specs.Series.{Series, addS, conv}
 use Rattle.algebra.specs.Field.{Field}
 use Rattle.algebra.specs.Polynomial.{F, Px, Monic}
-use Rattle.algebra.specs.Gcd.{gcd-monic}
+use Rattle.algebra.specs.Divides.{Divides as DividesIn}
+use Rattle.algebra.specs.Gcd.{IsGcd, gcd-monic, gcd-greatest}
 use Rattle.definitions.specs.Field.{modulo, inverse}
 use Rattle.definitions.specs.Polynomials.{size, lead, add, mul, quo, rem, monic, gcd}
 use Rattle.bridge.specs.Model.{Model, Inverts, Oks, series, series-nil}
@@ -50,6 +52,9 @@ pub record GcdRule (q : ℕ) (a b : List ℕ) : Type 0 where
   pub base : size (modulo q) b ≡ 0 → gcd (modulo q) a b ≡ monic (modulo q) a
   pub none : size (modulo q) a ≡ 0 → size (modulo q) b ≡ 0 → gcd (modulo q) a b ≡ []
   pub leads : gcd (modulo q) a b ≢ [] → lead (modulo q) (gcd (modulo q) a b) ≡ 1
+  pub divides-first : Divides q (gcd (modulo q) a b) a
+  pub divides-second : Divides q (gcd (modulo q) a b) b
+  pub greatest : (f : List ℕ) → Divides q f a → Divides q f b → Divides q f (gcd (modulo q) a b)
 
 abbrev pub Euclid : Type 0
 Euclid = (q : ℕ) → AllowedPrime q → (a b : List ℕ) → GcdRule q a b
@@ -62,6 +67,7 @@ module _ (q : ℕ) (p : Prime q) (more : 2 < q) where
   abbrev M : Model (modulo q) (F K)
   M = model q (pos q p)
 
+  -- the same polynomial modulo q and over the field
   pub series-same : (f h : List ℕ) → series M f ≡ series M h → Same q f h
   series-same f h e i = to-val q (pos q p) _ _ (ap (λ (u : Px K). u i) e)
 
@@ -74,8 +80,15 @@ module _ (q : ℕ) (p : Prime q) (more : 2 < q) where
       let c : List ℕ = quo (modulo q) h f in
       (c, series-same h (mul (modulo q) f c) (series-quo-rem M h f ∙ ap (addS (F K) (conv (F K) (series M c) (series M f))) (ap (series M) e ∙ series-nil M) ∙ ring (Series (F K)) (series M c ∷ series M f ∷ []) (search quote depth 40 fits 9999) tt ∙ sym (series-mul M f c)))
 
+  -- over the field
+  pub divides-series : (h f : List ℕ) → Divides q f h → DividesIn K (series M f) (series M h)
+  divides-series h f (e, s) = record { by = series M e; size = length e; low = below-length M e; is = same-series h (mul (modulo q) f e) s ∙ series-mul M f e }
+
+  pub series-divides : (h f : List ℕ) → DividesIn K (series M f) (series M h) → Divides q f h
+  series-divides h f d = rem-divides h f (divides-rem-none K M (inverts q (pos q p) p) h f d)
+
   pub divides-rem : (h f : List ℕ) → Divides q f h → rem (modulo q) h f ≡ []
-  divides-rem h f (e, s) = divides-rem-none K M (inverts q (pos q p) p) h f (record { by = series M e; size = length e; low = below-length M e; is = same-series h (mul (modulo q) f e) s ∙ series-mul M f e })
+  divides-rem h f d = divides-rem-none K M (inverts q (pos q p) p) h f (divides-series h f d)
 
   divided : (a b : List ℕ) → size (modulo q) b ≢ 0 → Divided q a b
   divided a b some = record {
@@ -93,16 +106,22 @@ module _ (q : ℕ) (p : Prime q) (more : 2 < q) where
   pub lead-is-one : (l : List ℕ) {n : ℕ} → Oks M l → Monic K (series M l) n → lead (modulo q) l ≡ 1
   lead-is-one l {n} k m = M .inj (lead (modulo q) l) 1 (subst (λ (a : ℕ). a < q) (sym (lead-is M l)) (k _)) (omega arith) (ap (M .φ) (lead-is M l) ∙ ap (series M l) (let e = monic-size K M l m in omega arith) ∙ m .top)
 
-  gcd-rules : (a b : List ℕ) → GcdRule q a b
+  pub gcd-rules : (a b : List ℕ) → GcdRule q a b
   gcd-rules a b = record {
     step = λ some. gcd-rule M I a b (let e = size-is M b in omega arith);
     base = zero;
     none = λ e f. zero f ∙ sym (trim-monic M I a) ∙ trim-nil M (monic (modulo q) a) (let k = length-monic M I a in let l = size-is M a in let t = ap length (trim-monic M I a) in omega arith);
-    leads = λ some. lead-is-one (gcd (modulo q) a b) (oks-gcd M I a b) (gcd-monic K (gcd-is K M I a b) (λ e. some (sym (trim-gcd M I a b) ∙ zero-size K M (gcd (modulo q) a b) e)) .1);
+    leads = λ some. lead-is-one (gcd (modulo q) a b) (oks-gcd M I a b) (gcd-monic K is (λ e. some (sym (trim-gcd M I a b) ∙ zero-size K M (gcd (modulo q) a b) e)) .1);
+    divides-first = series-divides a (gcd (modulo q) a b) (is .left);
+    divides-second = series-divides b (gcd (modulo q) a b) (is .right);
+    greatest = λ f u v. series-divides (gcd (modulo q) a b) f (gcd-greatest K is (divides-series a f u) (divides-series b f v));
   }
     where
       I : Inverts M
       I = inverts q (pos q p) p
+
+      is : IsGcd K (series M a) (series M b) (series M (gcd (modulo q) a b))
+      is = gcd-is K M I a b
 
       zero : size (modulo q) b ≡ 0 → gcd (modulo q) a b ≡ monic (modulo q) a
       zero f = gcd-zero M I a b (trim-nil M b (sym (size-is M b) ∙ f))

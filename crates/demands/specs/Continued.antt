@@ -1,7 +1,7 @@
 -- T2: the walk of a ticket past its refusals is the continued fraction of √D. d is the only monic polynomial of degree g + 1 with deg(D − d²) ≤ g; the walk's equations,
 -- the norms and the determinant hold at every index, with no bound; and the outcome is told by the least index whose Q is a nonzero constant.
 -- Polynomials are lists of coefficients, read modulo q. The proof reads the equations of the continued fraction off as equations of lists.
-use Prim.Native.Nat.{ℕ, zero, suc, _+_, _-_, _%_, _≤_, _<_}
+use Prim.Native.Nat.{ℕ, zero, suc, _+_, _%_, _≤_, _<_}
 use native.Mathlib.Nat.{mod-eq-of-lt}
 use native.Mathlib.Omega.{arith}
 use mathlib.Core.Path.{_≡_, refl, sym, ap, ap₂, _∙_, subst}
@@ -76,11 +76,15 @@ module _ (q : ℕ) (D d : List ℕ) where
   s = walk.sBefore (modulo q) D d
 
   -- at every index i: `product` is Q_i·Q_{i+1} = D − P_{i+1}², `sum` is P_{i+1} + P_i = a_i·Q_i, `quotient` is deg((P_i + d) − a_i·Q_i) < deg Q_i, so that a_i is the quotient
-  -- of P_i + d by Q_i, `norm` is p_{i−1}² − D·s_{i−1}² = (−1)^i·Q_i, `determinant` is p_i·s_{i−1} − p_{i−1}·s_i = (−1)^{i+1}, and `degree` is deg p_i = (g + 1) + deg a_1 + .. + deg a_i
+  -- of P_i + d by Q_i, `norm` is p_{i−1}² − D·s_{i−1}² = (−1)^i·Q_i, `determinant` is p_i·s_{i−1} − p_{i−1}·s_i = (−1)^{i+1}, and `degree` is deg p_i = (g + 1) + deg a_1 + .. + deg a_i;
+  -- every Q_i is reduced, deg Q_i ≤ g, and no a_i is constant, as deg a_i = (g + 1) − deg Q_i
   pub record Continued (g : ℕ) : Type 0 where
     pub root : RootOf q g D d
     pub root-only : (f : List ℕ) → RootOf q g D f → Same q f d
     pub Q-not-zero : (i : ℕ) → size (modulo q) (Q i) ≢ 0
+    pub Q-most : (i : ℕ) → deg (modulo q) (Q i) ≤ g
+    pub a-least : (i : ℕ) → 1 ≤ deg (modulo q) (a i)
+    pub a-degree : (i : ℕ) → deg (modulo q) (a i) + deg (modulo q) (Q i) ≡ suc g
     pub product : (i : ℕ) → Q i ⊗ Q (suc i) ≡ D ⊖ P (suc i) ⊗ P (suc i)
     pub sum : (i : ℕ) → P (suc i) ⊕ P i ≡ a i ⊗ Q i
     pub quotient : (i : ℕ) → size (modulo q) (P i ⊕ d ⊖ a i ⊗ Q i) < size (modulo q) (Q i)
@@ -176,17 +180,20 @@ module _ {q g : ℕ} {D : List ℕ} (h : Admitted q g D) where
   rest-less : (i : ℕ) → size (modulo q) (rest i) < size (modulo q) (walk.Q (modulo q) D d i)
   rest-less i = let e = size-series M (rest i) (remainder z i) (rest-series i) in let k = size-is M (rest i) in let t = ap length (r-trim z i) in let l = r-length z i in let u = size-Q i in omega arith
 
+  deg-Q : (i : ℕ) → suc (deg (modulo q) (walk.Q (modulo q) D d i)) ≡ length (walk.Q (modulo q) D d i)
+  deg-Q i = let e = deg-is K M (walk.Q (modulo q) D d i) in let t = ap length (Q-trim z i) in let k = Q-some z i in omega arith
+
+  -- deg a_i = g + 1 − deg Q_i
+  deg-a : (i : ℕ) → deg (modulo q) (walk.a (modulo q) D d i) + length (walk.Q (modulo q) D d i) ≡ suc (suc g)
+  deg-a i = let e = deg-is K M (walk.a (modulo q) D d i) in let t = ap length (a-trim z i) in let u = a-length z i in let v = Q-length z i in omega arith
+
   degrees : (i : ℕ) → degreeBefore (modulo q) D d (suc i) ≡ suc g + sumTo (λ j. deg (modulo q) (walk.a (modulo q) D d j)) i
   unfolding sumTo
   degrees zero = let e = degree-suc z 0 in let k = degree-zero z in let l : length (walk.Q (modulo q) D d 0) ≡ 1 = ap length (Q-zero z) in omega arith
   degrees (suc i) =
       let e = degrees i in
       let k = degree-suc z (suc i) in
-      let l = deg-is K M (walk.a (modulo q) D d (suc i)) in
-      let t = ap length (a-trim z (suc i)) in
-      let u = a-length z (suc i) in
-      let v = Q-length z (suc i) in
-      let x = Q-some z (suc i) in
+      let l = deg-a (suc i) in
       omega arith
 
   continued : Continued q D d g
@@ -195,6 +202,9 @@ module _ {q g : ℕ} {D : List ℕ} (h : Admitted q g D) where
     root = root-of;
     root-only = only;
     Q-not-zero = λ i e. let k = Q-some z i in let l = size-Q i in omega arith;
+    Q-most = λ i. let e = deg-Q i in let l = Q-length z i in omega arith;
+    a-least = λ i. let e = deg-a i in let l = Q-length z i in omega arith;
+    a-degree = λ i. let e = deg-a i in let l = deg-Q i in omega arith;
     product = norms.Q-product z;
     sum = norms.P-product z;
     quotient = rest-less;

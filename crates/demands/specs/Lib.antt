@@ -5,6 +5,7 @@ pub mod Squares
 pub mod FirstRefusal
 pub mod LeastDegree
 pub mod Arithmetic
+pub mod Operations
 pub mod Continued
 pub mod Records
 pub mod Pairs

@@ -14,7 +14,7 @@ use Rattle.surd.specs.Step.{State}
 use Rattle.ring.specs.Residues.{Fq}
 use Rattle.ring.specs.Series.{addS, conv}
 use Rattle.definitions.specs.Field.{modulo}
-use Rattle.definitions.specs.Polynomials.{size, deg, lead, quo, rem, monic, root}
+use Rattle.definitions.specs.Polynomials.{size, deg, lead, add, quo, rem, monic, gcd, root}
 use Rattle.definitions.specs.Ticket.{Ticket, genus, ticketOf, refusalOf}
 use Rattle.definitions.specs.Walk.{Ideal, partial, steps}
 use Rattle.definitions.specs.Answers.{opsOf, rootOf}
@@ -38,7 +38,7 @@ use Rattle.laws.specs.Reduction.{next-divides, stated, Q-size, a-size, turns-fi
 use Rattle.laws.specs.Reduced.{reduced-ideal}
 use Rattle.laws.specs.Shift.{turns-few, shift-not-positive, shift-least}
 use Rattle.demands.specs.Sentences.{Operators, operators}
-use Rattle.demands.specs.Arithmetic.{Divides, lead-is-one}
+use Rattle.demands.specs.Arithmetic.{Divides, lead-is-one, gcd-rules}
 use Rattle.demands.specs.Tests.{tests-none}
 use Rattle.demands.specs.Continued.{sumTo}
 use Rattle.demands.specs.Pairs.{IsPair, GivenPair, WrongDistance, exact, is-pair, pairs-passed, tests-distances, product-by, giant-by}
@@ -61,6 +61,7 @@ module _ (q : ℕ) where
     pub S-first : Divides q S (x .q)
     pub S-second : Divides q S (y .q)
     pub S-sum : Divides q S (x .p ⊕ y .p)
+    pub S-greatest : (f : List ℕ) → Divides q f (x .q) → Divides q f (y .q) → Divides q f (x .p ⊕ y .p) → Divides q f S
     pub S-combines : (u : List ℕ) × (v : List ℕ) × (w : List ℕ) × Combines x y S u v w
     pub Q-square : Q ⊗ (S ⊗ S) ≡ x .q ⊗ y .q
     pub Q-most : deg (modulo q) Q ≤ g + g
@@ -155,6 +156,7 @@ module _ {q g : ℕ} {D : List ℕ} (h : Admitted q g D) {x y : Ideal ℕ} (px :
     S-first = exact h (x .q) S (S-divides K M I D hx hy .0);
     S-second = exact h (y .q) S (S-divides K M I D hx hy .1);
     S-sum = exact h _ S (S-divides K M I D hx hy .2);
+    S-greatest = λ f u v w. gcd-rules q (h .prime) (h .odd) (gcd (modulo q) (x .q) (y .q)) (add (modulo q) (x .p) (y .p)) .greatest f (gcd-rules q (h .prime) (h .odd) (x .q) (y .q) .greatest f u v) w;
     S-combines = (bezoutU (modulo q) x y, bezoutV (modulo q) x y, bezoutW (modulo q) x y, combines _ _ _ (bezout-gives K M I D x y));
     Q-square = Q-product K M I D hx hy;
     Q-most = let e = product.Q-size K M I D hx hy in let e′ = deg-is K M Q₀ in let a = pair-degree h px in let b = pair-degree h py in omega arith;

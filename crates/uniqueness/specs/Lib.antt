@@ -1,3 +1,8 @@
+pub mod Division
+pub mod Walk
+pub mod Outcomes
+pub mod Products
+pub mod GiantSteps
 pub mod Refusals
 pub mod Lookups
 pub mod Units

@@ -1,1 +1,1 @@
-// The answers are the only ones: what satisfies the statements of `demands` and `answers` is what the definitions give. Everything stands in specs/.
+// Whatever satisfies a statement of `demands` or `answers` is what the definitions give. Everything stands in specs/.
