@@ -1,5 +1,5 @@
--- "Div and mod are division with remainder": for every allowed q and all lists, a = quo·b + rem with a remainder of lower degree than b; 1/a is the inverse of a; gcd has the paper's rule,
--- divides both polynomials, and is divided by each polynomial that does.
+-- "Div and mod are division with remainder": for every allowed q and all lists, a = quo·b + rem with a remainder of lower degree than b; 1/a is the inverse of a;
+-- gcd has the paper's rule, divides both polynomials, and every polynomial that divides both divides it.
 -- What it is to divide is said with a factor, not with a remainder; both say the same. Polynomials are lists of any numbers and any length, read modulo q.
 use Prim.Native.Nat.{ℕ, _*_, _%_, _<_}
 use native.Mathlib.Nat.{eq-zero-or-pos}

@@ -76,8 +76,8 @@ module _ (q : ℕ) (D d : List ℕ) where
   s = walk.sBefore (modulo q) D d
 
   -- at every index i: `product` is Q_i·Q_{i+1} = D − P_{i+1}², `sum` is P_{i+1} + P_i = a_i·Q_i, `quotient` is deg((P_i + d) − a_i·Q_i) < deg Q_i, so that a_i is the quotient
-  -- of P_i + d by Q_i, `norm` is p_{i−1}² − D·s_{i−1}² = (−1)^i·Q_i, `determinant` is p_i·s_{i−1} − p_{i−1}·s_i = (−1)^{i+1}, and `degree` is deg p_i = (g + 1) + deg a_1 + .. + deg a_i;
-  -- every Q_i is reduced, deg Q_i ≤ g, and no a_i is constant, as deg a_i = (g + 1) − deg Q_i
+  -- of P_i + d by Q_i, `norm` is p_{i−1}² − D·s_{i−1}² = (−1)^i·Q_i, `determinant` is p_i·s_{i−1} − p_{i−1}·s_i = (−1)^{i+1}, and `degree` is
+  -- deg p_i = (g + 1) + deg a_1 + .. + deg a_i; every Q_i is reduced, deg Q_i ≤ g, and no a_i is constant, as deg a_i = (g + 1) − deg Q_i
   pub record Continued (g : ℕ) : Type 0 where
     pub root : RootOf q g D d
     pub root-only : (f : List ℕ) → RootOf q g D f → Same q f d

@@ -1,5 +1,5 @@
--- What the operations on polynomials are, coefficient by coefficient and for lists of any numbers and any length: sum, difference, multiple, product and derivative modulo q; size, degree
--- and leading coefficient; a polynomial made monic. Every result has coefficients below q and no zero at its end, so that it is the only list of its polynomial.
+-- What the operations on polynomials are, coefficient by coefficient and for lists of any numbers and any length: sum, difference, multiple, product and derivative
+-- modulo q; size, degree and leading coefficient; a polynomial made monic. Every result has coefficients below q and no zero at its end, so that it is the only list of its polynomial.
 -- The other demands use these operations: what they say of polynomials rests on the statements here and in Arithmetic.
 use Prim.Native.Nat.{ℕ, zero, suc, _+_, _-_, _*_, _%_, _≤_, _<_}
 use native.Mathlib.Nat.{mod-lt, mod-eq-of-lt, mod-add-mod, add-mod-mod, add-mod-right, zero-add, zero-mul, zero-mod, suc-mul, add-comm, eq-zero-or-pos}

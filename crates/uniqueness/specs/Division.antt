@@ -1,5 +1,5 @@
--- Quotient and remainder, inverse, greatest common divisor and monic multiple are the only ones with the properties that `demands` states of them: whatever has these is the definition's value.
--- For every allowed q and all polynomials, which are lists of any numbers and any length, read modulo q.
+-- Quotient and remainder, inverse, greatest common divisor and monic multiple are the only ones with the properties that `demands` states of them: whatever has these
+-- is the definition's value. For every allowed q and all polynomials, which are lists of any numbers and any length, read modulo q.
 use Prim.Native.Nat.{ℕ, _-_ as _-ₙ_, _*_, _%_, _<_}
 use native.Mathlib.Nat.{mod-eq-of-lt, eq-zero-or-pos}
 use native.Mathlib.Omega.{arith}
@@ -10,24 +10,27 @@ use lib.ListN.{length}
 use Rattle.ring.specs.Ring.{zer-mul, mul-zer}
 use Rattle.ring.specs.Residues.{Fq}
 use Rattle.ring.specs.Identity.{ring-from, times, plus, quote}
-use Rattle.ring.specs.Series.{addS, conv, con, conv-con, zerS}
+use Rattle.ring.specs.Series.{Series, addS, negS, conv, con, conv-con, zerS}
 use Rattle.algebra.specs.Field.{Field}
 use Rattle.algebra.specs.Polynomial.{F, Px, Monic, monic-deg, deg-scale, deg-unique, deg-path, deg-not-zero}
 use Rattle.algebra.specs.Divides.{Divides as DividesIn, divides-monic, zero-divides}
 use Rattle.definitions.specs.Field.{modulo, inverse}
-use Rattle.definitions.specs.Polynomials.{trim, size, deg, lead, add, scale, mul, quo, rem, monic, gcd}
-use Rattle.bridge.specs.Model.{Model, Inverts, series}
+use Rattle.definitions.specs.Polynomials.{trim, size, deg, lead, add, sub, scale, mul, quo, rem, monic, gcd}
+use Rattle.definitions.specs.Ticket.{ticketOf, refusalOf}
+use Rattle.bridge.specs.Model.{Model, Inverts, series, series-nil}
 use Rattle.bridge.specs.Trim.{below-length, below-size, size-is, size-series, lead-is, lead-some}
-use Rattle.bridge.specs.Arithmetic.{series-add, series-mul, series-scale}
+use Rattle.bridge.specs.Arithmetic.{series-add, series-sub, series-mul, series-scale}
+use Rattle.bridge.specs.Division.{series-quo-rem, trim-rem, rem-less}
 use Rattle.bridge.specs.Quotient.{quo-rem-unique}
 use Rattle.bridge.specs.Monic.{series-monic}
 use Rattle.bridge.specs.Degree.{deg-is, series-deg}
 use Rattle.bridge.specs.Euclid.{gcd-is}
 use Rattle.bridge.specs.Prime.{Prime, odd-prime-more}
 use Rattle.bridge.specs.Residues.{pos, model, field, inverts, inverse-lt, to-mul, to-path, to-one-to-one}
+use Rattle.laws.specs.Admitted.{passed, prime-of}
 use Rattle.demands.specs.Sentences.{AllowedPrime, Same}
 use Rattle.demands.specs.Readings.{prime-allowed}
-use Rattle.demands.specs.Arithmetic.{Divides, series-same, same-series, divides-series, gcd-rules}
+use Rattle.demands.specs.Arithmetic.{Divides, series-same, same-series, divides-series, divides-rem, gcd-rules}
 
 -- a = c·b + r and deg r < deg b: then c is the quotient and r the remainder
 abbrev pub OneDivision : Type 0
@@ -64,6 +67,31 @@ module _ (q : ℕ) (p : Prime q) (more : 2 < q) where
   -- the same polynomial has the same degree
   pub deg-series : (f h : List ℕ) → series M f ≡ series M h → deg (modulo q) f ≡ deg (modulo q) h
   deg-series f h e = deg-is K M f ∙ ap (λ (n : ℕ). n -ₙ 1) (size-series M f h e) ∙ sym (deg-is K M h)
+
+  -- what the quotient leaves is shorter than the divisor
+  pub quotient-leaves : (a b : List ℕ) → 0 < size (modulo q) b → size (modulo q) (sub (modulo q) a (mul (modulo q) (quo (modulo q) a b) b)) < size (modulo q) b
+  quotient-leaves a b some =
+      let l : List ℕ = sub (modulo q) a (mul (modulo q) (quo (modulo q) a b) b) in
+      let r : List ℕ = rem (modulo q) a b in
+      let e : length (trim (modulo q) l) ≡ length (trim (modulo q) r) = size-series M l r same in
+      let k = size-is M l in
+      let n = size-is M b in
+      let t = ap length (trim-rem M a b) in
+      let u = rem-less M I a b (omega arith) in
+      omega arith
+    where
+      c : List ℕ
+      c = quo (modulo q) a b
+
+      same : series M (sub (modulo q) a (mul (modulo q) c b)) ≡ series M (rem (modulo q) a b)
+      same = series-sub M a (mul (modulo q) c b) ∙ ap (λ (u : Px K). addS (F K) (series M a) (negS (F K) u)) (series-mul M c b) ∙ ring-from (Series (F K)) (series M a ∷ series M b ∷ series M c ∷ series M (rem (modulo q) a b) ∷ []) (times (Series (F K)) (Series (F K) .one) (series-quo-rem M a b)) (search quote depth 40 fits 9999) tt
+
+  -- an exact quotient
+  pub quotient-exact : (a b : List ℕ) → Divides q b a → Same q (mul (modulo q) b (quo (modulo q) a b)) a
+  quotient-exact a b d = series-same q p more (mul (modulo q) b c) a (series-mul M b c ∙ ring-from (Series (F K)) (series M a ∷ series M b ∷ series M c ∷ series M (rem (modulo q) a b) ∷ []) (plus (Series (F K)) (times (Series (F K)) (negS (F K) (Series (F K) .one)) (series-quo-rem M a b)) (times (Series (F K)) (negS (F K) (Series (F K) .one)) (ap (series M) (divides-rem q p more a b d) ∙ series-nil M))) (search quote depth 40 fits 9999) tt)
+    where
+      c : List ℕ
+      c = quo (modulo q) a b
 
   pub division-only : (a b c r : List ℕ) → Same q a (add (modulo q) (mul (modulo q) c b) r) → size (modulo q) r < size (modulo q) b
       → (series M c ≡ series M (quo (modulo q) a b)) × (series M r ≡ series M (rem (modulo q) a b))
@@ -131,6 +159,10 @@ module _ (q : ℕ) (p : Prime q) (more : 2 < q) where
 
       same : c ≡ M .φ (inverse q (lead (modulo q) f))
       same = inverses-same c (M .φ (inverse q (lead (modulo q) f))) (M .φ (lead (modulo q) f)) (ap (λ x. F K .mul c (M .φ x)) (lead-is M f) ∙ sym (at _) ∙ ap (series M h) (sym degrees) ∙ lead-monic h m .top) (I .inv-mul (lead (modulo q) f) (lead-some M f some-f))
+
+-- the q of a ticket past its refusals
+pub prime-of-ticket : (w : List ℕ) → refusalOf w ≡ 0 → AllowedPrime (ticketOf w .q)
+prime-of-ticket w e = prime-allowed (ticketOf w .q) .0 (prime-of (ticketOf w .q) (passed w e .prime))
 
 pub one-division : OneDivision
 one-division q r a b c l s less =

@@ -1,8 +1,9 @@
--- The outcome is told by the least index whose Q is a nonzero constant: whoever walks by document 01's equations, with any lists, and says at the end what document 01 asks for, says the outcome of the
--- words. The same for the definitions' walk, as `demands` states it. For a ticket past its refusals.
+-- The outcome is told by the least index whose Q is a nonzero constant: whoever walks by document 01's equations, with any lists, to m or to b and then says what
+-- document 01 asks for says the outcome of the words. The same for the definitions' walk, as `demands` states it. For a ticket past its refusals.
 use Prim.Native.Nat.{ℕ, zero, suc, _%_, _≤_, _<_}
 use native.Mathlib.Nat.{mod-eq-of-lt}
-use mathlib.Core.Path.{_≡_, refl, sym, ap, ap₂, _∙_}
+use native.Mathlib.Omega.{arith}
+use mathlib.Core.Path.{_≡_, refl, sym, ap, ap₂, _∙_, subst}
 use mathlib.Core.Bool.{Bool, true, false}
 use mathlib.Core.Logic.{_≢_}
 use mathlib.Core.List.{List, [], _∷_}
@@ -30,14 +31,15 @@ use Rattle.laws.specs.QuasiPeriod.{Quasi, some-quasi, none-quasi}
 use Rattle.laws.specs.Admitted.{Admitted, surd-of, admitted}
 use Rattle.demands.specs.Sentences.{Same}
 use Rattle.demands.specs.Arithmetic.{same-series}
-use Rattle.demands.specs.Continued.{signed, Ends}
+use Rattle.demands.specs.Continued.{signed, Ends, t2}
 use Rattle.uniqueness.specs.Division.{deg-series}
 use Rattle.uniqueness.specs.Walk.{IsWalk, SameWalk, one-walk}
 
--- for the Q_i and p_{i−1} of a walk
-module _ (q : ℕ) (Q p : ℕ → List ℕ) where
+-- for the Q_i and p_{i−1} of a walk of n steps
+module _ (q n : ℕ) (Q p : ℕ → List ℕ) where
   -- "The walk stops at the first index from 1 up whose Q is a nonzero constant", "m is the quasi-period, R = deg p_{m−1} the regulator, .. c = (−1)^m·Q_m the constant"
   pub record FoundAt (b R m c : ℕ) : Type 0 where
+    pub walked : m ≤ n
     pub positive : 0 < m
     pub within : m ≤ b
     pub constant : size (modulo q) (Q m) ≡ 1
@@ -48,6 +50,7 @@ module _ (q : ℕ) (Q p : ℕ → List ℕ) where
 
   -- "spent; the quasi-period m is above b. Carries the steps made, b, and the degree reached"; "The degree reached when spent is deg p_{b−1}."
   pub record SpentAt (b k e : ℕ) : Type 0 where
+    pub walked : b ≤ n
     pub all : k ≡ b
     pub none-constant : (j : ℕ) → 0 < j → j ≤ b → size (modulo q) (Q j) ≢ 1
     pub reached : e ≡ deg (modulo q) (p b)
@@ -58,8 +61,12 @@ module _ (q : ℕ) (Q p : ℕ → List ℕ) where
   EndsAs b (refused j) = ⊥
 
 abbrev pub OneOutcome : Type 0
-OneOutcome = (w : List ℕ) → refusalOf w ≡ 0 → (d : List ℕ) (Q P a p s : ℕ → List ℕ) → IsWalk (ticketOf w .q) (ticketOf w .D) d (genus (ticketOf w .n)) Q P a p s
-    → (x : Outcome) → EndsAs (ticketOf w .q) Q p (ticketOf w .b) x → x ≡ wordsOutcome w
+OneOutcome = (w : List ℕ) → refusalOf w ≡ 0 → (d : List ℕ) (n : ℕ) (Q P a p s : ℕ → List ℕ) → IsWalk (ticketOf w .q) (ticketOf w .D) d (genus (ticketOf w .n)) n Q P a p s
+    → (x : Outcome) → EndsAs (ticketOf w .q) n Q p (ticketOf w .b) x → x ≡ wordsOutcome w
+
+-- the outcome of the words ends the definitions' walk
+abbrev pub OutcomeIs : Type 0
+OutcomeIs = (w : List ℕ) → refusalOf w ≡ 0 → let t = ticketOf w in EndsAs (t .q) (t .b) (walk.Q (opsOf t) (t .D) (rootOf t)) (walk.pBefore (opsOf t) (t .D) (rootOf t)) (t .b) (wordsOutcome w)
 
 -- as `demands` states it, of the definitions' walk
 abbrev pub OneOutcomeOfEnds : Type 0
@@ -94,46 +101,61 @@ module _ (t : Ticket) (h : Admitted (t .q) (genus (t .n)) (t .D)) where
   ends-only (spent k n) e = ap₂ spent (e .all) (e .reached) ∙ ap outcomeFrom (sym (none-quasi (surd-of h) (t .b) (λ j l u z. e .none-constant j l u (sym (size-Q j) ∙ z))))
   ends-only (refused j) e = absurd e
 
+  ends-are : (x : Outcome) → Ends (t .q) (t .D) d (t .b) x → EndsAs (t .q) (t .b) (walk.Q (opsOf t) (t .D) d) (walk.pBefore (opsOf t) (t .D) d) (t .b) x
+  unfolding signed signs.signed
+  ends-are (found R m c) e = record {
+    walked = e .within;
+    positive = e .positive;
+    within = e .within;
+    constant = e .constant;
+    least = e .least;
+    regulator = e .regulator;
+    below = subst (λ (l : List ℕ). getD l 0 0 < t .q) (sym (e .value)) (oks-signed K M m (walk.Q (opsOf t) (t .D) d m) (Q-oks (surd-of h) m) 0);
+    value = λ i. ap (λ (l : List ℕ). getD l i 0 % t .q) (e .value);
+  }
+  ends-are (spent k n) e = record { walked = let z : t .b ≤ t .b = omega arith in z; all = e .all; none-constant = e .none-constant; reached = e .reached }
+  ends-are (refused j) e = e
+
   -- ---- from any walk to the definitions'
-  module _ {Q P a p s : ℕ → List ℕ} (same : SameWalk (t .q) (t .D) d Q P a p s) where
+  module _ {n : ℕ} {Q P a p s : ℕ → List ℕ} (same : SameWalk (t .q) (t .D) d n Q P a p s) where
     up : (f l : List ℕ) → Same (t .q) f l → series M f ≡ series M l
     up = same-series (t .q) (h .prime) (h .odd)
 
-    size-same : (j : ℕ) → size (opsOf t) (walk.Q (opsOf t) (t .D) d j) ≡ size (opsOf t) (Q j)
-    size-same j = let l : List ℕ = walk.Q (opsOf t) (t .D) d j in size-is M l ∙ sym (size-is M (Q j) ∙ size-series M (Q j) l (up (Q j) l (same .Q-same j)))
+    size-same : (j : ℕ) → j ≤ n → size (opsOf t) (walk.Q (opsOf t) (t .D) d j) ≡ size (opsOf t) (Q j)
+    size-same j k = let l : List ℕ = walk.Q (opsOf t) (t .D) d j in size-is M l ∙ sym (size-is M (Q j) ∙ size-series M (Q j) l (up (Q j) l (same .Q-same j k)))
 
-    deg-same : (j : ℕ) → deg (opsOf t) (p j) ≡ deg (opsOf t) (walk.pBefore (opsOf t) (t .D) d j)
-    deg-same j = let l : List ℕ = walk.pBefore (opsOf t) (t .D) d j in deg-series (t .q) (h .prime) (h .odd) (p j) l (up (p j) l (same .p-same j))
+    deg-same : (j : ℕ) → j ≤ n → deg (opsOf t) (p j) ≡ deg (opsOf t) (walk.pBefore (opsOf t) (t .D) d j)
+    deg-same j k = let l : List ℕ = walk.pBefore (opsOf t) (t .D) d j in deg-series (t .q) (h .prime) (h .odd) (p j) l (up (p j) l (same .p-same j k))
 
     -- the constant's sign
-    signed-at : (m : ℕ) → getD (signed (opsOf t) m (Q m)) 0 0 % t .q ≡ getD (signed (opsOf t) m (walk.Q (opsOf t) (t .D) d m)) 0 0 % t .q
+    signed-at : (m : ℕ) → m ≤ n → getD (signed (opsOf t) m (Q m)) 0 0 % t .q ≡ getD (signed (opsOf t) m (walk.Q (opsOf t) (t .D) d m)) 0 0 % t .q
     unfolding signed
-    signed-at m = go (eqb (m % 2) 0)
+    signed-at m k = go (eqb (m % 2) 0)
       where
         go : (b : Bool) → getD (elim b [ true ↦ Q m | false ↦ sub (opsOf t) [] (Q m) ]) 0 0 % t .q ≡ getD (elim b [ true ↦ walk.Q (opsOf t) (t .D) d m | false ↦ sub (opsOf t) [] (walk.Q (opsOf t) (t .D) d m) ]) 0 0 % t .q
-        go true = same .Q-same m 0
-        go false = ap (λ (l : List ℕ). getD l 0 0 % t .q) (sub-cong M [] [] (Q m) (walk.Q (opsOf t) (t .D) d m) refl (up (Q m) (walk.Q (opsOf t) (t .D) d m) (same .Q-same m)))
+        go true = same .Q-same m k 0
+        go false = ap (λ (l : List ℕ). getD l 0 0 % t .q) (sub-cong M [] [] (Q m) (walk.Q (opsOf t) (t .D) d m) refl (up (Q m) (walk.Q (opsOf t) (t .D) d m) (same .Q-same m k)))
 
-    ends-as : (x : Outcome) → EndsAs (t .q) Q p (t .b) x → Ends (t .q) (t .D) d (t .b) x
+    ends-as : (x : Outcome) → EndsAs (t .q) n Q p (t .b) x → Ends (t .q) (t .D) d (t .b) x
     unfolding signed signs.signed
     ends-as (found R m c) e = record {
       positive = e .positive;
       within = e .within;
-      constant = size-same m ∙ e .constant;
-      least = λ j l u z. e .least j l u (sym (size-same j) ∙ z);
-      regulator = e .regulator ∙ deg-same m;
-      value = ap (λ (n : ℕ). n ∷ []) (sym (mod-eq-of-lt (e .below)) ∙ e .value 0 ∙ signed-at m ∙ mod-eq-of-lt (oks-signed K M m _ (Q-oks (surd-of h) m) 0)) ∙ sym one-coefficient;
+      constant = size-same m (e .walked) ∙ e .constant;
+      least = λ j l u z. e .least j l u (sym (size-same j (let k = e .walked in omega arith)) ∙ z);
+      regulator = e .regulator ∙ deg-same m (e .walked);
+      value = ap (λ (n : ℕ). n ∷ []) (sym (mod-eq-of-lt (e .below)) ∙ e .value 0 ∙ signed-at m (e .walked) ∙ mod-eq-of-lt (oks-signed K M m _ (Q-oks (surd-of h) m) 0)) ∙ sym one-coefficient;
     }
       where
         c₀ : ℕ
         c₀ = constantOf (opsOf t) (t .D) d m
 
         is : signed (opsOf t) m (walk.Q (opsOf t) (t .D) d m) ≡ c₀ ∷ []
-        is = norms.constant-is (surd-of h) m (size-Q m ∙ size-same m ∙ e .constant)
+        is = norms.constant-is (surd-of h) m (size-Q m ∙ size-same m (e .walked) ∙ e .constant)
 
         one-coefficient : signed (opsOf t) m (walk.Q (opsOf t) (t .D) d m) ≡ getD (signed (opsOf t) m (walk.Q (opsOf t) (t .D) d m)) 0 0 ∷ []
         one-coefficient = is ∙ sym (ap (λ (l : List ℕ). getD l 0 0 ∷ []) is)
-    ends-as (spent k n) e = record { all = e .all; none-constant = λ j l u z. e .none-constant j l u (sym (size-same j) ∙ z); reached = e .reached ∙ deg-same (t .b) }
+    ends-as (spent k n) e = record { all = e .all; none-constant = λ j l u z. e .none-constant j l u (sym (size-same j (let k = e .walked in omega arith)) ∙ z); reached = e .reached ∙ deg-same (t .b) (e .walked) }
     ends-as (refused j) e = e
 
 pub one-outcome-of-ends : OneOutcomeOfEnds
@@ -142,4 +164,8 @@ one-outcome-of-ends w z x e = ends-only (ticketOf w) (admitted w z) x e ∙ sym 
 
 pub one-outcome : OneOutcome
 unfolding rootOf
-one-outcome w z d Q P a p s k x e = one-outcome-of-ends w z x (ends-as (ticketOf w) (admitted w z) (one-walk w z d Q P a p s k) x e)
+one-outcome w z d n Q P a p s k x e = one-outcome-of-ends w z x (ends-as (ticketOf w) (admitted w z) (one-walk w z d n Q P a p s k) x e)
+
+pub outcome-is : OutcomeIs
+unfolding rootOf
+outcome-is w z = ends-are (ticketOf w) (admitted w z) (wordsOutcome w) (t2 w z .ends)

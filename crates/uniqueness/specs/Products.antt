@@ -1,12 +1,12 @@
 -- The product of two pairs is the only one with document 01's properties: any S, Q and P that have them are those of the definition, whichever U, V, W one takes.
 -- For a ticket past its refusals and two pairs as document 01 describes them. Polynomials are lists of any numbers and any length, read modulo q.
-use Prim.Native.Nat.{ℕ, _+_ as _+ₙ_, _-_ as _-ₙ_, _%_}
+use Prim.Native.Nat.{ℕ, _+_ as _+ₙ_, _-_ as _-ₙ_, _%_, _<_}
 use native.Mathlib.Nat.{mod-eq-of-lt}
 use native.Mathlib.Omega.{arith}
 use mathlib.Core.Path.{_≡_, refl, sym, ap, _∙_, subst}
 use mathlib.Core.Bool.{false}
 use mathlib.Core.List.{List, [], _∷_}
-use lib.ListN.{length}
+use lib.ListN.{length, getD}
 use Rattle.ring.specs.Ring.{eq-of-sub}
 use Rattle.ring.specs.Residues.{Fq}
 use Rattle.ring.specs.Identity.{ring-from, times, plus, quote}
@@ -23,22 +23,22 @@ use Rattle.bridge.specs.Trim.{below-length}
 use Rattle.bridge.specs.Arithmetic.{series-mul}
 use Rattle.bridge.specs.Quotient.{quo-cong, rem-cong}
 use Rattle.bridge.specs.Residues.{pos, model, field, inverts}
-use Rattle.laws.specs.Admitted.{Admitted, admitted, passed, prime-of}
+use Rattle.laws.specs.Admitted.{Admitted, admitted}
 use Rattle.laws.specs.Product.{product-is}
-use Rattle.demands.specs.Sentences.{AllowedPrime, Same, Operators, operators}
-use Rattle.demands.specs.Readings.{prime-allowed}
+use Rattle.demands.specs.Sentences.{Same, Operators, operators}
 use Rattle.demands.specs.Arithmetic.{Divides, series-same, same-series}
 use Rattle.demands.specs.Operations.{Trimmed, Operations, by-coefficients, trimmed-same}
 use Rattle.demands.specs.Pairs.{GivenPair, pairs-passed, product-by}
 use Rattle.demands.specs.Products.{Combines, paperP, IsProduct, t2-products}
-use Rattle.uniqueness.specs.Division.{lead-monic, monic-same}
+use Rattle.uniqueness.specs.Division.{prime-of-ticket, lead-monic, monic-same}
 
 module _ (q : ℕ) where
   open Operators (operators q) using (plus as _⊕_, times as _⊗_)
 
   infixl 6 _⊕_
   infixl 7 _⊗_
-  -- "S = gcd(Q_1, Q_2, P_1 + P_2), with U, V, W such that S = U·Q_1 + V·Q_2 + W·(P_1 + P_2)"; "Q = Q_1·Q_2 / S²"; "P = (P_1 + (Q_1/S)·(U·(P_2 − P_1) + W·(D − P_1²)/Q_1)) mod Q"
+  -- "S = gcd(Q_1, Q_2, P_1 + P_2), with U, V, W such that S = U·Q_1 + V·Q_2 + W·(P_1 + P_2)"; "Q = Q_1·Q_2 / S²";
+  -- "P = (P_1 + (Q_1/S)·(U·(P_2 − P_1) + W·(D − P_1²)/Q_1)) mod Q"
   pub record ProductOf (D : List ℕ) (x y : Ideal ℕ) (S Q P : List ℕ) : Type 0 where
     pub S-monic : lead (modulo q) S % q ≡ 1
     pub S-first : Divides q S (x .q)
@@ -62,6 +62,11 @@ module _ (q : ℕ) where
 abbrev pub OneProduct : Type 0
 OneProduct = (w : List ℕ) → refusalOf w ≡ 0 → (x y : Ideal ℕ) → GivenPair (ticketOf w) x → GivenPair (ticketOf w) y → (S Q P : List ℕ) → ProductOf (ticketOf w .q) (ticketOf w .D) x y S Q P
     → SameProduct (ticketOf w .q) S Q P (productAnswer w x y)
+
+-- the definition's product is one
+abbrev pub ProductIs : Type 0
+ProductIs = (w : List ℕ) → refusalOf w ≡ 0 → (x y : Ideal ℕ) → GivenPair (ticketOf w) x → GivenPair (ticketOf w) y
+    → let r = productAnswer w x y in ProductOf (ticketOf w .q) (ticketOf w .D) x y (r .s) (r .q) (r .p) × TrimmedProduct (ticketOf w .q) r
 
 -- the whole answer
 abbrev pub OneProductAnswer : Type 0
@@ -125,16 +130,13 @@ module _ {q g : ℕ} {D : List ℕ} (h : Admitted q g D) {x y : Ideal ℕ} {S Q 
 -- ---- the answer's polynomials
 answer-trimmed : (w : List ℕ) → refusalOf w ≡ 0 → (x y : Ideal ℕ) → GivenPair (ticketOf w) x → GivenPair (ticketOf w) y → TrimmedProduct (ticketOf w .q) (productAnswer w x y)
 unfolding productDone
-answer-trimmed w e x y px py = subst (TrimmedProduct (ticketOf w .q)) (sym (product-by w x y 0 false e (pairs-passed (ticketOf w) h x y px py))) (subst (λ (r : Product ℕ). TrimmedProduct (ticketOf w .q) (record { number = 0; s = r .s; q = r .ideal .q; p = r .ideal .p })) (sym (product-is (field (ticketOf w .q) (h .prime) (h .odd)) (model (ticketOf w .q) (pos (ticketOf w .q) (h .prime))) (inverts (ticketOf w .q) (pos (ticketOf w .q) (h .prime)) (h .prime)) (ticketOf w .D) x y)) (record { S-trimmed = o .gcd-trimmed allowed _ _; Q-trimmed = o .quo-trimmed _ _; P-trimmed = o .rem-trimmed _ _ }))
+answer-trimmed w e x y px py = subst (TrimmedProduct (ticketOf w .q)) (sym (product-by w x y 0 false e (pairs-passed (ticketOf w) h x y px py))) (subst (λ (r : Product ℕ). TrimmedProduct (ticketOf w .q) (record { number = 0; s = r .s; q = r .ideal .q; p = r .ideal .p })) (sym (product-is (field (ticketOf w .q) (h .prime) (h .odd)) (model (ticketOf w .q) (pos (ticketOf w .q) (h .prime))) (inverts (ticketOf w .q) (pos (ticketOf w .q) (h .prime)) (h .prime)) (ticketOf w .D) x y)) (record { S-trimmed = o .gcd-trimmed (prime-of-ticket w e) _ _; Q-trimmed = o .quo-trimmed _ _; P-trimmed = o .rem-trimmed _ _ }))
   where
     h : Admitted (ticketOf w .q) (genus (ticketOf w .n)) (ticketOf w .D)
     h = admitted w e
 
     o : Operations (ticketOf w .q)
     o = by-coefficients (ticketOf w .q) (pos (ticketOf w .q) (h .prime))
-
-    allowed : AllowedPrime (ticketOf w .q)
-    allowed = prime-allowed (ticketOf w .q) .0 (prime-of (ticketOf w .q) (passed w e .prime))
 
 answers-same : (r a : ProductAnswer) → r .number ≡ a .number → r .s ≡ a .s → r .q ≡ a .q → r .p ≡ a .p → r ≡ a
 answers-same r a n s q p = λ i. record { number = n i; s = s i; q = q i; p = p i }
@@ -155,3 +157,32 @@ one-product-answer w e x y px py r zero u new =
     let t = answer-trimmed w e x y px py in
     let p = pos (ticketOf w .q) (admitted w e .prime) in
     answers-same r (productAnswer w x y) (zero ∙ sym (t2-products w e x y px py .number)) (trimmed-same (ticketOf w .q) p (r .s) (productAnswer w x y .s) (u .S-trimmed) (t .S-trimmed) (k .S-same)) (trimmed-same (ticketOf w .q) p (r .q) (productAnswer w x y .q) (u .Q-trimmed) (t .Q-trimmed) (k .Q-same)) (trimmed-same (ticketOf w .q) p (r .p) (productAnswer w x y .p) (u .P-trimmed) (t .P-trimmed) (k .P-same))
+
+pub product-is-one : ProductIs
+product-is-one w e x y px py = (
+  record {
+    S-monic = ap (λ (n : ℕ). n % q) (old .S-monic) ∙ mod-eq-of-lt (let l = h .odd in omega arith);
+    S-first = old .S-first;
+    S-second = old .S-second;
+    S-sum = old .S-sum;
+    S-greatest = old .S-greatest;
+    Q-square = λ i. ap (λ (l : List ℕ). getD l i 0 % q) (old .Q-square);
+    P-any = λ u v w′ s i. ap (λ (l : List ℕ). getD l i 0 % q) (old .P-any u v w′ (trimmed-same q p (productAnswer w x y .s) (add (modulo q) (add (modulo q) (mul (modulo q) u (x .q)) (mul (modulo q) v (y .q))) (mul (modulo q) w′ (add (modulo q) (x .p) (y .p)))) (trimmed .S-trimmed) (by-coefficients q p .sum-trimmed _ _) s));
+  },
+  trimmed,
+)
+  where
+    q : ℕ
+    q = ticketOf w .q
+
+    h : Admitted q (genus (ticketOf w .n)) (ticketOf w .D)
+    h = admitted w e
+
+    p : 0 < q
+    p = pos q (h .prime)
+
+    old : IsProduct q (genus (ticketOf w .n)) (ticketOf w .D) x y (productAnswer w x y .s) (productAnswer w x y .q) (productAnswer w x y .p)
+    old = t2-products w e x y px py .is
+
+    trimmed : TrimmedProduct q (productAnswer w x y)
+    trimmed = answer-trimmed w e x y px py
