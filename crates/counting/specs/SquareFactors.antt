@@ -36,7 +36,7 @@ module _ {A : Type 0} (K : Field A) where
     pub part : SquarePart K (tail (F K) t)
     pub is : D ≡ part .s * (plus-x (t 0) (part .h) * plus-x (t 0) (part .h))
 
-  -- n stands for n − 2
+  -- the monic t of degree n + 1 and the monic D of degree n + 2 with a square factor correspond one to one
   abbrev pub SquareFactors : Type 0
   SquareFactors = Perfect K → (n : ℕ) → Bijection Lifts (λ t. Monic K t (suc n)) (λ D. Monic K D (suc (suc n)) × SquareFactor K D)
 
