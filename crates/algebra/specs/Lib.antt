@@ -6,6 +6,7 @@ pub mod Divides
 pub mod Division
 pub mod Fermat
 pub mod Field
+pub mod Finite
 pub mod Frobenius
 pub mod Gcd
 pub mod Multiple

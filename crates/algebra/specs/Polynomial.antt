@@ -195,6 +195,10 @@ module _ {A : Type 0} (K : Field A) where
   unfolding con
   monic-one = record { low = one-low; top = refl }
 
+  -- no other is monic of degree 0
+  pub monic-constant : (f : Px) → Monic f 0 → f ≡ 𝟙
+  monic-constant f m = low-one f (m .low) ∙ ap (con F) (m .top)
+
   pub monic-mul : (f g : Px) (m n : ℕ) → Monic f m → Monic g n → Monic (f * g) (m +ₙ n)
   monic-mul f g m n h k = record {
     low = low-up (f * g) (omega arith) (low-mul f g (suc m) n (h .low) (k .low));

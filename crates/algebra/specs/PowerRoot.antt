@@ -38,7 +38,7 @@ module _ {A : Type 0} (K : Field A) where
   shift-low (suc k) f zero h = refl
   shift-low (suc k) f (suc i) h = shift-low k f i (omega arith)
 
-  parts : (f : S R) → f ≡ addS R (con R (f 0)) (up R (tail R f))
+  pub parts : (f : S R) → f ≡ addS R (con R (f 0)) (up R (tail R f))
   parts f = fun-ext at
     where
       at : (i : ℕ) → f i ≡ addS R (con R (f 0)) (up R (tail R f)) i

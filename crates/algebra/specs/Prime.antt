@@ -44,16 +44,21 @@ module _ {A : Type 0} (R : CRing A) (q : ℕ) (prime : Prime q) (zero-q : natura
   pub prime-characteristic : Characteristic R q
   prime-characteristic = record { positive = omega (arith, prime .two); vanishes = zero-q; cancels = λ j. cancel (suc j) j (omega arith) }
 
-module _ {A : Type 0} (K : Field A) (q : ℕ) (prime : Prime q) (zero-q : natural (K .scalars) q ≡ K .scalars .zer) (index : A → ℕ) (multiple : (c : A) → natural (K .scalars) (index c) ≡ c) where
-  pub perfect-prime : Perfect K
-  perfect-prime = record {
+module _ {A : Type 0} (K : Field A) (q : ℕ) (prime : Prime q) (zero-q : natural (K .scalars) q ≡ K .scalars .zer) where
+  field-characteristic : Characteristic (K .scalars) q
+  field-characteristic = prime-characteristic (K .scalars) q prime zero-q
+
+  -- where each element has a q-th root
+  pub perfect-roots : (root : A → A) → ((c : A) → power (K .scalars) (root c) q ≡ c) → Perfect K
+  perfect-roots root is = record {
     char = q;
     char-two = prime .two;
     char-zero = zero-q;
-    char-least = λ j h l e. K .one-not-zero (is .cancels j h l (K .scalars .one) (K .scalars .mul-one (natural (K .scalars) j) ∙ e));
-    root = λ c. c;
-    root-power = λ c. subst (λ x. power (K .scalars) x q ≡ x) (multiple c) (fermat (K .scalars) q is (index c));
+    char-least = λ j h l e. K .one-not-zero (field-characteristic .cancels j h l (K .scalars .one) (K .scalars .mul-one (natural (K .scalars) j) ∙ e));
+    root = root;
+    root-power = is;
   }
-    where
-      is : Characteristic (K .scalars) q
-      is = prime-characteristic (K .scalars) q prime zero-q
+
+  -- where each element is a multiple of 1
+  pub perfect-prime : (index : A → ℕ) → ((c : A) → natural (K .scalars) (index c) ≡ c) → Perfect K
+  perfect-prime index multiple = perfect-roots (λ c. c) (λ c. subst (λ x. power (K .scalars) x q ≡ x) (multiple c) (fermat (K .scalars) q field-characteristic (index c)))

@@ -7,7 +7,7 @@ use Rattle.ring.specs.Ring.{CRing}
 use Rattle.ring.specs.Series.{S, tail}
 use Rattle.ring.specs.Degree.{Below}
 use Rattle.definitions.specs.Field.{Ops}
-use Rattle.bridge.specs.Model.{Model, series}
+use Rattle.bridge.specs.Model.{Model, Oks, series}
 
 -- each element b of the ring is that of the coefficient `back b`
 pub record Onto {A B : Type 0} {o : Ops A} {R : CRing B} (M : Model o R) : Type 0 where
@@ -34,3 +34,10 @@ module _ {A B : Type 0} {o : Ops A} {R : CRing B} (M : Model o R) (T : Onto M) w
   unfolding coefficients
   length-coefficients f zero = refl
   length-coefficients f (suc n) = ap suc (length-coefficients (tail R f) n)
+
+  -- each coefficient of it stands for itself
+  pub oks-coefficients : (f : S R) (n : ℕ) → Oks M (coefficients f n)
+  unfolding coefficients
+  oks-coefficients f zero i = M .ok-zer
+  oks-coefficients f (suc n) zero = T .ok-back (f 0)
+  oks-coefficients f (suc n) (suc i) = oks-coefficients (tail R f) n i

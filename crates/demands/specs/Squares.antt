@@ -38,7 +38,7 @@ module _ (q : ℕ) (p : Prime q) (more : 2 < q) where
   K = field q p more
 
   -- ---- a square that divides D, on lists and on polynomials
-  square-factor : (D : List ℕ) → SquareDivides q D → SquareFactor K (series M D)
+  pub square-factor : (D : List ℕ) → SquareDivides q D → SquareFactor K (series M D)
   square-factor D s = record {
     factor = series M (s .h);
     size = length (trim (modulo q) (s .h)) -ₙ 1;
@@ -52,7 +52,7 @@ module _ (q : ℕ) (p : Prime q) (more : 2 < q) where
     };
   }
 
-  square-lists : (D : List ℕ) → SquareFactor K (series M D) → SquareDivides q D
+  pub square-lists : (D : List ℕ) → SquareFactor K (series M D) → SquareDivides q D
   square-lists D s = record {
     h = h;
     e = e;

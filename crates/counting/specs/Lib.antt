@@ -1,0 +1,5 @@
+pub mod Count
+pub mod HowMany
+pub mod Pigeonhole
+pub mod SquareFactors
+pub mod SquarePart

@@ -1,0 +1,5 @@
+pub mod Extension
+pub mod Pairs
+pub mod Powers
+pub mod Roots
+pub mod Walks
