@@ -108,12 +108,12 @@ module _ (t : Ticket) (h : Admitted (t .q) (genus (t .n)) (t .D)) where
     positive = e .positive;
     within = e .within;
     constant = e .constant;
-    least = e .least;
+    least = λ j l u. e .least j l (omega arith);
     regulator = e .regulator;
     below = subst (λ (l : List ℕ). getD l 0 0 < t .q) (sym (e .value)) (oks-signed K M m (walk.Q (opsOf t) (t .D) d m) (Q-oks (surd-of h) m) 0);
     value = λ i. ap (λ (l : List ℕ). getD l i 0 % t .q) (e .value);
   }
-  ends-are (spent k n) e = record { walked = let z : t .b ≤ t .b = omega arith in z; all = e .all; none-constant = e .none-constant; reached = e .reached }
+  ends-are (spent k n) e = record { walked = let z : t .b ≤ t .b = omega arith in z; all = e .all; none-constant = λ j l u. e .none-constant j l (omega arith); reached = e .reached }
   ends-are (refused j) e = e
 
   -- ---- from any walk to the definitions'
