@@ -5,7 +5,7 @@ use mathlib.Core.Path.{_≡_, refl, sym, ap, _∙_}
 use mathlib.Core.List.{[], _∷_}
 use Rattle.ring.specs.Ring.{CRing}
 use Rattle.ring.specs.Identity.{ring, ring-from, times, plus, quote}
-use Rattle.ring.specs.Identities.{product-balance, product-scaled, product-second, product-cross, product-norm}
+use Rattle.ring.specs.Identities.{product-balance, product-second, product-cross, product-norm}
 use Rattle.ring.specs.Series.{Series}
 use Rattle.algebra.specs.Field.{Field}
 use Rattle.algebra.specs.Polynomial.{F, Px, _≺_ as Low, Deg, Monic, low-neg, low-sub, monic-deg, monic-mul, monic-factor, monic-path, one-low}
@@ -150,10 +150,6 @@ module _ {A : Type 0} (K : Field A) where
         where
           same : S * (u * q₁ + v * q₂ + w * t) ≡ S * 𝟙
           same = ring-from R[x] (S ∷ u ∷ v ∷ w ∷ q₁ ∷ q₂ ∷ t ∷ Q₁ ∷ Q₂ ∷ P₁ ∷ P₂ ∷ []) (plus R[x] (times R[x] (- 𝟙) (b .is)) (plus R[x] (times R[x] (- u) (c .first .is)) (plus R[x] (times R[x] (- v) (c .second .is)) (times R[x] (- w) (c .sum .is))))) (search quote depth 40 fits 9999) tt
-
-      -- S P = u Q₁ P₂ + v Q₂ P₁ + w (D + P₁ P₂)
-      pub product-S : S * product-P ≡ u * Q₁ * P₂ + v * Q₂ * P₁ + w * (D + P₁ * P₂)
-      product-S = product-scaled R[x] u v w S q₁ P₁ P₂ Q₁ Q₂ C₁ (b .is) (c .first .is) (s₁ .norm) refl
 
       pub product-meets : Meets D P₁ P₂ S q₁ q₂ product-P
       product-meets = record {
