@@ -1,5 +1,5 @@
--- The root d of D: for D monic of degree 2n, the monic d of degree n with D - d² under degree n. There is one only. Each of its coefficients, from the top down, is half of what is left of D at its
--- place (`root-step`), which is how it is computed.
+-- The root d of D: for D monic of degree 2n, the monic d of degree n with D - d² under degree n. There is one only. Each of its coefficients, from
+-- the top down, is half of what is left of D at its place (`root-step`), which is how it is computed.
 use Prim.Native.Nat.{ℕ, zero, suc, _+_ as _+ₙ_, _<_}
 use native.Mathlib.Omega.{arith}
 use mathlib.Core.Path.{_≡_, refl, sym, ap, ap₂, _∙_}

@@ -1,5 +1,5 @@
--- A reduced ideal with a big generator is an ideal of the endless walk, and the degree of the generator is its distance there: `classify`. By the descent the generator is λ times a convergent;
--- λ divides Q and y, which have no common factor, so that λ is a constant.
+-- A reduced ideal with a big generator is an ideal of the endless walk, and the degree of the generator is its distance there: `classify`. By the
+-- descent the generator is λ times a convergent; λ divides Q and y, which have no common factor, so that λ is a constant.
 use Prim.Native.Nat.{ℕ, suc, _≤_}
 use native.Mathlib.Omega.{arith}
 use mathlib.Core.Path.{_≡_, sym}

@@ -1,5 +1,5 @@
--- Any two ideals have a giant step: S is the greatest common divisor of Q₁, Q₂ and P₁ + P₂, the product follows by its multipliers, and from it the steps go on for ever, since D is not a
--- square. `giant-exists` says so, and `walk-giant` of two ideals of the walk.
+-- Any two ideals have a giant step: S is the greatest common divisor of Q₁, Q₂ and P₁ + P₂, the product follows by its multipliers, and from it the
+-- steps go on for ever, since D is not a square. `giant-exists` says so, and `walk-giant` of two ideals of the walk.
 use Prim.Native.Nat.{ℕ, zero, suc, _+_ as _+ₙ_}
 use native.Mathlib.Omega.{arith}
 use mathlib.Core.Path.{_≡_, refl, subst}
@@ -134,7 +134,7 @@ module _ {A : Type 0} (K : Field A) where
     walk-state i = record { κ = w .κ i; deg = w .Q-deg i; norm = norm K w i; size = suc (suc g +ₙ suc g); C-low = prior-low i; P-low = low-up K (w .P i) (omega arith) (P-low K w i) }
 
     -- where there is a walk, D is not a square: it would be d², and Q_1 = D - d² would be 0
-    walk-no-square : No-square K D
+    pub walk-no-square : No-square K D
     walk-no-square f n h e = ⊎-elim (λ b. root 𝟙 (ring R[x] [] (search quote depth 40 fits 9999) tt) (near-zero 𝟙 one b)) (λ b. root (- 𝟙) (ring R[x] [] (search quote depth 40 fits 9999) tt) (near-zero (- 𝟙) (deg-neg K 𝟙 0 one) b)) (dichotomy K o n f 𝟙 0 h one (low-path K _ square (low-zero K _)))
       where
         one : Deg K 𝟙 0

@@ -1,5 +1,5 @@
--- A generator of a product: where (x₁, y₁) generates (Q₁, P₁) and (x₂, y₂) generates (Q₂, P₂), the pair (x₁ + y₁ √D)(x₂ + y₂ √D) / S generates their product (Q, P). `multiplied` says so: the
--- divisions by S are exact by the product's three congruences, and of two big pairs the quotient is big.
+-- A generator of a product: where (x₁, y₁) generates (Q₁, P₁) and (x₂, y₂) generates (Q₂, P₂), the pair (x₁ + y₁ √D)(x₂ + y₂ √D) / S generates their
+-- product (Q, P). `multiplied` says so: the divisions by S are exact by the product's three congruences, and of two big pairs the quotient is big.
 use Prim.Native.Nat.{ℕ, suc, _+_ as _+ₙ_, _-_ as _-ₙ_, _≤_}
 use native.Mathlib.Omega.{arith}
 use mathlib.Core.Path.{_≡_, _∙_}
@@ -37,7 +37,8 @@ module _ {A : Type 0} (K : Field A) where
   _≺_ = Low K
 
   module _ {g : ℕ} {D : P[x]} (o : Root K g D) {Q₁ Q₂ T S : P[x]} (c : Common K Q₁ Q₂ T S) where
-    -- S x = x₁ x₂ + D y₁ y₂ and S y = x₁ y₂ + x₂ y₁, and (x, y) generates the product. Where the two are big, so is (x, y), and deg x, which is g + 1 and the height, is their sum less deg S
+    -- S x = x₁ x₂ + D y₁ y₂ and S y = x₁ y₂ + x₂ y₁, and (x, y) generates the product. Where the two are big, so is (x, y), and deg x, which is g + 1
+    -- and the height, is their sum less deg S
     pub record Multiplied (P x₁ y₁ x₂ y₂ : P[x]) : Type 0 where
       pub x : P[x]
       pub y : P[x]

@@ -1,5 +1,5 @@
--- A generator through a step: from (x, y), which generates (Q, P), to (x′, y′), which generates the ideal (Q′, P′) that follows; where (x, y) is big, so is (x′, y′). `stepped` says so, with the
--- degrees. Carried by the products (x′ + d y′) Q and (x′ - d y′) Q.
+-- A generator through a step: from (x, y), which generates (Q, P), to (x′, y′), which generates the ideal (Q′, P′) that follows; where (x, y) is big,
+-- so is (x′, y′). `stepped` says so, with the degrees. Carried by the products (x′ + d y′) Q and (x′ - d y′) Q.
 use Prim.Native.Nat.{ℕ, suc, _+_ as _+ₙ_, _-_ as _-ₙ_, _≤_, _<_}
 use native.Mathlib.Omega.{arith}
 use mathlib.Core.Path.{_≡_, refl, sym, ap, _∙_, subst}
@@ -41,8 +41,8 @@ module _ {A : Type 0} (K : Field A) where
   _≺_ = Low K
 
   module _ {g : ℕ} {D : P[x]} {o : Root K g D} {Q P Q′ P′ : P[x]} (f : Follows K o Q P Q′ P′) where
-    -- Q y′ = x + y P′ and Q x′ = x P′ + y D, and (x′, y′) generates (Q′, P′). Where (x, y) is big, so is (x′, y′), and the degree of y, the height, grows by deg (P′ + d) - deg Q; it is
-    -- enough that deg (P′ + d) is above deg Q′, as it is for every step
+    -- Q y′ = x + y P′ and Q x′ = x P′ + y D, and (x′, y′) generates (Q′, P′). Where (x, y) is big, so is (x′, y′), and the degree of y, the height,
+    -- grows by deg (P′ + d) - deg Q; it is enough that deg (P′ + d) is above deg Q′, as it is for every step
     pub record Stepped (x y : P[x]) : Type 0 where
       pub x′ : P[x]
       pub y′ : P[x]

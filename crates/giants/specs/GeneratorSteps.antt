@@ -1,5 +1,5 @@
--- A big generator through the steps of a reduction: what is reached after k steps has a big generator, whose degree has grown by the sum of deg (P_j + d) - deg Q_{j-1} for j from 1 to k.
--- `reached` says so, step by step.
+-- A big generator through the steps of a reduction: what is reached after k steps has a big generator, whose degree has grown by the sum of deg (P_j
+-- + d) - deg Q_{j-1} for j from 1 to k. `reached` says so, step by step.
 use Prim.Native.Nat.{ℕ, zero, suc, _+_ as _+ₙ_}
 use native.Mathlib.Omega.{arith}
 use mathlib.Core.Path.{_≡_}

@@ -1,5 +1,5 @@
--- Generators of ideals: (x, y) generates the ideal of (Q, P) if Q divides x - y P and the norm x² - D y² is a constant times Q. A generator sees only the ideal; Q and y have no common
--- factor; and the convergents generate the ideals of the walk, by their linear identity with their norm.
+-- Generators of ideals: (x, y) generates the ideal of (Q, P) if Q divides x - y P and the norm x² - D y² is a constant times Q. A generator sees only
+-- the ideal; Q and y have no common factor; and the convergents generate the ideals of the walk, by their linear identity with their norm.
 use Prim.Native.Nat.{ℕ, zero, suc}
 use mathlib.Core.Path.{_≡_}
 use mathlib.Core.List.{[], _∷_}

@@ -1,5 +1,6 @@
--- Landings from giant steps: pairs (Q, P), the first of which is the ideal of index k and each later one the giant step of the one before with the first. They are `landings`, with the distances
--- that are added up with f, and a landing is in the stock exactly if its pair and a stocked one have the same ideal. `jumps`: every k has such pairs.
+-- Landings from giant steps: pairs (Q, P), the first of which is the ideal of index k and each later one the giant step of the one before with the
+-- first. They are `landings`, with the distances that are added up with f, and a landing is in the stock exactly if its pair and a stocked one have
+-- the same ideal. `jumps`: every k has such pairs.
 use Prim.Native.Nat.{ℕ, zero, suc, _+_ as _+ₙ_, _≤_}
 use mathlib.Core.Path.{_≡_, refl}
 use Rattle.algebra.specs.Field.{Field}

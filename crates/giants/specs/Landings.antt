@@ -1,20 +1,22 @@
--- Baby steps and giant steps. The stock is the ideals of the indices 0 to k; landing 0 is the ideal of index k, and each later landing a giant step of the one before with that ideal. Either the
--- stock tells the regulator R, as the distance of its first constant Q past index 0, or the first later landing in the stock does, as its distance less the stocked one. By J jumps R is told
--- exactly if it is at most the distance of landing J, and if it is not told, no solution of X² - D Y² = c has a degree up to that distance. The statement is `Search`, its proof `searches`, for
--- g < k. Carried by the period: no landing jumps over all of the stock raised by R.
+-- Baby steps and giant steps. The stock is the ideals of the indices 0 to k; landing 0 is the ideal of index k, and each later landing is the giant
+-- step of the one before with that ideal. The regulator R is found by the stock, as the distance of its first constant Q past index 0, or else by the
+-- first later landing in the stock, as its distance less the stocked one. By J jumps R is found exactly if it is at most the distance of landing J;
+-- if it is not, no solution of X² - D Y² = c has a degree up to that distance. The statement is `Search`, its proof `searches`, for g < k. Carried by
+-- the period: no jump is longer than the stock, so that some landing comes down in the stock raised by R.
 use Prim.Native.Nat.{ℕ, zero, suc, _+_ as _+ₙ_, _-_ as _-ₙ_, _≤_, _<_}
 use native.Mathlib.Nat.{zero-add, suc-add}
 use native.Mathlib.Omega.{arith}
-use mathlib.Core.Path.{_≡_, refl, ap, subst}
+use mathlib.Core.Path.{_≡_, refl, sym, ap, subst}
 use mathlib.Core.Logic.{_⊎_, inl, inr, ⊎-elim}
 use Rattle.ring.specs.Order.{le-or-lt}
 use Rattle.algebra.specs.Field.{Field}
 use Rattle.algebra.specs.Polynomial.{Px, Deg}
 use Rattle.surd.specs.Root.{Root}
 use Rattle.surd.specs.Walk.{Walk}
+use Rattle.surd.specs.Convergents as convergents
 use Rattle.surd.specs.Distance.{distance, distance-mono, distance-rise, distance-least, index-le, index-lt}
 use Rattle.surd.specs.QuasiPeriod.{QuasiPeriod, NoneConstant, quasi-period}
-use Rattle.surd.specs.LeastDegree.{Solution, solved, found}
+use Rattle.surd.specs.LeastDegree.{Solution, solved, found, reached, reached-deg}
 use Rattle.surd.specs.Ideal.{same-sym, same-trans}
 use Rattle.surd.specs.Same.{Same}
 use Rattle.symmetry.specs.Period.{same-period, distance-period}
@@ -41,14 +43,14 @@ module _ {A : Type 0} (K : Field A) {g : ℕ} {D : Px K} {o : Root K g D} (w : W
       pub inside : i ≤ k
       pub same : Same K w (at j) i
 
-    -- the stock tells R: m is its first index past 0 with a constant Q
+    -- R by the stock: m is its first index past 0 with a constant Q
     pub record ByStock (R : ℕ) : Type 0 where
       pub m : ℕ
       pub inside : m ≤ k
       pub first : QuasiPeriod K w m
       pub is : R ≡ distance K w m
 
-    -- the stock has no constant Q past index 0, and landing j + 1 tells R: it is the first later one in the stock
+    -- R by landing j + 1: the stock has no constant Q past index 0, and this is the first later landing in the stock
     pub record ByLanding (j R : ℕ) : Type 0 where
       pub none : NoneConstant K w k
       pub place : ℕ
@@ -56,21 +58,24 @@ module _ {A : Type 0} (K : Field A) {g : ℕ} {D : Px K} {o : Root K g D} (w : W
       pub earlier : (j′ i : ℕ) → j′ < j → Stocked (suc j′) i → ⊥
       pub is : R +ₙ distance K w place ≡ reach (suc j)
 
-    -- R is told by at most J jumps
-    abbrev pub Told : ℕ → ℕ → Type 0
-    Told J R = ByStock R ⊎ ((j : ℕ) × (j < J) × ByLanding j R)
+    -- R is found by at most J jumps
+    abbrev pub Found : ℕ → ℕ → Type 0
+    Found J R = ByStock R ⊎ ((j : ℕ) × (j < J) × ByLanding j R)
 
-    -- nothing is told by J jumps
-    pub record Untold (J : ℕ) : Type 0 where
+    -- nothing is found by J jumps
+    pub record Spent (J : ℕ) : Type 0 where
       pub none : NoneConstant K w k
       pub no-landing : (j i : ℕ) → j < J → Stocked (suc j) i → ⊥
 
-    -- `told-right` and `told-whenever`: what is told is the regulator, and it is told exactly if it is at most the distance of landing J; for J = 0, exactly if it is at most that of index k
+    -- What is found is the regulator, and it is found exactly if it is at most the distance of landing J, which for J = 0 is that of index k:
+    -- `found-right` and `found-whenever`. Then some solution has the degree R; if nothing is found, every solution has a degree above the distance of
+    -- landing J. Each jump adds at least 1 and at most the distance of index k
     pub record Search (J : ℕ) : Type 0 where
-      pub told-right : (R : ℕ) → Told J R → (m : ℕ) × QuasiPeriod K w m × (R ≡ distance K w m) × (R ≤ reach J)
-      pub told-whenever : (m : ℕ) → QuasiPeriod K w m → distance K w m ≤ reach J → Told J (distance K w m)
-      pub decided : ((R : ℕ) × Told J R) ⊎ Untold J
-      pub spent : Untold J → {X Y : Px K} → Solution K D X Y → (n : ℕ) × Deg K X n × (reach J < n)
+      pub found-right : (R : ℕ) → Found J R → (m : ℕ) × QuasiPeriod K w m × (R ≡ distance K w m) × (R ≤ reach J)
+      pub found-whenever : (m : ℕ) → QuasiPeriod K w m → distance K w m ≤ reach J → Found J (distance K w m)
+      pub decided : ((R : ℕ) × Found J R) ⊎ Spent J
+      pub found-solves : (R : ℕ) → Found J R → (X Y : Px K) × Solution K D X Y × Deg K X R
+      pub spent-above : Spent J → {X Y : Px K} → Solution K D X Y → (n : ℕ) × Deg K X n × (reach J < n)
       pub rises : (j : ℕ) → reach j < reach (suc j)
       pub short : (j : ℕ) → reach (suc j) ≤ reach j +ₙ distance K w k
       pub first-reach : reach 0 ≡ distance K w k
@@ -144,10 +149,10 @@ module _ {A : Type 0} (K : Field A) {g : ℕ} {D : Px K} {o : Root K g D} (w : W
           raised : R +ₙ distance K w i ≡ reach l (suc j)
           raised = subst (λ (n : ℕ). R +ₙ distance K w i ≡ distance K w n) at-is (let e = distance-period K w m (first .constant) i in omega arith)
 
-    whenever : (J m : ℕ) → QuasiPeriod K w m → distance K w m ≤ reach l J → Told l J (distance K w m)
+    whenever : (J m : ℕ) → QuasiPeriod K w m → distance K w m ≤ reach l J → Found l J (distance K w m)
     whenever J m first h = ⊎-elim (λ a. inl (record { m = m; inside = a; first = first; is = refl })) (λ a. let r = crossing m first a J h in inr (r .0, r .1, crossed m first a (r .0) (r .2) (r .3))) (le-or-lt m k)
 
-    -- ---- what is told is R
+    -- ---- what is not-found is R
     inside-right : (J R : ℕ) → ByStock l R → (m : ℕ) × QuasiPeriod K w m × (R ≡ distance K w m) × (R ≤ reach l J)
     inside-right J R s = (s .m, s .first, s .is, let a = distance-mono K w (s .m) k (s .inside) in let b = rises-to 0 J (omega arith) in let e = reach-start in let e′ = s .is in omega arith)
 
@@ -185,20 +190,23 @@ module _ {A : Type 0} (K : Field A) {g : ℕ} {D : Px K} {o : Root K g D} (w : W
                         place : s .place ≡ c .place
                         place = none-twice K w k (s .none) (s .place) (c .place) (s .here .inside) (c .here .inside) (same-trans K (same-sym K (s .here .same)) (subst (λ (i : ℕ). Same K w (at (suc i)) (c .place)) e (c .here .same)))
 
-    right : (J R : ℕ) → Told l J R → (m : ℕ) × QuasiPeriod K w m × (R ≡ distance K w m) × (R ≤ reach l J)
+    right : (J R : ℕ) → Found l J R → (m : ℕ) × QuasiPeriod K w m × (R ≡ distance K w m) × (R ≤ reach l J)
     right J R t = ⊎-elim (inside-right J R) (λ r. landing-right J (r .0) R (r .1) (r .2)) t
 
-    decide : (J : ℕ) → ((R : ℕ) × Told l J R) ⊎ Untold l J
+    decide : (J : ℕ) → ((R : ℕ) × Found l J R) ⊎ Spent l J
     decide J = ⊎-elim (λ r. inl (distance K w (r .0), inl (record { m = r .0; inside = r .1; first = r .2; is = refl }))) (λ none. ⊎-elim (λ r. inl (distance K w (r .0), whenever J (r .0) (r .2) (let a = distance-mono K w (r .0) (at J) (r .1) in omega arith))) (λ none′. inr (record { none = none; no-landing = λ j i h s. none′ (at (suc j) -ₙ i) (let a = past j in let b = s .inside in omega arith) (let a = index-le K w (at (suc j)) (at J) (rises-to (suc j) J h) in omega arith) (stocked-constant j i s) })) (quasi-period K w (at J))) (quasi-period K w k)
 
-    none-solves : (J : ℕ) → Untold l J → {X Y : Px K} → Solution K D X Y → (n : ℕ) × Deg K X n × (reach l J < n)
+    none-solves : (J : ℕ) → Spent l J → {X Y : Px K} → Solution K D X Y → (n : ℕ) × Deg K X n × (reach l J < n)
     none-solves J empty {X} {Y} u = go (solved K w u)
       where
         go : (m : ℕ) × QuasiPeriod K w m → (n : ℕ) × Deg K X n × (reach l J < n)
-        go r = let f = found K w (r .0) (r .1) u in (f .0, f .1, ⊎-elim (λ h. absurd (told (whenever J (r .0) (r .1) h))) (λ h. (let a = f .2 in omega arith)) (le-or-lt (distance K w (r .0)) (reach l J)))
+        go r = let f = found K w (r .0) (r .1) u in (f .0, f .1, ⊎-elim (λ h. absurd (not-found (whenever J (r .0) (r .1) h))) (λ h. (let a = f .2 in omega arith)) (le-or-lt (distance K w (r .0)) (reach l J)))
           where
-            told : {R : ℕ} → Told l J R → ⊥
-            told t = ⊎-elim (λ s. empty .none (s .m) (s .first .positive) (s .inside) (s .first .constant)) (λ s. empty .no-landing (s .0) (s .2 .place) (s .1) (s .2 .here)) t
+            not-found : {R : ℕ} → Found l J R → ⊥
+            not-found t = ⊎-elim (λ s. empty .none (s .m) (s .first .positive) (s .inside) (s .first .constant)) (λ s. empty .no-landing (s .0) (s .2 .place) (s .1) (s .2 .here)) t
+
+    solves : (J R : ℕ) → Found l J R → (X Y : Px K) × Solution K D X Y × Deg K X R
+    solves J R t = let r = right J R t in (convergents.p K w (suc (r .0)), convergents.s K w (suc (r .0)), reached K w (r .0) (r .1), subst (Deg K (convergents.p K w (suc (r .0)))) (sym (r .2)) (reached-deg K w (r .0) (r .1)))
 
     pub searches : (J : ℕ) → Search l J
-    searches J = record { told-right = right J; told-whenever = whenever J; decided = decide J; spent = none-solves J; rises = next-rises; short = next-short; first-reach = reach-start }
+    searches J = record { found-right = right J; found-whenever = whenever J; decided = decide J; found-solves = solves J; spent-above = none-solves J; rises = next-rises; short = next-short; first-reach = reach-start }

@@ -1,6 +1,6 @@
--- The theorem a reader opens: the giant step of two ideals of the endless walk is an ideal of the endless walk, and its distance there is the sum of the two distances and f, exactly. The
--- statement is `Lands`, its proof `lands`. Carried by generators: the convergents are big ones, the product and the steps keep them big, and a reduced ideal with a big generator is the ideal
--- of the walk at the generator's degree.
+-- The theorem a reader opens: the giant step of two ideals of the endless walk is an ideal of the endless walk, and its distance there is the sum of
+-- the two distances and f, exactly. The statement is `Lands`, its proof `lands`. Carried by generators: the convergents are big ones, the product and
+-- the steps keep them big, and a reduced ideal with a big generator is the ideal of the walk at the generator's degree.
 use Prim.Native.Nat.{ℕ, zero, suc, _+_ as _+ₙ_, _-_ as _-ₙ_, _≤_}
 use native.Mathlib.Omega.{arith}
 use mathlib.Core.Path.{_≡_, sym, _∙_, subst}
@@ -8,7 +8,7 @@ use mathlib.Core.Logic.{⊎-elim}
 use Rattle.ring.specs.Order.{le-or-lt}
 use Rattle.ring.specs.Series.{Series}
 use Rattle.algebra.specs.Field.{Field}
-use Rattle.algebra.specs.Polynomial.{F, Px, Deg, low-up, deg-unique, monic-deg}
+use Rattle.algebra.specs.Polynomial.{F, Px, Deg, deg-unique, monic-deg}
 use Rattle.algebra.specs.Divides.{divides-constant}
 use Rattle.algebra.specs.Associate.{Associate, associate-sym, associate-trans, associate-path, associate-deg, associate-scale, divides-associate}
 use Rattle.surd.specs.Root.{Root}
@@ -18,13 +18,13 @@ use Rattle.surd.specs.Walk.{Walk, κ-first}
 use Rattle.surd.specs.Convergents as convergents
 use Rattle.surd.specs.Distance.{distance, height, distance-height, convergent-big}
 use Rattle.surd.specs.Ideal.{SameIdeal, same-trans}
-use Rattle.ideals.specs.Finite.{Finite}
-use Rattle.ideals.specs.Reduction.{next-P-finite}
-use Rattle.ideals.specs.Steps.{Steps, degree-sum, shift-form}
+use Rattle.ideals.specs.Reduction.{next-state}
+use Rattle.ideals.specs.Steps.{degree-sum, shift-form}
 use Rattle.giants.specs.Generators.{Generates, generates-same, convergent-generates, s-finite}
 use Rattle.giants.specs.Classification.{Located, classify}
 use Rattle.giants.specs.GeneratorProduct.{Multiplied, multiplied}
 use Rattle.giants.specs.GeneratorSteps.{Reached, reached}
+use Rattle.giants.specs.Exists.{walk-no-square}
 use Rattle.giants.specs.GiantStep.{GiantStep, giant-Q, giant-P, drop, drop-sum, start-state, giant-swap}
 
 module _ {A : Type 0} (K : Field A) {g : ℕ} {D : Px K} {o : Root K g D} (w : Walk K o) where
@@ -37,7 +37,7 @@ module _ {A : Type 0} (K : Field A) {g : ℕ} {D : Px K} {o : Root K g D} (w : W
     pub same : SameIdeal K (giant-Q K G) (giant-P K G) (w .Q at) (w .P at)
     pub distance-is : distance K w at +ₙ drop K G ≡ δ₁ +ₙ δ₂
 
-  -- for all indices i and j of the endless walk, and all pairs of polynomials that stand for their ideals
+  -- for all indices i and j of the endless walk, and all pairs (Q₁, P₁) and (Q₂, P₂) that have their ideals
   abbrev pub Lands : P[x] → P[x] → P[x] → P[x] → Type 0
   Lands Q₁ P₁ Q₂ P₂ = (G : GiantStep K o Q₁ P₁ Q₂ P₂) (i j : ℕ) → SameIdeal K Q₁ P₁ (w .Q i) (w .P i) → SameIdeal K Q₂ P₂ (w .Q j) (w .P j) → Landed G (distance K w i) (distance K w j)
 
@@ -48,17 +48,13 @@ module _ {A : Type 0} (K : Field A) {g : ℕ} {D : Px K} {o : Root K g D} (w : W
   abbrev s : ℕ → P[x]
   s = convergents.s K w
 
-  -- every ideal of the steps is a state
-  step-state : (t : Steps K o) (k : ℕ) → State K D (t .Q (suc k)) (t .Q k) (t .P (suc k))
-  step-state t k = record { κ = t .κ (suc k); deg = t .deg (suc k); norm = t .follows k .norm; size = suc (t .κ k) +ₙ f .size; C-low = low-up K (t .Q k) (omega arith) (t .deg k .low); P-low = low-up K (t .P (suc k)) (omega arith) (f .low) }
-    where
-      f : Finite K (t .P (suc k))
-      f = next-P-finite K (t .follows k)
-
-  -- a reduced one with a big generator
+  -- a reduced ideal of the steps with a big generator
   located : {Q₁ P₁ Q₂ P₂ : P[x]} (G : GiantStep K o Q₁ P₁ Q₂ P₂) (k : ℕ) → G .steps .κ k ≤ g → {x y : P[x]} → Generates K D x y (G .steps .Q k) (G .steps .P k) → Big K o x y → Located K w x (G .steps .Q k) (G .steps .P k)
   located G zero l h b = classify K w (start-state K G) (let e = deg-unique K (start-state K G .deg) (G .steps .deg 0) in omega arith) h b
-  located G (suc k) l h b = classify K w (step-state (G .steps) k) (let e = deg-unique K (step-state (G .steps) k .deg) (G .steps .deg (suc k)) in omega arith) h b
+  located G (suc k) l h b = classify K w st (let e = deg-unique K (st .deg) (G .steps .deg (suc k)) in omega arith) h b
+    where
+      st : State K D (G .steps .Q (suc k)) (G .steps .Q k) (G .steps .P (suc k))
+      st = next-state K (G .steps .follows k) (walk-no-square K w)
 
   -- ---- both past the first ideal
   module _ {Q₁ P₁ Q₂ P₂ : P[x]} (G : GiantStep K o Q₁ P₁ Q₂ P₂) (i j : ℕ) (h₁ : SameIdeal K Q₁ P₁ (w .Q (suc i)) (w .P (suc i))) (h₂ : SameIdeal K Q₂ P₂ (w .Q (suc j)) (w .P (suc j))) where

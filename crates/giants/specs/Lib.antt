@@ -9,5 +9,5 @@ pub mod GiantStep
 pub mod Jumps
 pub mod Landings
 pub mod Lands
-pub mod Stands
+pub mod Place
 pub mod Within

@@ -1,7 +1,8 @@
--- The theorem a reader opens: half the walk tells the quasi-period m and the regulator R. It turns at i where Q_{i+1} is a constant times Q_i, or where P_{i+1} = P_{i+2}. At the first turn, with
--- Q tested before P, m = 2i + 1 or m = 2i + 2, and R = 2 deg p_i - (g + 1) or R = 2 deg p_i - deg Q_{i+1}: `half`. A turn comes below b exactly if m ≤ 2b, exactly if some solution of
--- X² - D Y² = c has a degree of at most deg p_{2b-1}: `budget`. Carried by `Reflect`: at a turn the walk goes back the way it came, and up to m it turns in the middle.
--- distance (i + 1) is the degree of the convergent p of index i, and R is distance m.
+-- The theorem a reader opens: half the walk tells the quasi-period m and the regulator R. It looks for the middle: the first i at which Q_{i+1} is a
+-- constant times Q_i, which gives m = 2i + 1 and R = 2 deg p_i - (g + 1), or else P_{i+1} = P_{i+2}, which gives m = 2i + 2 and R = 2 deg p_i - deg
+-- Q_{i+1}: `half`. The middle is below b exactly if m ≤ 2b, and exactly if some solution of X² - D Y² = c has a degree of at most deg p_{2b-1}:
+-- `budget`. Carried by `Reflect`: each test says that the states before i and after it are the same, up to constants. distance (i + 1) is the degree
+-- of the convergent p of index i, and R is distance m.
 use Prim.Native.Nat.{ℕ, zero, suc, _+_ as _+ₙ_, _-_ as _-ₙ_, _≤_, _<_}
 use native.Mathlib.Nat.{add-zero, add-suc}
 use native.Mathlib.Omega.{arith}
@@ -42,38 +43,39 @@ module _ {A : Type 0} (K : Field A) where
     open Walk w using (Q, P, κ, Q-deg, reduced)
 
     -- ---- the two tests
-    abbrev pub TurnsQ : ℕ → Type 0
-    TurnsQ i = Associate K (Q (suc i)) (Q i)
+    abbrev pub MiddleQ : ℕ → Type 0
+    MiddleQ i = Associate K (Q (suc i)) (Q i)
 
-    abbrev pub TurnsP : ℕ → Type 0
-    TurnsP i = P (suc i) ≡ P (suc (suc i))
+    abbrev pub MiddleP : ℕ → Type 0
+    MiddleP i = P (suc i) ≡ P (suc (suc i))
 
     -- neither holds before b
-    pub record NoTurn (b : ℕ) : Type 0 where
-      pub no-Q : (i : ℕ) → i < b → TurnsQ i → ⊥
-      pub no-P : (i : ℕ) → i < b → TurnsP i → ⊥
+    pub record NoMiddle (b : ℕ) : Type 0 where
+      pub no-Q : (i : ℕ) → i < b → MiddleQ i → ⊥
+      pub no-P : (i : ℕ) → i < b → MiddleP i → ⊥
 
-    -- the walk turns at i for the first time, with m by the test that holds, Q before P
-    pub record FirstTurn (i m : ℕ) : Type 0 where
-      pub before : NoTurn i
-      pub here : (TurnsQ i × (m ≡ suc (i +ₙ i))) ⊎ ((TurnsQ i → ⊥) × TurnsP i × (m ≡ suc (suc (i +ₙ i))))
+    -- i is the first at which a test holds, with m by the test that does, Q before P
+    pub record FirstMiddle (i m : ℕ) : Type 0 where
+      pub before : NoMiddle i
+      pub here : (MiddleQ i × (m ≡ suc (i +ₙ i))) ⊎ ((MiddleQ i → ⊥) × MiddleP i × (m ≡ suc (suc (i +ₙ i))))
 
-    -- Q turns at i exactly if Q_{2i+1} is constant, and P exactly if Q_{2i+2} is. At the first turn m is the quasi-period, and the quasi-period is told by a first turn. R + (g + 1) = 2 deg p_i
-    -- where Q turns, R + deg Q_{i+1} = 2 deg p_i where P does. Both turn at one i only where m = 1: the order of the tests matters there only
+    -- The test of Q holds at i exactly if Q_{2i+1} is constant, and that of P exactly if Q_{2i+2} is. At the first i with one of them m is the
+    -- quasi-period, and the quasi-period has such an i. R + (g + 1) = 2 deg p_i where the test of Q holds, R + deg Q_{i+1} = 2 deg p_i where that of
+    -- P does. Both hold at one i only where m = 1: the order of the tests matters there only
     pub record Half : Type 0 where
-      pub Q-constant : (i : ℕ) → TurnsQ i → κ (suc (i +ₙ i)) ≡ 0
-      pub Q-turns : (i : ℕ) → κ (suc (i +ₙ i)) ≡ 0 → TurnsQ i
-      pub P-constant : (i : ℕ) → TurnsP i → κ (suc (suc (i +ₙ i))) ≡ 0
-      pub P-turns : (i : ℕ) → κ (suc (suc (i +ₙ i))) ≡ 0 → TurnsP i
-      pub period : (i m : ℕ) → FirstTurn i m → QuasiPeriod K w m
-      pub turn : (m : ℕ) → QuasiPeriod K w m → (i : ℕ) × FirstTurn i m
-      pub regulator-Q : (i : ℕ) → TurnsQ i → distance K w (suc (i +ₙ i)) +ₙ suc g ≡ distance K w (suc i) +ₙ distance K w (suc i)
-      pub regulator-P : (i : ℕ) → TurnsP i → distance K w (suc (suc (i +ₙ i))) +ₙ κ (suc i) ≡ distance K w (suc i) +ₙ distance K w (suc i)
-      pub both : (i : ℕ) → TurnsQ i → TurnsP i → QuasiPeriod K w 1
+      pub Q-constant : (i : ℕ) → MiddleQ i → κ (suc (i +ₙ i)) ≡ 0
+      pub Q-middle : (i : ℕ) → κ (suc (i +ₙ i)) ≡ 0 → MiddleQ i
+      pub P-constant : (i : ℕ) → MiddleP i → κ (suc (suc (i +ₙ i))) ≡ 0
+      pub P-middle : (i : ℕ) → κ (suc (suc (i +ₙ i))) ≡ 0 → MiddleP i
+      pub period : (i m : ℕ) → FirstMiddle i m → QuasiPeriod K w m
+      pub middle : (m : ℕ) → QuasiPeriod K w m → (i : ℕ) × FirstMiddle i m
+      pub regulator-Q : (i : ℕ) → MiddleQ i → distance K w (suc (i +ₙ i)) +ₙ suc g ≡ distance K w (suc i) +ₙ distance K w (suc i)
+      pub regulator-P : (i : ℕ) → MiddleP i → distance K w (suc (suc (i +ₙ i))) +ₙ κ (suc i) ≡ distance K w (suc i) +ₙ distance K w (suc i)
+      pub both : (i : ℕ) → MiddleQ i → MiddleP i → QuasiPeriod K w 1
 
-    -- a turn comes below b, and m is told
+    -- a test holds at some i below b, and m is by the first
     abbrev pub Found : ℕ → Type 0
-    Found b = (i m : ℕ) × (i < b) × FirstTurn i m
+    Found b = (i m : ℕ) × (i < b) × FirstMiddle i m
 
     -- the quasi-period is at most 2b
     abbrev pub Within : ℕ → Type 0
@@ -83,40 +85,40 @@ module _ {A : Type 0} (K : Field A) where
     abbrev pub Solvable : ℕ → Type 0
     Solvable b = (X Y : P[x]) × (n : ℕ) × Solution K D X Y × Deg K X n × (n ≤ distance K w (b +ₙ b))
 
-    -- With the budget b: a turn comes below b exactly if m ≤ 2b, and exactly if a solution has a degree of at most deg p_{2b-1}. Else no turn comes below b, which is so exactly if no Q_1 .. Q_{2b}
-    -- is constant, and every solution has a larger degree
+    -- With the budget b: a test holds below b exactly if m ≤ 2b, and exactly if a solution has a degree of at most deg p_{2b-1}. Else no test holds
+    -- below b, which is so exactly if no Q_1 .. Q_{2b} is constant, and every solution has a larger degree
     pub record Budget (b : ℕ) : Type 0 where
       pub found-within : Found b → Within b
       pub within-found : Within b → Found b
       pub found-solvable : Found b → Solvable b
       pub solvable-found : Solvable b → Found b
-      pub decided : Found b ⊎ NoTurn b
-      pub none-constant : NoTurn b → NoneConstant K w (b +ₙ b)
-      pub none-turns : NoneConstant K w (b +ₙ b) → NoTurn b
-      pub none-solves : NoTurn b → {X Y : P[x]} → Solution K D X Y → (n : ℕ) × Deg K X n × (distance K w (b +ₙ b) < n)
+      pub decided : Found b ⊎ NoMiddle b
+      pub none-constant : NoMiddle b → NoneConstant K w (b +ₙ b)
+      pub none-middle : NoneConstant K w (b +ₙ b) → NoMiddle b
+      pub none-solves : NoMiddle b → {X Y : P[x]} → Solution K D X Y → (n : ℕ) × Deg K X n × (distance K w (b +ₙ b) < n)
 
     -- ---- the proof
     -- where a test holds, a Q twice as far on is constant
     reflected-constant : (n : ℕ) → Reflect K w n 0 → κ n ≡ 0
     reflected-constant n h = same-κ K w n 0 (h .ratio) ∙ κ-first K w
 
-    turned-Q : (i : ℕ) → TurnsQ i → κ (suc (i +ₙ i)) ≡ 0
-    turned-Q i h = reflected-constant (suc (i +ₙ i)) (reflect-add K w i i 0 (rw (add-zero i) (record { P-is = refl; ratio = h })))
+    constant-Q : (i : ℕ) → MiddleQ i → κ (suc (i +ₙ i)) ≡ 0
+    constant-Q i h = reflected-constant (suc (i +ₙ i)) (reflect-add K w i i 0 (rw (add-zero i) (record { P-is = refl; ratio = h })))
 
-    turn-P : (i : ℕ) → TurnsP i → Reflect K w (suc (suc i)) i
-    turn-P i h = record { P-is = sym h; ratio = associate-cofactor K (Q i) (Q (suc (suc i))) (κ (suc i)) (suc (κ i +ₙ κ (suc (suc i)))) (associate-refl K (Q (suc i))) (Q-deg (suc i)) (low-up K (Q i) (omega arith) (Q-deg i .low)) (low-up K (Q (suc (suc i))) (omega arith) (Q-deg (suc (suc i)) .low)) product }
+    reflect-P : (i : ℕ) → MiddleP i → Reflect K w (suc (suc i)) i
+    reflect-P i h = record { P-is = sym h; ratio = associate-cofactor K (Q i) (Q (suc (suc i))) (κ (suc i)) (suc (κ i +ₙ κ (suc (suc i)))) (associate-refl K (Q (suc i))) (Q-deg (suc i)) (low-up K (Q i) (omega arith) (Q-deg i .low)) (low-up K (Q (suc (suc i))) (omega arith) (Q-deg (suc (suc i)) .low)) product }
       where
         product : Q (suc i) * Q i ≡ Q (suc i) * Q (suc (suc i))
         product = ring-from R[x] (Q i ∷ Q (suc i) ∷ Q (suc (suc i)) ∷ P (suc i) ∷ P (suc (suc i)) ∷ D ∷ []) (plus R[x] (times R[x] (- 𝟙) (norm K w (suc i))) (plus R[x] (times R[x] 𝟙 (norm K w (suc (suc i)))) (times R[x] (- (P (suc i) + P (suc (suc i)))) h))) (search quote depth 40 fits 9999) tt
 
-    turned-P : (i : ℕ) → TurnsP i → κ (suc (suc (i +ₙ i))) ≡ 0
-    turned-P i h = ap (λ (n : ℕ). κ (suc n)) (sym (add-suc i i)) ∙ reflected-constant (suc (i +ₙ suc i)) (reflect-add K w i (suc i) 0 (rw (add-zero i) (turn-P i h)))
+    constant-P : (i : ℕ) → MiddleP i → κ (suc (suc (i +ₙ i))) ≡ 0
+    constant-P i h = ap (λ (n : ℕ). κ (suc n)) (sym (add-suc i i)) ∙ reflected-constant (suc (i +ₙ suc i)) (reflect-add K w i (suc i) 0 (rw (add-zero i) (reflect-P i h)))
 
     -- ---- and the tests hold in the middle of a walk to a constant Q
-    middle-Q : (i : ℕ) → κ (suc (i +ₙ i)) ≡ 0 → TurnsQ i
+    middle-Q : (i : ℕ) → κ (suc (i +ₙ i)) ≡ 0 → MiddleQ i
     middle-Q i c = reflects K w (suc (i +ₙ i)) c i i refl .ratio
 
-    middle-P : (i : ℕ) → κ (suc (suc (i +ₙ i))) ≡ 0 → TurnsP i
+    middle-P : (i : ℕ) → κ (suc (suc (i +ₙ i))) ≡ 0 → MiddleP i
     middle-P i c = P-symmetric K w (suc (suc (i +ₙ i))) c i (suc i) (omega arith)
 
     -- ---- no test holds before b exactly if no Q is constant up to 2 b
@@ -125,7 +127,7 @@ module _ {A : Type 0} (K : Field A) where
     halves zero = inr (0, omega arith)
     halves (suc n) = ⊎-elim (λ r. let e = r .1 in inr (suc (r .0), omega arith)) (λ r. let e = r .1 in inl (r .0, omega arith)) (halves n)
 
-    constant-none : (b : ℕ) → NoTurn b → NoneConstant K w (b +ₙ b)
+    constant-none : (b : ℕ) → NoMiddle b → NoneConstant K w (b +ₙ b)
     constant-none b h j p l c = ⊎-elim odd even (halves j)
       where
         odd : (i : ℕ) × (j ≡ suc (i +ₙ i)) → ⊥
@@ -135,74 +137,74 @@ module _ {A : Type 0} (K : Field A) where
         even (zero, e) = omega arith
         even (suc i, e) = h .no-P i (omega arith) (middle-P i (let n : suc (suc (i +ₙ i)) ≡ j = omega arith in ap κ n ∙ c))
 
-    turn-none : (b : ℕ) → NoneConstant K w (b +ₙ b) → NoTurn b
-    turn-none b none = record {
-      no-Q = λ i h t. none (suc (i +ₙ i)) (omega arith) (omega arith) (turned-Q i t);
-      no-P = λ i h t. none (suc (suc (i +ₙ i))) (omega arith) (omega arith) (turned-P i t);
+    middle-none : (b : ℕ) → NoneConstant K w (b +ₙ b) → NoMiddle b
+    middle-none b none = record {
+      no-Q = λ i h t. none (suc (i +ₙ i)) (omega arith) (omega arith) (constant-Q i t);
+      no-P = λ i h t. none (suc (suc (i +ₙ i))) (omega arith) (omega arith) (constant-P i t);
     }
 
-    -- ---- the first turn tells the quasi-period
+    -- ---- the first middle tells the quasi-period
     first-constant : (n : ℕ) → NoneConstant K w n → κ (suc n) ≡ 0 → QuasiPeriod K w (suc n)
     first-constant n none c = record { positive = omega arith; constant = c; least = λ j p l. none j p (omega arith) }
 
-    period-Q : (i : ℕ) → NoTurn i → TurnsQ i → QuasiPeriod K w (suc (i +ₙ i))
-    period-Q i h t = first-constant (i +ₙ i) (constant-none i h) (turned-Q i t)
+    period-Q : (i : ℕ) → NoMiddle i → MiddleQ i → QuasiPeriod K w (suc (i +ₙ i))
+    period-Q i h t = first-constant (i +ₙ i) (constant-none i h) (constant-Q i t)
 
-    period-P : (i : ℕ) → NoTurn i → (TurnsQ i → ⊥) → TurnsP i → QuasiPeriod K w (suc (suc (i +ₙ i)))
-    period-P i h not t = first-constant (suc (i +ₙ i)) none (turned-P i t)
+    period-P : (i : ℕ) → NoMiddle i → (MiddleQ i → ⊥) → MiddleP i → QuasiPeriod K w (suc (suc (i +ₙ i)))
+    period-P i h not t = first-constant (suc (i +ₙ i)) none (constant-P i t)
       where
         none : NoneConstant K w (suc (i +ₙ i))
         none j p l c = ⊎-elim (λ k. constant-none i h j p k c) (λ k. not (middle-Q i (let n : suc (i +ₙ i) ≡ j = omega arith in ap κ n ∙ c))) (le-or-lt j (i +ₙ i))
 
-    period-of : (i m : ℕ) → FirstTurn i m → QuasiPeriod K w m
+    period-of : (i m : ℕ) → FirstMiddle i m → QuasiPeriod K w m
     period-of i m f = ⊎-elim (λ r. subst (QuasiPeriod K w) (sym (r .1)) (period-Q i (f .before) (r .0))) (λ r. subst (QuasiPeriod K w) (sym (r .2)) (period-P i (f .before) (r .0) (r .1))) (f .here)
 
-    -- ---- and the quasi-period is told by a first turn
-    before-middle : (m : ℕ) → QuasiPeriod K w m → (i : ℕ) → i +ₙ i < m → NoTurn i
-    before-middle m first i l = turn-none i (λ j p q. first .least j p (omega arith))
+    -- ---- and the quasi-period is told by a first middle
+    before-middle : (m : ℕ) → QuasiPeriod K w m → (i : ℕ) → i +ₙ i < m → NoMiddle i
+    before-middle m first i l = middle-none i (λ j p q. first .least j p (omega arith))
 
-    turn-of : (m : ℕ) → QuasiPeriod K w m → (i : ℕ) × FirstTurn i m
-    turn-of m first = ⊎-elim odd even (halves m)
+    middle-of : (m : ℕ) → QuasiPeriod K w m → (i : ℕ) × FirstMiddle i m
+    middle-of m first = ⊎-elim odd even (halves m)
       where
-        odd : (i : ℕ) × (m ≡ suc (i +ₙ i)) → (i : ℕ) × FirstTurn i m
+        odd : (i : ℕ) × (m ≡ suc (i +ₙ i)) → (i : ℕ) × FirstMiddle i m
         odd r = let e = r .1 in (r .0, record { before = before-middle m first (r .0) (omega arith); here = inl (middle-Q (r .0) (ap κ (sym e) ∙ first .constant), e) })
 
-        even : (i : ℕ) × (m ≡ i +ₙ i) → (i : ℕ) × FirstTurn i m
+        even : (i : ℕ) × (m ≡ i +ₙ i) → (i : ℕ) × FirstMiddle i m
         even (zero, e) = absurd (let p = first .positive in omega arith)
-        even (suc i, e) = (i, record { before = before-middle m first i (omega arith); here = inr (λ t. first .least (suc (i +ₙ i)) (omega arith) (omega arith) (turned-Q i t), middle-P i (let n : suc (suc (i +ₙ i)) ≡ m = omega arith in ap κ n ∙ first .constant), omega arith) })
+        even (suc i, e) = (i, record { before = before-middle m first i (omega arith); here = inr (λ t. first .least (suc (i +ₙ i)) (omega arith) (omega arith) (constant-Q i t), middle-P i (let n : suc (suc (i +ₙ i)) ≡ m = omega arith in ap κ n ∙ first .constant), omega arith) })
 
     -- both hold at one i only where Q_1 is constant
-    both-turn : (i : ℕ) → TurnsQ i → TurnsP i → κ 1 ≡ 0
-    both-turn i t u = sym (κ-period K w (suc (i +ₙ i)) (turned-Q i t) 1) ∙ (let n : 1 +ₙ suc (i +ₙ i) ≡ suc (suc (i +ₙ i)) = omega arith in ap κ n) ∙ turned-P i u
+    both-constant : (i : ℕ) → MiddleQ i → MiddleP i → κ 1 ≡ 0
+    both-constant i t u = sym (κ-period K w (suc (i +ₙ i)) (constant-Q i t) 1) ∙ (let n : 1 +ₙ suc (i +ₙ i) ≡ suc (suc (i +ₙ i)) = omega arith in ap κ n) ∙ constant-P i u
 
     pub half : Half
     half = record {
-      Q-constant = turned-Q;
-      Q-turns = middle-Q;
-      P-constant = turned-P;
-      P-turns = middle-P;
+      Q-constant = constant-Q;
+      Q-middle = middle-Q;
+      P-constant = constant-P;
+      P-middle = middle-P;
       period = period-of;
-      turn = turn-of;
-      regulator-Q = λ i t. let h = distance-symmetric K w (suc (i +ₙ i)) (turned-Q i t) (suc i) i (omega arith) in let r = reduced i in omega arith;
-      regulator-P = λ i t. let h = distance-symmetric K w (suc (suc (i +ₙ i))) (turned-P i t) (suc i) (suc i) (omega arith) in omega arith;
-      both = λ i t u. first-constant 0 (λ j p l c. omega arith) (both-turn i t u);
+      middle = middle-of;
+      regulator-Q = λ i t. let h = distance-symmetric K w (suc (i +ₙ i)) (constant-Q i t) (suc i) i (omega arith) in let r = reduced i in omega arith;
+      regulator-P = λ i t. let h = distance-symmetric K w (suc (suc (i +ₙ i))) (constant-P i t) (suc i) (suc i) (omega arith) in omega arith;
+      both = λ i t u. first-constant 0 (λ j p l c. omega arith) (both-constant i t u);
     }
 
     -- ---- the budget
     module _ (b : ℕ) where
-      turn-near : (i m : ℕ) → FirstTurn i m → (i +ₙ i < m) × (m ≤ suc (suc (i +ₙ i)))
-      turn-near i m f = ⊎-elim (λ r. let e = r .1 in (omega arith, omega arith)) (λ r. let e = r .2 in (omega arith, omega arith)) (f .here)
+      middle-near : (i m : ℕ) → FirstMiddle i m → (i +ₙ i < m) × (m ≤ suc (suc (i +ₙ i)))
+      middle-near i m f = ⊎-elim (λ r. let e = r .1 in (omega arith, omega arith)) (λ r. let e = r .2 in (omega arith, omega arith)) (f .here)
 
       within : Found b → Within b
-      within r = (r .1, let a = turn-near (r .0) (r .1) (r .3) in omega (arith, r .2), period-of (r .0) (r .1) (r .3))
+      within r = (r .1, let a = middle-near (r .0) (r .1) (r .3) in omega (arith, r .2), period-of (r .0) (r .1) (r .3))
 
       finds : Within b → Found b
-      finds r = let t = turn-of (r .0) (r .2) in (t .0, r .0, let a = turn-near (t .0) (r .0) (t .1) in omega (arith, r .1), t .1)
+      finds r = let t = middle-of (r .0) (r .2) in (t .0, r .0, let a = middle-near (t .0) (r .0) (t .1) in omega (arith, r .1), t .1)
 
-      decide : Found b ⊎ NoTurn b
-      decide = ⊎-elim (λ r. inl (finds r)) (λ none. inr (turn-none b none)) (quasi-period K w (b +ₙ b))
+      decide : Found b ⊎ NoMiddle b
+      decide = ⊎-elim (λ r. inl (finds r)) (λ none. inr (middle-none b none)) (quasi-period K w (b +ₙ b))
 
-      above : NoTurn b → {X Y : P[x]} → Solution K D X Y → (n : ℕ) × Deg K X n × (distance K w (b +ₙ b) < n)
+      above : NoMiddle b → {X Y : P[x]} → Solution K D X Y → (n : ℕ) × Deg K X n × (distance K w (b +ₙ b) < n)
       above h u = spent K w (b +ₙ b) (constant-none b h) u
 
       solution : Within b → Solvable b
@@ -212,15 +214,15 @@ module _ {A : Type 0} (K : Field A) where
       solved v = ⊎-elim (λ f. f) (λ h. let r = above h (v .3) in absurd (let e = deg-unique K (r .1) (v .4) in omega (arith, r .2, v .5))) decide
 
       pub budget : Budget b
-      budget = record { found-within = within; within-found = finds; found-solvable = λ f. solution (within f); solvable-found = solved; decided = decide; none-constant = constant-none b; none-turns = turn-none b; none-solves = above }
+      budget = record { found-within = within; within-found = finds; found-solvable = λ f. solution (within f); solvable-found = solved; decided = decide; none-constant = constant-none b; none-middle = middle-none b; none-solves = above }
 
     -- ---- R from the degrees of the partial quotients: height i is deg a_1 + .. + deg a_i
-    pub regulator-sum-Q : (i : ℕ) → TurnsQ i → distance K w (suc (i +ₙ i)) ≡ height K w i +ₙ height K w i +ₙ suc g
+    pub regulator-sum-Q : (i : ℕ) → MiddleQ i → distance K w (suc (i +ₙ i)) ≡ height K w i +ₙ height K w i +ₙ suc g
     regulator-sum-Q i t = let h = half .regulator-Q i t in let k = distance-height K w i in omega arith
 
-    pub regulator-sum-P : (i : ℕ) → TurnsP i → distance K w (suc (suc (i +ₙ i))) ≡ height K w (suc i) +ₙ height K w (suc i) +ₙ κ (suc i)
+    pub regulator-sum-P : (i : ℕ) → MiddleP i → distance K w (suc (suc (i +ₙ i))) ≡ height K w (suc i) +ₙ height K w (suc i) +ₙ κ (suc i)
     regulator-sum-P i t = let h = half .regulator-P i t in let k = distance-height K w i in let l = reduced (suc i) in omega arith
 
     -- the same R by p_{i-1}: 2 deg p_{i-1} - deg Q_i + deg a_{i+1} where Q turns
-    pub regulator-prior-Q : (i : ℕ) → TurnsQ i → distance K w (suc (i +ₙ i)) +ₙ κ i ≡ distance K w i +ₙ distance K w i +ₙ (suc g -ₙ κ (suc i))
+    pub regulator-prior-Q : (i : ℕ) → MiddleQ i → distance K w (suc (i +ₙ i)) +ₙ κ i ≡ distance K w i +ₙ distance K w i +ₙ (suc g -ₙ κ (suc i))
     regulator-prior-Q i t = let h = half .regulator-Q i t in let k = same-κ K w (suc i) i t in let l = reduced i in omega arith

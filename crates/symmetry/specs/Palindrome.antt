@@ -1,5 +1,5 @@
--- The symmetry of the walk up to an index m at which Q is constant: read from the end, it has the same P and, up to constant factors, the same Q. `symmetric` says so, and what follows of
--- the distances. Carried by `Reflect`: at m the walk turns back on itself.
+-- The symmetry of the walk up to an index m at which Q is constant: read from the end, it has the same P and, up to constant factors, the same Q.
+-- `symmetric` says so, and what follows of the distances. Carried by `Reflect` from the ends: P_1 = d = P_m, and Q_1 is a constant times Q_{m-1}.
 use Prim.Native.Nat.{ℕ, zero, suc, _+_ as _+ₙ_, _-_ as _-ₙ_, _≤_, _<_}
 use native.Mathlib.Nat.{add-zero}
 use native.Mathlib.Omega.{arith}
@@ -33,14 +33,14 @@ module _ {A : Type 0} (K : Field A) where
   module _ {g : ℕ} {D : P[x]} {o : Root K g D} (w : Walk K o) where
     open Walk w using (Q, P, κ, Q-deg, reduced)
 
-    -- P_{1+j} = P_{m−j}, Q_{1+j} is a constant times Q_{m−1−j}, and the distance of m - i is R less that of i plus deg Q_i, where R is the distance of m
+    -- P_{1+j} = P_{m-j}, Q_{1+j} is a constant times Q_{m-1-j}, and the distance of m - i is R less that of i plus deg Q_i, where R is the distance of m
     pub record Symmetric (m : ℕ) : Type 0 where
       pub P-is : (j : ℕ) → j < m → P (suc j) ≡ P (m -ₙ j)
       pub Q-is : (j : ℕ) → j < m → Associate K (Q (suc j)) (Q (m -ₙ suc j))
       pub distance-is : (i : ℕ) → i ≤ m → distance K w (m -ₙ i) ≡ (distance K w m -ₙ distance K w i) +ₙ κ i
 
     -- ---- the proof
-    -- the walk turns back on itself before a constant Q
+    -- the two ends, 1 and n, before a constant Q
     reflect-constant : (n : ℕ) → κ (suc n) ≡ 0 → Reflect K w 1 n
     reflect-constant n c = record { P-is = equal; ratio = associate-cofactor K (Q n) (Q 1) (κ 0) (suc (κ n +ₙ κ 1)) (Q-constant K w (suc n) c) (Q-deg 0) (low-up K (Q n) (omega arith) (Q-deg n .low)) (low-up K (Q 1) (omega arith) (Q-deg 1 .low)) product }
       where
