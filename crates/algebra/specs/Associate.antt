@@ -1,7 +1,6 @@
 -- Associates: polynomials that differ by a constant factor other than 0, f = c g. They have the same degree, the same multiples and the same divisors.
-use Prim.Native.Nat.{ℕ, _-_ as _-ₙ_}
-use native.Mathlib.Omega.{arith}
-use mathlib.Core.Path.{_≡_, refl, sym, ap, _∙_, subst}
+use Prim.Native.Nat.{ℕ}
+use mathlib.Core.Path.{_≡_, sym, ap, _∙_, subst}
 use mathlib.Core.List.{[], _∷_}
 use Rattle.ring.specs.Ring.{CRing, eq-of-sub}
 use Rattle.ring.specs.Identity.{ring, ring-from, times, plus, quote}
@@ -9,7 +8,7 @@ use Rattle.ring.specs.Series.{Series, con}
 use Rattle.ring.specs.Division.{below-con}
 use Rattle.algebra.specs.Field.{Field, some-mul, some-inv}
 use Rattle.algebra.specs.Polynomial.{F, Px, _≺_ as Low, Deg, Monic, low-sub, low-scale, low-one, cancel, deg-path, deg-scale, con-mul, con-inv}
-use Rattle.algebra.specs.Divides.{Divides, divides-trans, divides-le, divides-by-deg, divides-monic}
+use Rattle.algebra.specs.Divides.{Divides, divides-trans, divides-monic}
 
 module _ {A : Type 0} (K : Field A) where
   open CRing (Series (F K)) using (add as _+_, mul as _*_, neg as -_, zer as 𝟘, one as 𝟙)
@@ -67,14 +66,6 @@ module _ {A : Type 0} (K : Field A) where
   pub divides-associate : {f g h : Px K} → Associate f g → Divides K f h → Divides K g h
   divides-associate a d = divides-trans K (associate-divides a) d
 
-  -- ---- products
-  pub associate-mul : {f g h k : Px K} → Associate f g → Associate h k → Associate (f * h) (g * k)
-  associate-mul {f} {g} {h} {k} a b = record {
-    factor = F K .mul (a .factor) (b .factor);
-    some = some-mul K (a .factor) (b .factor) (a .some) (b .some);
-    is = ring-from R[x] (f ∷ g ∷ h ∷ k ∷ con (F K) (a .factor) ∷ con (F K) (b .factor) ∷ con (F K) (F K .mul (a .factor) (b .factor)) ∷ []) (plus R[x] (times R[x] h (a .is)) (plus R[x] (times R[x] (con (F K) (a .factor) * g) (b .is)) (times R[x] (g * k) (con-mul K (a .factor) (b .factor))))) (search quote depth 40 fits 9999) tt;
-  }
-
   -- f h = g k with f an associate of g: h and k are associates
   pub associate-cofactor : {f g : Px K} (h k : Px K) (m n : ℕ) → Associate f g → Deg K g m → h ≺ n → k ≺ n → f * h ≡ g * k → Associate k h
   associate-cofactor {f} {g} h k m n a t bh bk e = record {
@@ -91,19 +82,10 @@ module _ {A : Type 0} (K : Field A) where
   pub associate-one : {f : Px K} → Deg K f 0 → Associate f 𝟙
   associate-one {f} t = record { factor = f 0; some = t .top; is = low-one K f (t .low) ∙ ring R[x] (con (F K) (f 0) ∷ []) (search quote depth 40 fits 9999) tt }
 
-  -- made monic
-  pub associate-monic : (f : Px K) (n : ℕ) → Deg K f n → Associate (con (F K) (K .inv (f n)) * f) f
-  associate-monic f n t = record { factor = K .inv (f n); some = some-inv K (f n) (t .top); is = refl }
+  -- multiples by them
+  pub associate-scale : (c f : Px K) → Deg K c 0 → Associate (c * f) f
+  associate-scale c f t = record { factor = c 0; some = t .top; is = ap (λ (u : Px K). u * f) (low-one K c (t .low)) }
 
-  -- polynomials that divide one another
-  pub associate-mutual : {f g : Px K} {m n : ℕ} → Deg K f m → Deg K g n → Divides K f g → Divides K g f → Associate g f
-  associate-mutual {f} {g} {m} {n} t u d e = record { factor = d .by 0; some = by-deg .top; is = d .is ∙ ap (λ (c : Px K). f * c) (low-one K (d .by) (by-deg .low)) ∙ R[x] .mul-comm f (con (F K) (d .by 0)) }
-    where
-      none : n -ₙ m ≡ 0
-      none = omega (arith, divides-le K d t u, divides-le K e u t)
-
-      by-deg : Deg K (d .by) 0
-      by-deg = subst (λ i. Deg K (d .by) i) none (divides-by-deg K d t u)
-
+  -- ---- monic ones are equal
   pub associate-monic-equal : {f g : Px K} {m n : ℕ} → Monic K f m → Monic K g n → Associate f g → f ≡ g
   associate-monic-equal hf hg a = divides-monic K hf hg (associate-divides (associate-sym a)) (associate-divides a)

@@ -4,7 +4,7 @@ use mathlib.Core.Path.{_≡_, refl, ap, ap₂, _∙_, fun-ext}
 use mathlib.Core.List.{[], _∷_}
 use Rattle.ring.specs.Ring.{CRing, mul-zer, zer-mul}
 use Rattle.ring.specs.Identity.{ring, ring-from, times, plus, quote}
-use Rattle.ring.specs.Series.{S, addS, conv, zerS, con, tail, conv-r, conv-addˡ}
+use Rattle.ring.specs.Series.{S, addS, conv, zerS, tail, conv-r, conv-addˡ}
 use Rattle.ring.specs.Degree.{Below}
 use Rattle.algebra.specs.Multiple.{natural}
 
@@ -45,10 +45,6 @@ module _ {A : Type 0} (F : CRing A) where
           → (natural F n + 𝟙) * (f 0 * g (suc n) + conv F (tail F f) g n) ≡ ((𝟘 * f 0) * g (suc n) + conv F (tail F (euler f)) g n) + (f 0 * ((natural F n + 𝟙) * g (suc n)) + conv F (tail F f) (euler g) n)
       step h k = ring-from F (natural F n ∷ f 0 ∷ g (suc n) ∷ conv F (tail F f) g n ∷ conv F (euler (tail F f)) g n ∷ conv F (tail F f) (euler g) n ∷ conv F (tail F (euler f)) g n ∷ []) (plus F (times F 𝟙 h) (times F (F .neg 𝟙) k)) (search quote depth 40 fits 9999) tt
 
-  pub derivative-add : (f g : S F) → derivative (addS F f g) ≡ addS F (derivative f) (derivative g)
-  unfolding derivative euler addS
-  derivative-add f g = fun-ext (λ i. mul-add (natural F (suc i)) (f (suc i)) (g (suc i)))
-
   -- (f g)′ = f′ g + f g′
   pub derivative-mul : (f g : S F) → derivative (conv F f g) ≡ addS F (conv F (derivative f) g) (conv F f (derivative g))
   unfolding derivative addS euler
@@ -63,7 +59,3 @@ module _ {A : Type 0} (F : CRing A) where
   pub derivative-low : (f : S F) (n : ℕ) → Below F f (suc n) → Below F (derivative f) n
   unfolding derivative euler
   derivative-low f n h i p = ap (λ t. natural F (suc i) * t) (h (suc i) (suc-le-suc p)) ∙ mul-zer F (natural F (suc i))
-
-  pub derivative-con : (c : A) → derivative (con F c) ≡ zerS F
-  unfolding derivative euler con zerS
-  derivative-con c = fun-ext (λ i. mul-zer F (natural F (suc i)))

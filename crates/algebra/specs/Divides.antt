@@ -1,4 +1,4 @@
--- Divisibility of polynomials over a field. `Divides f g`: f times a polynomial is g. Sums and multiples; degrees of divisors (Z9); a multiple below its divisor's degree is 0 (Z7).
+-- Divisibility of polynomials over a field. `Divides f g`: f times a polynomial is g. Sums and multiples; degrees of divisors; a multiple below its divisor's degree is 0.
 -- Everything on degrees comes from the degree of a product.
 use Prim.Native.Nat.{ℕ, _+_ as _+ₙ_, _-_ as _-ₙ_, _≤_, _<_}
 use native.Mathlib.Omega.{arith}
@@ -9,7 +9,7 @@ use Rattle.ring.specs.Ring.{CRing, eq-of-sub}
 use Rattle.ring.specs.Identity.{ring, ring-from, times, plus, quote}
 use Rattle.ring.specs.Series.{Series}
 use Rattle.algebra.specs.Field.{Field}
-use Rattle.algebra.specs.Polynomial.{F, Px, _≺_ as Low, Deg, Monic, low-up, low-add, low-neg, low-sub, low-product, low-zero, low-none, low-path, low-quotient, one-low, degree, deg-factor, deg-path, deg-not-zero, monic-deg, monic-sub}
+use Rattle.algebra.specs.Polynomial.{F, Px, _≺_ as Low, Deg, Monic, low-up, low-add, low-neg, low-product, low-zero, low-none, low-path, low-quotient, one-low, degree, deg-factor, deg-path, deg-not-zero, monic-deg, monic-sub}
 
 module _ {A : Type 0} (K : Field A) where
   open CRing (Series (F K)) using (add as _+_, mul as _*_, neg as -_, zer as 𝟘, one as 𝟙)
@@ -87,7 +87,7 @@ module _ {A : Type 0} (K : Field A) where
   pub divides-mulˡ : {f g : Px K} (h : Px K) (n : ℕ) → h ≺ n → Divides f g → Divides f (h * g)
   divides-mulˡ {g = g} h n b d = divides-path (R[x] .mul-comm g h) (divides-mul h n b d)
 
-  -- ---- degrees (Z9)
+  -- ---- degrees
   -- a divisor of a polynomial with a degree has a degree, at most that one
   pub divides-deg : {f g : Px K} (k m : ℕ) → f ≺ k → Divides f g → Deg K g m → (n : ℕ) × (n ≤ m) × Deg K f n
   divides-deg {f} {g} k m b d t = ⊎-elim none some (degree K k f b)
@@ -114,7 +114,7 @@ module _ {A : Type 0} (K : Field A) where
       zero-is : r .0 ≡ 0
       zero-is = omega (arith, r .1)
 
-  -- ---- a multiple below its divisor's degree (Z7)
+  -- ---- a multiple below its divisor's degree
   pub divides-low : {f g : Px K} (n : ℕ) → Deg K f n → Divides f g → g ≺ n → g ≡ 𝟘
   divides-low {f} {g} n t d b = ring-from R[x] (f ∷ g ∷ d .by ∷ []) (plus R[x] (times R[x] 𝟙 (d .is)) (times R[x] f none)) (search quote depth 40 fits 9999) tt
     where
@@ -123,13 +123,6 @@ module _ {A : Type 0} (K : Field A) where
 
   pub rigid : {f a b : Px K} (n : ℕ) → Deg K f n → Divides f (a - b) → a - b ≺ n → a ≡ b
   rigid {a = a} {b} n t d h = eq-of-sub R[x] a b (divides-low n t d h)
-
-  -- a common factor with a degree goes
-  pub divides-cancel : {f g : Px K} (h : Px K) (n k : ℕ) → Deg K h n → f ≺ k → g ≺ k → Divides (h * f) (h * g) → Divides f g
-  divides-cancel {f} {g} h n k t bf bg d = record { by = d .by; size = d .size; low = d .low; is = eq-of-sub R[x] g (f * d .by) (low-none K _ (low-quotient K (k +ₙ d .size) (g - f * d .by) h 0 n t (low-sub K g (f * d .by) _ (low-up K g (omega arith) bg) (low-product K f (d .by) k (d .size) bf (d .low))) (low-path K (0 +ₙ n) (sym gone) (low-zero K (0 +ₙ n))))) }
-    where
-      gone : (g - f * d .by) * h ≡ 𝟘
-      gone = ring-from R[x] (f ∷ g ∷ h ∷ d .by ∷ []) (times R[x] 𝟙 (d .is)) (search quote depth 40 fits 9999) tt
 
   -- monic polynomials that divide one another are equal
   pub divides-monic : {f g : Px K} {m n : ℕ} → Monic K f m → Monic K g n → Divides f g → Divides g f → f ≡ g

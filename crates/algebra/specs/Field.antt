@@ -27,11 +27,3 @@ module _ {A : Type 0} (K : Field A) where
 
   pub some-inv : (a : A) → (a ≡ 𝟘 → ⊥) → K .inv a ≡ 𝟘 → ⊥
   some-inv a h e = K .one-not-zero (sym (K .inv-mul a h) ∙ ap (λ b. b * a) e ∙ zer-mul (K .scalars) a)
-
-  -- half of a
-  unfoldable pub half : A → A
-  half a = K .inv (𝟙 + 𝟙) * a
-
-  pub half-twice : (a : A) → half a + half a ≡ a
-  unfolding half
-  half-twice a = ring-from (K .scalars) (a ∷ K .inv (𝟙 + 𝟙) ∷ []) (times (K .scalars) a (K .inv-mul (𝟙 + 𝟙) (K .two-not-zero))) (search quote depth 40 fits 9999) tt

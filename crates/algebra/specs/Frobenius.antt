@@ -1,4 +1,4 @@
--- In characteristic p the p-th power is additive (F1): by the absorption law p divides the middle coefficients of the binomial theorem.
+-- In characteristic p the p-th power is additive: by the absorption law p divides the middle coefficients of the binomial theorem.
 -- Hence Fermat's theorem, the p-th power of a multiple of 1 is itself.
 use Prim.Native.Nat.{ℕ, zero, suc, _<_}
 use native.Mathlib.Omega.{arith}
@@ -27,7 +27,6 @@ module _ {A : Type 0} (R : CRing A) where
   conv-last u v zero h = refl
   conv-last u v (suc n) h = ap₂ (λ s t. s * v (suc n) + t) (h 0 (omega arith)) (conv-last (tail R u) v n (λ j l. h (suc j) (omega arith))) ∙ ring R (v (suc n) ∷ u (suc n) ∷ v 0 ∷ []) (search quote depth 40 fits 9999) tt
 
-  -- F1
   pub frobenius : (p : ℕ) → Characteristic R p → (a b : A) → power R (a + b) p ≡ power R a p + power R b p
   frobenius zero c a b = absurd (omega (arith, c .positive))
   frobenius (suc n) c a b = binomial R a b (suc n) ∙ ends ∙ ap (λ t. (𝟙 * 𝟙) * power R b (suc n) + t) rest ∙ ring R (power R a (suc n) ∷ power R b (suc n) ∷ []) (search quote depth 40 fits 9999) tt

@@ -1,8 +1,8 @@
 -- Greatest common divisors of polynomials over a field. `IsGcd A B G`: G divides A and B, is a combination of them (Bezout), and is 0 or monic.
--- It exists for all A and B, the zero polynomial among them, by Euclid's recursion: the bound of the second polynomial falls. It is one, and every common divisor divides it.
+-- It exists for all A and B, the zero polynomial among them, by Euclid's recursion: the bound of the second polynomial falls. Every common divisor divides it.
 use Prim.Native.Nat.{ℕ, zero, suc, _+_ as _+ₙ_, _<_}
 use native.Mathlib.Omega.{arith}
-use mathlib.Core.Path.{_≡_, refl, sym, _∙_, subst}
+use mathlib.Core.Path.{_≡_, refl, sym, subst}
 use mathlib.Core.Logic.{_⊎_, inl, inr, ⊎-elim}
 use mathlib.Core.List.{[], _∷_}
 use Rattle.ring.specs.Ring.{CRing}
@@ -11,7 +11,7 @@ use Rattle.ring.specs.Series.{Series, con}
 use Rattle.ring.specs.Division.{below-con}
 use Rattle.algebra.specs.Field.{Field}
 use Rattle.algebra.specs.Polynomial.{F, Px, _≺_ as Low, Deg, Monic, low-up, low-sub, low-product, low-zero, low-none, low-path, degree, con-inv, monic-of}
-use Rattle.algebra.specs.Divides.{Divides, divides-zero, zero-divides, divides-path, divides-add, divides-mulˡ, divides-monic}
+use Rattle.algebra.specs.Divides.{Divides, divides-zero, zero-divides, divides-path, divides-add, divides-mulˡ}
 use Rattle.algebra.specs.Division.{Division, division}
 
 module _ {A : Type 0} (K : Field A) where
@@ -120,19 +120,6 @@ module _ {A : Type 0} (K : Field A) where
   gcd-exists = euclid (λ a b. (g : Px K) × IsGcd a b g) gcd-with-zero (λ a b m d h t s r. (r .0, gcd-step a (s .quo) m (s .quo-low) (s .is) (r .1)))
 
   -- ---- what a gcd is
-  pub gcd-swap : {a b g : Px K} → IsGcd a b g → IsGcd b a g
-  gcd-swap {a} {b} {g} i = record {
-    left = i .right;
-    right = i .left;
-    u = i .v;
-    v = i .u;
-    size = i .size;
-    u-low = i .v-low;
-    v-low = i .u-low;
-    bezout = i .bezout ∙ R[x] .add-comm (i .u * a) (i .v * b);
-    form = i .form;
-  }
-
   pub gcd-low : {a b g : Px K} → IsGcd a b g → (n : ℕ) × (g ≺ n)
   gcd-low i = ⊎-elim (λ z. (0, low-path K 0 (sym z) (low-zero K 0))) (λ m. (suc (m .0), m .1 .low)) (i .form)
 
@@ -140,23 +127,10 @@ module _ {A : Type 0} (K : Field A) where
   pub gcd-greatest : {a b g c : Px K} → IsGcd a b g → Divides K c a → Divides K c b → Divides K c g
   gcd-greatest i d e = divides-path K (sym (i .bezout)) (divides-add K (divides-mulˡ K (i .u) (i .size) (i .u-low) d) (divides-mulˡ K (i .v) (i .size) (i .v-low) e))
 
-  -- it is 0 exactly where both are
+  -- it is 0 only where both are
   pub gcd-zero : {a b g : Px K} → IsGcd a b g → g ≡ 𝟘 → (a ≡ 𝟘) × (b ≡ 𝟘)
   gcd-zero {a} {b} {g} i z = (zero-divides K (subst (λ c. Divides K c a) z (i .left)), zero-divides K (subst (λ c. Divides K c b) z (i .right)))
-
-  pub gcd-of-zeros : {a b g : Px K} → IsGcd a b g → a ≡ 𝟘 → b ≡ 𝟘 → g ≡ 𝟘
-  gcd-of-zeros {a} {b} {g} i y z = ring-from R[x] (a ∷ b ∷ g ∷ i .u ∷ i .v ∷ []) (plus R[x] (times R[x] 𝟙 (i .bezout)) (plus R[x] (times R[x] (i .u) y) (times R[x] (i .v) z))) (search quote depth 40 fits 9999) tt
 
   -- otherwise it is monic
   pub gcd-monic : {a b g : Px K} → IsGcd a b g → (g ≡ 𝟘 → ⊥) → (n : ℕ) × Monic K g n
   gcd-monic i h = ⊎-elim (λ z. absurd (h z)) (λ m. m) (i .form)
-
-  -- ---- there is one
-  pub gcd-unique : {a b g h : Px K} → IsGcd a b g → IsGcd a b h → g ≡ h
-  gcd-unique {a} {b} {g} {h} i j = ⊎-elim none some (i .form)
-    where
-      none : g ≡ 𝟘 → g ≡ h
-      none z = z ∙ sym (gcd-of-zeros j (gcd-zero i z .0) (gcd-zero i z .1))
-
-      some : (n : ℕ) × Monic K g n → g ≡ h
-      some m = ⊎-elim (λ z. gcd-of-zeros i (gcd-zero j z .0) (gcd-zero j z .1) ∙ sym z) (λ k. divides-monic K (m .1) (k .1) (gcd-greatest j (i .left) (i .right)) (gcd-greatest i (j .left) (j .right))) (j .form)

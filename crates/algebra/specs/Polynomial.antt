@@ -1,12 +1,12 @@
 -- Polynomials over a field, as series that are 0 from some place on: `f ≺ n`, of degree under n; `Deg f n`, of degree n; `Monic f n`, with 1 for its leading coefficient.
--- Sums, products, dominance (Z2 to Z4) and the bound of a quotient (Z5), which rests on leading coefficients having inverses.
+-- Sums, products, dominance and the bound of a quotient, which rests on leading coefficients having inverses.
 use Prim.Native.Nat.{ℕ, zero, suc, _+_ as _+ₙ_, _-_ as _-ₙ_, _≤_, _<_, zero-le}
 use native.Mathlib.Nat.{eq-or-lt-of-le}
 use native.Mathlib.Omega.{arith}
 use mathlib.Core.Path.{_≡_, refl, sym, ap, ap₂, _∙_, fun-ext, subst}
 use mathlib.Core.Logic.{_⊎_, inl, inr, ⊎-elim}
 use mathlib.Core.List.{[], _∷_}
-use Rattle.ring.specs.Ring.{CRing, mul-zer, neg-zer, eq-of-sub}
+use Rattle.ring.specs.Ring.{CRing, mul-zer, neg-zer}
 use Rattle.ring.specs.Identity.{ring-from, times, quote}
 use Rattle.ring.specs.Series.{S, Series, addS, negS, zerS, con, conv-con}
 use Rattle.ring.specs.Order.{le-or-lt}
@@ -42,7 +42,7 @@ module _ {A : Type 0} (K : Field A) where
     pub low : f ≺ suc n
     pub top : f n ≡ F .one
 
-  -- ---- Z2
+  -- ---- bounds of the degree
   pub low-up : (f : Px) {m n : ℕ} → m ≤ n → f ≺ m → f ≺ n
   low-up f h l i p = l i (omega arith)
 
@@ -92,23 +92,18 @@ module _ {A : Type 0} (K : Field A) where
   degree zero f h = inl (low-none f h)
   degree (suc n) f h = elim (K .zero? (f n)) [ yes e ↦ ⊎-elim (λ z. inl z) (λ r. inr (r .0, omega arith, r .2)) (degree n f (low-down f n h e)) | no e ↦ inr (n, omega arith, record { low = h; top = e }) ]
 
-  -- whether two polynomials are equal
-  pub equal? : (n : ℕ) (f g : Px) → f ≺ n → g ≺ n → Dec (f ≡ g)
-  unfolding addS negS
-  equal? n f g h k = ⊎-elim (λ z. yes (eq-of-sub (Series F) f g z)) (λ r. no (λ e. r .2 .top (ap (λ (u : Px). (u - g) (r .0)) e ∙ F .add-neg (g (r .0))))) (degree n (f - g) (low-sub f g n h k))
-
   pub deg-not-zero : {f : Px} {n : ℕ} → Deg f n → f ≡ 𝟘 → ⊥
   unfolding zerS
   deg-not-zero {n = n} t e = t .top (ap (λ (u : Px). u n) e)
 
-  -- ---- Z3
+  -- ---- the degree of a product
   pub deg-mul : (f g : Px) (m n : ℕ) → Deg f m → Deg g n → Deg (f * g) (m +ₙ n)
   deg-mul f g m n h k = record {
     low = λ i p. below-conv F (suc m) (suc n) f g (h .low) (k .low) i (omega arith);
     top = λ e. some-mul K (f m) (g n) (h .top) (k .top) (sym (lead-conv F m n f g (h .low) (k .low)) ∙ e);
   }
 
-  -- ---- Z5, the quotient bound
+  -- ---- the bound of a quotient
   pub quot-bound : (k : ℕ) (f h : Px) (n d : ℕ) → Deg h d → f ≺ n +ₙ k → f * h ≺ n +ₙ d → f ≺ n
   quot-bound zero f h n d t b p = λ i q. b i (omega arith)
   quot-bound (suc k) f h n d t b p = quot-bound k f h n d t (low-down f (n +ₙ k) (λ i q. b i (omega arith)) top) p
@@ -124,7 +119,7 @@ module _ {A : Type 0} (K : Field A) where
   pub cancel : (m : ℕ) (f h : Px) (d : ℕ) → Deg h d → f ≺ m → f * h ≡ 𝟘 → f ≡ 𝟘
   cancel m f h d t b e = low-none f (low-quotient m f h 0 d t b (low-path (0 +ₙ d) (sym e) (low-zero (0 +ₙ d))))
 
-  -- ---- Z4, dominance
+  -- ---- dominance
   pub deg-dominant : (f h : Px) (d : ℕ) → Deg f d → h ≺ d → Deg (f + h) d
   unfolding addS
   deg-dominant f h d t b = record {

@@ -1,4 +1,4 @@
--- F2: over a perfect field of characteristic p a polynomial whose derivative is 0 is the p-th power of a polynomial.
+-- Over a perfect field of characteristic p a polynomial whose derivative is 0 is the p-th power of a polynomial.
 -- The coefficients of f^p are known one by one: the p-th power of that of f at i stands at i p, and the others are 0.
 use Prim.Native.Nat.{ℕ, zero, suc, _+_ as _+ₙ_, _*_ as _*ₙ_, _/_, _%_, _<_}
 use native.Mathlib.Nat.{suc-mul, zero-mul, zero-add as zero-addₙ, add-zero as add-zeroₙ, mod-lt, div-add-mod', mul-lt-mul-of-pos-right}
@@ -101,7 +101,7 @@ module _ {A : Type 0} (K : Field A) (P : Perfect K) where
         same : (i r : ℕ) → r < p → G (i *ₙ p +ₙ r) ≡ power (Series (F K)) roots p (i *ₙ p +ₙ r)
         same i r h = coefficient i r h ∙ ap (λ c. con (F K) c r) (sym (P .root-power (G (i *ₙ p)))) ∙ sym (power-at K p char-F roots i r h)
 
-    -- F2: G is the p-th power of a polynomial, and its degree is p times that one's
+    -- G is the p-th power of a polynomial, and its degree is p times that one's
     pub power-root : (n : ℕ) → Deg K G n → PowerRoot G n
     power-root n d = go (n % p) refl
       where

@@ -1,6 +1,6 @@
--- The root d of D: for D monic of degree 2n, the monic d of degree n with D - d² under degree n. It exists (A1) and is one (A2).
--- Each coefficient of d, from the top down, is half of what is left of D at its place.
-use Prim.Native.Nat.{ℕ, zero, suc, _+_ as _+ₙ_, _≤_, _<_}
+-- The root d of D: for D monic of degree 2n, the monic d of degree n with D - d² under degree n. There is one only. Each of its coefficients, from
+-- the top down, is half of what is left of D at its place (`root-step`), which is how it is computed.
+use Prim.Native.Nat.{ℕ, zero, suc, _+_ as _+ₙ_, _<_}
 use native.Mathlib.Omega.{arith}
 use mathlib.Core.Path.{_≡_, refl, sym, ap, ap₂, _∙_}
 use mathlib.Core.List.{[], _∷_}
@@ -8,9 +8,8 @@ use Rattle.ring.specs.Ring.{CRing, eq-of-sub}
 use Rattle.ring.specs.Identity.{ring, quote}
 use Rattle.ring.specs.Series.{Series, addS, negS}
 use Rattle.ring.specs.Degree.{lead-conv}
-use Rattle.ring.specs.Division.{mon, below-mon, lead-mon}
-use Rattle.algebra.specs.Field.{Field, half, half-twice}
-use Rattle.algebra.specs.Polynomial.{F, Px, _≺_ as Low, Deg, Monic, low-up, low-add, low-sub, low-mul, low-none, low-path, low-down, low-quotient, monic-mul, monic-sub, monic-dominant}
+use Rattle.algebra.specs.Field.{Field}
+use Rattle.algebra.specs.Polynomial.{F, Px, _≺_ as Low, Deg, Monic, low-up, low-add, low-sub, low-mul, low-none, low-path, low-down, low-quotient}
 
 module _ {A : Type 0} (K : Field A) where
   open CRing (Series (F K)) using (add as _+_, mul as _*_, neg as -_, zer as 𝟘, one as 𝟙)
@@ -66,35 +65,7 @@ module _ {A : Type 0} (K : Field A) where
     pub monic : Monic K d n
     pub low : D - d * d ≺ n
 
-  -- ---- existence (A1)
-  module _ (D : Px K) (n : ℕ) where
-    -- the coefficients of d above e are found
-    root-from : (e : ℕ) (d : Px K) → e ≤ n → Monic K d n → D - d * d ≺ e +ₙ n → (d : Px K) × IsRoot D d n
-    root-from zero d le m b = (d, record { monic = m; low = low-up K (D - d * d) (omega arith) b })
-    root-from (suc e) d le m b = root-from e (d + h) (omega arith) (monic-dominant K d h n m (low-up K h le h-low)) (root-step D d h e n (m .low) (m .top) h-low le twice (low-up K (D - d * d) (omega arith) b))
-      where
-        c : A
-        c = (D - d * d) (e +ₙ n)
-
-        h : Px K
-        h = mon (F K) (half K c) e
-
-        h-low : h ≺ suc e
-        h-low = below-mon (F K) (half K c) e
-
-        twice : F K .add (h e) (h e) ≡ c
-        twice = ap₂ (F K .add) (lead-mon (F K) (half K c) e) (lead-mon (F K) (half K c) e) ∙ half-twice K c
-
-    pub root-exists : Monic K D (n +ₙ n) → (d : Px K) × IsRoot D d n
-    root-exists m = root-from n x^n (omega arith) first (monic-sub K D (x^n * x^n) (n +ₙ n) m (monic-mul K x^n x^n n n first first))
-      where
-        x^n : Px K
-        x^n = mon (F K) (F K .one) n
-
-        first : Monic K x^n n
-        first = record { low = below-mon (F K) (F K .one) n; top = lead-mon (F K) (F K .one) n }
-
-  -- ---- uniqueness (A2)
+  -- ---- there is one only
   pub root-unique : {D d d′ : Px K} {n : ℕ} → IsRoot D d n → IsRoot D d′ n → d ≡ d′
   root-unique {D} {d} {d′} {n} r r′ = eq-of-sub R[x] d d′ (low-none K (d - d′) (low-quotient K (suc n) (d - d′) (d + d′) 0 n sum-deg (low-sub K d d′ (suc n) (r .monic .low) (r′ .monic .low)) (low-path K (0 +ₙ n) gap (low-up K _ (omega arith) (low-sub K (D - d′ * d′) (D - d * d) n (r′ .low) (r .low))))))
     where

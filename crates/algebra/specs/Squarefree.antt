@@ -1,4 +1,4 @@
--- F3, the test for square factors over a perfect field: the square of some h of degree at least 1 divides D exactly where the gcd of D and D′ has a degree at least 1.
+-- The test for square factors over a perfect field: the square of some h of degree at least 1 divides D exactly where the gcd of D and D′ has a degree at least 1.
 -- D′ may be 0. One way is the product rule; the other takes the gcd of G and D / G, and where that is constant G is a p-th power.
 use Prim.Native.Nat.{ℕ, zero, suc, _+_ as _+ₙ_, _*_ as _*ₙ_, _≤_, _<_}
 use native.Mathlib.Nat.{suc-mul, zero-mul, eq-zero-or-pos}
@@ -58,7 +58,7 @@ module _ {A : Type 0} (K : Field A) where
       h′-low : ∂ h ≺ m
       h′-low = derivative-low (F K) h m (low-up K h (omega arith) b)
 
-  -- ---- F3, one way: a square factor is seen by the gcd
+  -- ---- one way: a square factor is seen by the gcd
   pub square-gcd : {D G : Px K} {n : ℕ} → Deg K D n → IsGcd K D (∂ D) G → SquareFactor D → (m : ℕ) × (1 ≤ m) × Deg K G m
   square-gcd {D} {G} {n} t i s = (r .0, omega (arith, s .some, divides-le K (gcd-greatest K i once (square-derivative (suc (s .size)) (s .deg .low) (s .divides))) (s .deg) (r .2)), r .2)
     where
@@ -68,7 +68,7 @@ module _ {A : Type 0} (K : Field A) where
       r : (m : ℕ) × (m ≤ n) × Deg K G m
       r = divides-deg K (gcd-low K i .0) n (gcd-low K i .1) (i .left) t
 
-  -- ---- F3, the other way: a gcd that is not constant gives a square factor
+  -- ---- the other way: a gcd that is not constant gives a square factor
   -- a common divisor of the two factors of D divides D twice
   square-common : {h G f : Px K} → Divides K h G → Divides K h f → Divides K (h * h) (G * f)
   square-common {h} {G} {f} d e = record {

@@ -5,14 +5,14 @@ use mathlib.Core.Path.{_≡_, refl, sym, ap, _∙_}
 use mathlib.Core.List.{[], _∷_}
 use Rattle.ring.specs.Ring.{CRing}
 use Rattle.ring.specs.Identity.{ring, ring-from, times, plus, quote}
-use Rattle.ring.specs.Identities.{product-balance, product-scaled, product-second, product-cross, product-norm}
+use Rattle.ring.specs.Identities.{product-balance, product-second, product-cross, product-norm}
 use Rattle.ring.specs.Series.{Series}
 use Rattle.algebra.specs.Field.{Field}
 use Rattle.algebra.specs.Polynomial.{F, Px, _≺_ as Low, Deg, Monic, low-neg, low-sub, monic-deg, monic-mul, monic-factor, monic-path, one-low}
 use Rattle.algebra.specs.Divides.{Divides, divides-refl, divides-path, divides-add, divides-sub, divides-mulˡ, divides-trans, rigid}
 use Rattle.algebra.specs.Division.{Division}
 use Rattle.surd.specs.Step.{State}
-use Rattle.ideals.specs.Finite.{Finite, finite-add, finite-sub, finite-mul, finite-by, finite-path, divides-finite, cancel-left}
+use Rattle.algebra.specs.Finite.{Finite, finite-add, finite-sub, finite-mul, finite-by, finite-path, divides-finite, cancel-left}
 
 module _ {A : Type 0} (K : Field A) where
   open CRing (Series (F K)) using (add as _+_, mul as _*_, neg as -_, zer as 𝟘, one as 𝟙)
@@ -150,10 +150,6 @@ module _ {A : Type 0} (K : Field A) where
         where
           same : S * (u * q₁ + v * q₂ + w * t) ≡ S * 𝟙
           same = ring-from R[x] (S ∷ u ∷ v ∷ w ∷ q₁ ∷ q₂ ∷ t ∷ Q₁ ∷ Q₂ ∷ P₁ ∷ P₂ ∷ []) (plus R[x] (times R[x] (- 𝟙) (b .is)) (plus R[x] (times R[x] (- u) (c .first .is)) (plus R[x] (times R[x] (- v) (c .second .is)) (times R[x] (- w) (c .sum .is))))) (search quote depth 40 fits 9999) tt
-
-      -- S P = u Q₁ P₂ + v Q₂ P₁ + w (D + P₁ P₂)
-      pub product-S : S * product-P ≡ u * Q₁ * P₂ + v * Q₂ * P₁ + w * (D + P₁ * P₂)
-      product-S = product-scaled R[x] u v w S q₁ P₁ P₂ Q₁ Q₂ C₁ (b .is) (c .first .is) (s₁ .norm) refl
 
       pub product-meets : Meets D P₁ P₂ S q₁ q₂ product-P
       product-meets = record {

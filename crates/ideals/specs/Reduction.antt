@@ -14,7 +14,7 @@ use Rattle.algebra.specs.Polynomial.{F, Px, _≺_ as Low, Deg, low-up, low-add,
 use Rattle.surd.specs.Root.{Root, No-square, deg-twice, d-deg}
 use Rattle.surd.specs.Step.{State}
 use Rattle.surd.specs.Ideal.{Follows}
-use Rattle.ideals.specs.Finite.{Finite, finite-sub, finite-add, finite-monic}
+use Rattle.algebra.specs.Finite.{Finite, finite-sub, finite-add, finite-monic}
 
 module _ {A : Type 0} (K : Field A) where
   open CRing (Series (F K)) using (add as _+_, mul as _*_, neg as -_, zer as 𝟘, one as 𝟙)

@@ -14,7 +14,7 @@ use Rattle.algebra.specs.Divides.{Divides, divides-path, divides-trans}
 use Rattle.algebra.specs.Division.{Division}
 use Rattle.algebra.specs.Gcd.{IsGcd, gcd-zero, gcd-monic}
 use Rattle.surd.specs.Step.{State}
-use Rattle.ideals.specs.Finite.{Finite, finite-mul, finite-by, finite-monic}
+use Rattle.algebra.specs.Finite.{Finite, finite-mul, finite-by, finite-monic}
 use Rattle.ideals.specs.Product.{Common, Multipliers, Meets, product-Q, product-P, product-square, product-monic, meets-unique, remainder-meets, meets-norm}
 use Rattle.definitions.specs.Field.{Ops}
 use Rattle.definitions.specs.Polynomials.{trim, add, sub, mul, quo, rem, gcd, Bezout, bezout}

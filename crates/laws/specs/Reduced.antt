@@ -12,7 +12,7 @@ use Rattle.algebra.specs.Polynomial.{F, Px, Monic, low-neg}
 use Rattle.algebra.specs.Divides.{Divides, divides-path, divides-add, divides-neg, divides-mul}
 use Rattle.algebra.specs.Associate.{Associate, associate-sym, associate-divides}
 use Rattle.surd.specs.Step.{State}
-use Rattle.ideals.specs.Finite.{Finite, finite-add}
+use Rattle.algebra.specs.Finite.{Finite, finite-add}
 use Rattle.definitions.specs.Field.{Ops}
 use Rattle.definitions.specs.Polynomials.{trim, lead, quo, rem, monic}
 use Rattle.definitions.specs.Walk.{Ideal}

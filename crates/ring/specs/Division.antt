@@ -1,6 +1,6 @@
 -- Monomials c x^k, and division with remainder by a polynomial whose leading coefficient has an inverse: the quotient's terms are found from the top down.
 use Prim.Native.Nat.{ℕ, zero, suc, _+_ as _+ₙ_, _-_ as _-ₙ_, _<_, zero-le}
-use native.Mathlib.Nat.{zero-add as zero-addₙ, add-zero, suc-add as suc-addₙ, eq-or-lt-of-le}
+use native.Mathlib.Nat.{zero-add as zero-addₙ, suc-add as suc-addₙ, eq-or-lt-of-le}
 use native.Mathlib.Omega.{arith}
 use mathlib.Core.Path.{_≡_, refl, sym, ap, ap₂, _∙_, fun-ext}
 use mathlib.Core.Logic.{⊎-elim}
@@ -65,10 +65,6 @@ module _ {A : Type 0} (F : CRing A) where
 
   pub below-mon : (c : A) (k : ℕ) → Below F (mon c k) (suc k)
   below-mon c k i p = below-shift k (con F c) 1 (below-con c) i (omega arith)
-
-  pub lead-mon : (c : A) (k : ℕ) → mon c k k ≡ c
-  unfolding con
-  lead-mon c k = ap (mon c k) (sym (add-zero k)) ∙ shift-at k (con F c) 0
 
   -- f - c x^k g
   abbrev pub less : S F → A → ℕ → S F → S F

@@ -10,7 +10,7 @@ use Rattle.ring.specs.Identity.{ring, ring-from, times, quote}
 use Rattle.ring.specs.Series.{Series}
 use Rattle.ring.specs.Order.{le-or-lt}
 use Rattle.algebra.specs.Field.{Field}
-use Rattle.algebra.specs.Polynomial.{F, Px, _≺_ as Low, Deg, low-up, low-zero, low-add, low-sub, low-mul, low-path, deg-path, degree, deg-mul, low-quotient, deg-dominant, deg-neg, deg-below}
+use Rattle.algebra.specs.Polynomial.{F, Px, _≺_ as Low, Deg, low-up, low-zero, low-add, low-sub, low-mul, low-path, deg-path, degree, deg-mul, low-quotient, deg-dominant, deg-neg}
 use Rattle.surd.specs.Root.{Root, deg-twice, d-deg}
 
 module _ {A : Type 0} (K : Field A) where
@@ -52,13 +52,6 @@ module _ {A : Type 0} (K : Field A) where
     big-sum-deg x y b = deg-path K _ same (deg-dominant K (o .d * y + o .d * y) (x - o .d * y) _ (deg-twice K (o .d * y) _ (dy-deg y (b .height) (b .y-deg))) (low-up K _ (omega arith) (b .near)))
       where
         same : (o .d * y + o .d * y) + (x - o .d * y) ≡ x + o .d * y
-        same = ring R[x] (x ∷ y ∷ o .d ∷ []) (search quote depth 40 fits 9999) tt
-
-    -- not with both signs of y
-    pub big-one-sign : (x y : P[x]) → Big x y → Big x (- y) → ⊥
-    big-one-sign x y b c = let h = deg-below K (x + o .d * y) _ _ (big-sum-deg x y b) (low-path K _ same (c .near)) in let k = deg-below K (- y) _ _ (deg-neg K y _ (b .y-deg)) (c .y-deg .low) in let l = deg-below K (- y) _ _ (c .y-deg) (deg-neg K y _ (b .y-deg) .low) in omega arith
-      where
-        same : x - o .d * (- y) ≡ x + o .d * y
         same = ring R[x] (x ∷ y ∷ o .d ∷ []) (search quote depth 40 fits 9999) tt
 
     pub dichotomy : (n : ℕ) (x y : P[x]) (v : ℕ) → x ≺ n → Deg K y v → x * x - D * (y * y) ≺ suc g → Big x y ⊎ Big x (- y)

@@ -8,7 +8,7 @@ use Rattle.ring.specs.Identity.{ring, ring-from, times, plus, quote}
 use Rattle.ring.specs.Identities.{form, norm-turn as turn}
 use Rattle.ring.specs.Series.{Series}
 use Rattle.algebra.specs.Field.{Field}
-use Rattle.algebra.specs.Polynomial.{F, Px, _≺_ as Low, Deg, low-neg, low-path, deg-path, deg-neg}
+use Rattle.algebra.specs.Polynomial.{F, Px, _≺_ as Low, Deg, low-neg, low-path, deg-path, deg-neg, monic-deg, monic-one}
 use Rattle.surd.specs.Root.{Root}
 use Rattle.surd.specs.Walk.{Walk, prior}
 
@@ -60,6 +60,10 @@ module _ {A : Type 0} (K : Field A) where
   pub sign-deg : (i : ℕ) (f : P[x]) (n : ℕ) → Deg K f n → Deg K (sign i * f) n
   sign-deg zero f n h = deg-path K n (sign-one f) h
   sign-deg (suc i) f n h = deg-path K n (sign-neg i f) (deg-neg K (sign i * f) n (sign-deg i f n h))
+
+  pub sign-constant : (i : ℕ) → Deg K (sign i) 0
+  sign-constant zero = monic-deg K (monic-one K)
+  sign-constant (suc i) = deg-neg K (sign i) 0 (sign-constant i)
 
   module _ {g : ℕ} {D : P[x]} {o : Root K g D} (w : Walk K o) where
     open Walk w using (Q, P, a, Q-first, P-first, P-step, Q-step)

@@ -6,7 +6,7 @@ use mathlib.Core.Path.{_≡_, sym, ap₂, _∙_}
 use mathlib.Core.Logic.{_⊎_, inl, inr, ⊎-elim}
 use mathlib.Core.List.{[], _∷_}
 use Rattle.ring.specs.Ring.{CRing}
-use Rattle.ring.specs.Identity.{ring, ring-from, times, plus, quote}
+use Rattle.ring.specs.Identity.{ring, ring-from, times, quote}
 use Rattle.ring.specs.Identities.{norm-factors, descent-left, descent-right}
 use Rattle.ring.specs.Series.{Series}
 use Rattle.ring.specs.Order.{le-or-lt}
@@ -17,7 +17,7 @@ use Rattle.surd.specs.Big.{Big, dichotomy}
 use Rattle.surd.specs.Walk.{Walk, prior, norm, a-first}
 use Rattle.surd.specs.Convergents.{sign, sign-low, sign-swap, norm-combination, norm-convergent}
 use Rattle.surd.specs.Convergents as convergents
-use Rattle.surd.specs.Distance.{distance, height, p-deg, s-deg, convergent-near}
+use Rattle.surd.specs.Distance.{height}
 
 module _ {A : Type 0} (K : Field A) where
   open CRing (Series (F K)) using (add as _+_, mul as _*_, neg as -_, zer as 𝟘, one as 𝟙)
@@ -170,22 +170,8 @@ module _ {A : Type 0} (K : Field A) where
         same = ring R[x] (x ∷ y ∷ D ∷ []) (search quote depth 40 fits 9999) tt
 
     module _ {x y : P[x]} (h : Multiple x y) where
-      pub multiple-deg : Deg K x (h .size +ₙ distance K w (suc (h .at)))
-      multiple-deg = deg-path K _ (sym (h .x-is)) (deg-mul K (h .by) (p (suc (suc (h .at)))) (h .size) (distance K w (suc (h .at))) (h .by-deg) (p-deg K w (suc (h .at))))
-
       -- λ² Q is the norm, up to the sign
       pub multiple-norm : x * x - D * (y * y) ≡ sign K (suc (h .at)) * (h .by * h .by * Q (suc (h .at)))
       multiple-norm =
           ap₂ (λ f k. f * f - D * (k * k)) (h .x-is) (h .y-is)
           ∙ ring-from R[x] (h .by ∷ p (suc (suc (h .at))) ∷ s (suc (suc (h .at))) ∷ D ∷ sign K (suc (h .at)) ∷ Q (suc (h .at)) ∷ []) (times R[x] (h .by * h .by) (norm-convergent K w (suc (h .at)))) (search quote depth 40 fits 9999) tt
-
-      -- the sign is +: x is near to d y
-      pub multiple-big : Big K o x y
-      multiple-big = record {
-        height = h .size +ₙ height K w (h .at);
-        y-deg = deg-path K _ (sym (h .y-is)) (deg-mul K (h .by) (s (suc (suc (h .at)))) (h .size) (height K w (h .at)) (h .by-deg) (s-deg K w (h .at)));
-        near = low-path K _ near-is (low-up K _ (omega arith) (low-mul K (p (suc (suc (h .at))) - o .d * s (suc (suc (h .at)))) (h .by) (height K w (h .at)) (h .size) (convergent-near K w (h .at)) (h .by-deg .low)));
-      }
-        where
-          near-is : (p (suc (suc (h .at))) - o .d * s (suc (suc (h .at)))) * h .by ≡ x - o .d * y
-          near-is = ring-from R[x] (x ∷ y ∷ h .by ∷ p (suc (suc (h .at))) ∷ s (suc (suc (h .at))) ∷ o .d ∷ []) (plus R[x] (times R[x] (- 𝟙) (h .x-is)) (times R[x] (o .d) (h .y-is))) (search quote depth 40 fits 9999) tt

@@ -140,8 +140,15 @@ module _ {A : Type 0} (K : Field A) where
     pub distance-rise : (i j : ℕ) → i < j → distance i < distance j
     distance-rise i j h = let k = distance-mono i j (omega arith) in omega arith
 
+    -- an order of distances is one of indices
+    pub index-le : (i j : ℕ) → distance i ≤ distance j → i ≤ j
+    index-le i j h = ⊎-elim (λ l. l) (λ l. absurd (let r = distance-rise j i l in omega arith)) (le-or-lt i j)
+
+    pub index-lt : (i j : ℕ) → distance i < distance j → i < j
+    index-lt i j h = ⊎-elim (λ l. absurd (let r = distance-mono j i l in omega arith)) (λ l. l) (le-or-lt j i)
+
     pub distance-injective : (i j : ℕ) → distance i ≡ distance j → i ≡ j
-    distance-injective i j e = ⊎-elim (λ h. ⊎-elim (λ k. (omega arith)) (λ k. absurd (let l = distance-rise j i k in omega arith)) (le-or-lt i j)) (λ h. absurd (let l = distance-rise i j h in omega arith)) (le-or-lt j i)
+    distance-injective i j e = let a = index-le i j (omega arith) in let b = index-le j i (omega arith) in omega arith
 
     pub distance-least : (i : ℕ) → suc g +ₙ i ≤ distance (suc i)
     distance-least i = let h = distance-mono 1 (suc i) (omega arith) in let k = κ-first K w in omega arith

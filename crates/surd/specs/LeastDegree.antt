@@ -15,7 +15,6 @@ use Rattle.algebra.specs.Field.{Field}
 use Rattle.algebra.specs.Polynomial.{F, Px, _≺_ as Low, Deg, low-up, low-one, deg-path, degree, deg-con, deg-not-zero, deg-unique}
 use Rattle.surd.specs.Root.{Root}
 use Rattle.surd.specs.Walk.{Walk}
-use Rattle.surd.specs.Convergents.{sign, norm-convergent}
 use Rattle.surd.specs.Convergents as convergents
 use Rattle.surd.specs.Distance.{distance, height, p-deg, s-deg, distance-rise, distance-mono, distance-injective}
 use Rattle.surd.specs.QuasiPeriod.{QuasiPeriod, NoneConstant, quasi-period}
@@ -85,9 +84,6 @@ module _ {A : Type 0} (K : Field A) where
 
       pub reached-deg : Deg K (p (suc m)) (distance K w m)
       reached-deg = p-deg K w m
-
-      pub reached-norm : p (suc m) * p (suc m) - D * (s (suc m) * s (suc m)) ≡ sign K m * Q m
-      reached-norm = norm-convergent K w m
 
       pub only : {X Y : P[x]} → Solution D X Y → Deg K X (distance K w m) → Scaled K w m X Y
       only {X} {Y} u h = go (unit u)

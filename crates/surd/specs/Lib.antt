@@ -1,13 +1,10 @@
 pub mod Big
-pub mod Classification
 pub mod Convergents
 pub mod Descent
 pub mod Distance
-pub mod Generators
 pub mod Ideal
 pub mod LeastDegree
 pub mod QuasiPeriod
-pub mod Reflect
 pub mod Root
 pub mod Same
 pub mod Step

@@ -1,7 +1,5 @@
--- The quasi-period m: the first index from 1 on at which Q is constant. The regulator is the distance of m, the degree of the convergent p of
--- index m - 1; its bounds come from the distance formula, since 1 ≤ deg Q ≤ g between.
-use Prim.Native.Nat.{ℕ, zero, suc, _+_ as _+ₙ_, _*_ as _*ₙ_, _≤_, _<_}
-use native.Mathlib.Nat.{suc-mul}
+-- The quasi-period m: the first index from 1 on at which Q is constant. The regulator is the distance of m, the degree of the convergent p of index m - 1.
+use Prim.Native.Nat.{ℕ, zero, suc, _≤_, _<_}
 use native.Mathlib.Omega.{arith}
 use mathlib.Core.Path.{_≡_, ap}
 use mathlib.Core.Logic.{_⊎_, inl, inr, ⊎-elim}
@@ -10,7 +8,6 @@ use Rattle.algebra.specs.Field.{Field}
 use Rattle.algebra.specs.Polynomial.{Px}
 use Rattle.surd.specs.Root.{Root}
 use Rattle.surd.specs.Walk.{Walk}
-use Rattle.surd.specs.Distance.{distance, distance-least}
 
 module _ {A : Type 0} (K : Field A) {g : ℕ} {D : Px K} {o : Root K g D} (w : Walk K o) where
   open Walk w using (κ)
@@ -24,9 +21,6 @@ module _ {A : Type 0} (K : Field A) {g : ℕ} {D : Px K} {o : Root K g D} (w : W
     pub constant : κ m ≡ 0
     pub least : (j : ℕ) → 0 < j → j < m → κ j ≡ 0 → ⊥
 
-  pub quasi-period-unique : (m n : ℕ) → QuasiPeriod m → QuasiPeriod n → m ≡ n
-  quasi-period-unique m n h k = ⊎-elim (λ x. ⊎-elim (λ y. (omega arith)) (λ y. absurd (h .least n (k .positive) y (k .constant))) (le-or-lt m n)) (λ x. absurd (k .least m (h .positive) x (h .constant))) (le-or-lt n m)
-
   -- the first of the indices up to b, or none
   pub quasi-period : (b : ℕ) → ((m : ℕ) × (m ≤ b) × QuasiPeriod m) ⊎ NoneConstant b
   quasi-period zero = inr (λ j p q e. absurd (omega arith))
@@ -37,15 +31,3 @@ module _ {A : Type 0} (K : Field A) {g : ℕ} {D : Px K} {o : Root K g D} (w : W
 
       further : NoneConstant b → 1 ≤ κ (suc b) → NoneConstant (suc b)
       further none h j p q e = ⊎-elim (λ l. none j p l e) (λ l. let k : κ (suc b) ≡ κ j = ap κ (omega arith) in omega arith) (le-or-lt j b)
-
-  pub regulator-least : (m : ℕ) → QuasiPeriod m → g +ₙ m ≤ distance K w m
-  regulator-least zero h = absurd (omega arith)
-  regulator-least (suc m) h = let k = distance-least K w m in omega arith
-
-  pub regulator-most : (m : ℕ) → QuasiPeriod m → distance K w m ≤ m *ₙ g +ₙ 1
-  regulator-most zero h = absurd (omega arith)
-  regulator-most (suc m) h = up-to m (omega arith)
-    where
-      up-to : (j : ℕ) → j < suc m → distance K w (suc j) ≤ suc j *ₙ g +ₙ 1
-      up-to zero l = let e = suc-mul 0 g in omega arith
-      up-to (suc j) l = let k = up-to j (omega arith) in let e = suc-mul (suc j) g in let c = h .least (suc j) (omega arith) l in ⊎-elim (λ z. (omega arith)) (λ z. absurd (c (omega arith))) (le-or-lt 1 (κ (suc j)))
