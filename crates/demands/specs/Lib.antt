@@ -14,3 +14,5 @@ pub mod Products
 pub mod Example
 pub mod Written
 pub mod LentLists
+pub mod Numbered
+pub mod LeastAnswers
