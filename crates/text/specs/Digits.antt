@@ -40,11 +40,7 @@ digits-append (x ∷ a) b p q = (p .0, p .1, digits-append a b (p .2) q)
 read-append : (n : ℕ) (a b : List ℕ) → readAfter n (a ++ b) ≡ readAfter (readAfter n a) b
 unfolding readAfter
 read-append n [] b = refl
-read-append n (x ∷ a) b = read-append (10 * n + (x - 48)) a b
-
-read-one : (n x : ℕ) → readAfter n (x ∷ []) ≡ 10 * n + (x - 48)
-unfolding readAfter
-read-one n x = refl
+read-append n (x ∷ a) b = read-append _ a b
 
 -- for every number below k
 below-digits : (k n : ℕ) → n < k → AllDigits (decimal n)
@@ -54,16 +50,13 @@ below-digits (suc k) n h =
     (λ m. subst AllDigits (sym (decimal-more n m)) (digits-append (decimal (n / 10)) ((48 + n % 10) ∷ []) (below-digits k (n / 10) (omega arith)) (omega arith, omega arith, tt)))
 
 below-read : (k n : ℕ) → n < k → readDigits (decimal n) ≡ n
-unfolding readDigits
+unfolding readDigits readAfter
 below-read zero n h = absurd (omega arith)
 below-read (suc k) n h =
-    by-ten n (λ l. ap (readAfter 0) (decimal-one n l) ∙ read-one 0 (48 + n) ∙ omega arith)
+    by-ten n (λ l. ap (readAfter 0) (decimal-one n l) ∙ omega arith)
     (λ m.
-    ap (readAfter 0) (decimal-more n m)
-    ∙ read-append 0 (decimal (n / 10)) ((48 + n % 10) ∷ [])
-    ∙ read-one (readAfter 0 (decimal (n / 10))) (48 + n % 10)
-    ∙ ap (λ (i : ℕ). 10 * i + (48 + n % 10 - 48)) (below-read k (n / 10) (omega arith))
-    ∙ omega arith)
+    let e : readAfter 0 (decimal (n / 10)) ≡ n / 10 = below-read k (n / 10) (omega arith) in
+    ap (readAfter 0) (decimal-more n m) ∙ read-append 0 (decimal (n / 10)) ((48 + n % 10) ∷ []) ∙ omega arith)
 
 pub decimal-digits : DecimalDigits
 decimal-digits n = below-digits (suc n) n (omega arith)
