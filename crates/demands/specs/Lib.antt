@@ -15,3 +15,5 @@ pub mod Products
 pub mod Example
 pub mod Written
 pub mod LentLists
+pub mod Numbered
+pub mod LeastAnswers

@@ -9,6 +9,7 @@ ghost use Rattle.definitions.specs.Lookup.{lookupOf, placeOf};
 ghost use Rattle.definitions.specs.Units.{unitAnswer};
 ghost use Rattle.convergents.specs.Lists.{lists};
 ghost use Rattle.foskadoin.specs.Numbers.{Plain};
+ghost use Rattle.foskadoin.specs.Least.{LeastPlain, LeastInLists};
 ghost use Rattle.run.specs.Outcome.{meaning};
 use counters::Distance;
 use engine::listing::listing;
@@ -69,6 +70,7 @@ fn as_numbers(words: u64, o: Outcome) -> Numbers
 pub extern "C" fn foskadoin_regulator(ticket: &[u32]) -> Numbers
     ensures words { λ r. ⌜ r .words ≡ length (now (ticket .entry)) ⌝ }
     ensures says { λ r. ⌜ Plain (regulatorOf (now (ticket .entry))) (r .number) (r .first) (r .second) (r .third) ⌝ }
+    ensures least { λ r. ⌜ LeastPlain (now (ticket .entry)) (r .number) (r .first) (r .second) (r .third) ⌝ }
 {
     let a = regulator(ticket);
     let outcome = a.outcome;
@@ -87,6 +89,7 @@ pub extern "C" fn foskadoin_unit(
     ensures words { λ r. ⌜ r .words ≡ length (now (ticket .entry)) ⌝ }
     ensures says { λ r. ⌜ Plain (unitAnswer (now (ticket .entry)) (lists (now (p .entry)) (now (s .entry)) (now (x .entry)) (now (y .entry))) .says) (r .number) (r .first) (r .second) (r .third) ⌝ }
     ensures lists { λ r. ⌜ lists (now (p .exit)) (now (s .exit)) (now (x .exit)) (now (y .exit)) ≡ unitAnswer (now (ticket .entry)) (lists (now (p .entry)) (now (s .entry)) (now (x .entry)) (now (y .entry))) .lists ⌝ }
+    ensures least { λ r. ⌜ LeastInLists (now (ticket .entry)) (lists (now (p .exit)) (now (s .exit)) (now (x .exit)) (now (y .exit))) (r .number) (r .first) (r .second) (r .third) ⌝ }
 {
     let a = unit(ticket, p, s, x, y);
     let outcome = a.outcome;
@@ -99,6 +102,7 @@ pub extern "C" fn foskadoin_listing(ticket: &[u32], out: &mut [u32]) -> Numbers
     ensures words { λ r. ⌜ r .words ≡ length (now (ticket .entry)) ⌝ }
     ensures says { λ r. ⌜ Plain (listingAnswer (now (ticket .entry)) (now (out .entry)) .says) (r .number) (r .first) (r .second) (r .third) ⌝ }
     ensures list { λ r. ⌜ now (out .exit) ≡ listingAnswer (now (ticket .entry)) (now (out .entry)) .list ⌝ }
+    ensures least { λ r. ⌜ LeastPlain (now (ticket .entry)) (r .number) (r .first) (r .second) (r .third) ⌝ }
 {
     let a = listing(ticket, out);
     let outcome = a.outcome;

@@ -3,6 +3,7 @@ ghost use mathlib.Core.Path.{_≡_};
 ghost use lib.ListN.{length};
 ghost use Rattle.definitions.specs.Answers.{found, said};
 ghost use Rattle.definitions.specs.Listing.{listingFrom, listingAnswer};
+ghost use Rattle.demands.specs.LeastDegree.{Least};
 ghost use Rattle.polynomial.specs.Record.{poly, Held};
 ghost use Rattle.run.specs.Outcome.{meaning, ticket};
 ghost use Rattle.regulators.specs.Found.{Found};
@@ -35,6 +36,7 @@ pub fn listing(ticket: &[u32], out: &mut [u32]) -> Answer
     ensures words { λ r. ⌜ r .words ≡ length (now (ticket .entry)) ⌝ }
     ensures says { λ r. ⌜ said (meaning (r .outcome)) ≡ listingAnswer (now (ticket .entry)) (now (out .entry)) .says ⌝ }
     ensures list { λ r. ⌜ now (out .exit) ≡ listingAnswer (now (ticket .entry)) (now (out .entry)) .list ⌝ }
+    ensures least { λ r. ⌜ Least (now (ticket .entry)) (meaning (r .outcome)) ⌝ }
 {
     let words = ticket.len() as u64;
     let t = read_ticket(ticket);

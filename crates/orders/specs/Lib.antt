@@ -2,5 +2,5 @@ pub mod Words
 pub mod Found
 pub mod Records
 pub mod Printed
-pub mod Refused
 pub mod Program
+pub mod FirstLine

@@ -12,7 +12,7 @@ use Rattle.definitions.specs.Ticket.{ticketOf}
 use Rattle.definitions.specs.Answers.{Outcome, found, spent, refused, Said, said}
 use Rattle.definitions.specs.Listing.{ListingAnswer, listingAnswer}
 use Rattle.definitions.specs.Program.{wordsOf, readBytes, cutWord, firstLine, recordLines, answerLines, programOf}
-use Rattle.orders.specs.Refused.{Numbered}
+use Rattle.demands.specs.Numbered.{Numbered}
 
 module _ (n : ℕ) (list : List ℕ) where
   abbrev lines : Said → List ℕ

@@ -2,14 +2,15 @@
 ghost use mathlib.Core.Path.{_≡_};
 ghost use Prim.Native.Nat.{_+_, _*_, _<_, _≤_};
 ghost use mathlib.Core.List.{_++_};
-ghost use lib.ListN.{length, drop, replicate};
+ghost use lib.ListN.{length, take, drop, replicate};
 ghost use Rattle.definitions.specs.Ticket.{ticketOf};
 ghost use Rattle.definitions.specs.Answers.{said};
 ghost use Rattle.definitions.specs.Listing.{listingAnswer};
-ghost use Rattle.definitions.specs.Program.{firstLine, recordLine, recordLines, answerLines, programOf};
+ghost use Rattle.definitions.specs.Program.{wordsOf, readBytes, firstLine, recordLine, recordLines, answerLines, programOf};
+ghost use Rattle.demands.specs.Numbered.{Numbered};
 ghost use Rattle.run.specs.Outcome.{meaning};
 ghost use Rattle.orders.specs.Printed.{Printed};
-ghost use Rattle.orders.specs.Refused.{Numbered};
+ghost use Rattle.orders.specs.FirstLine.{LeastPrinted};
 use engine::listing::listing;
 use reading::words_of;
 use refusals::words::value;
@@ -84,6 +85,7 @@ fn put_answer(out: &mut [u8], ticket: &[u32]) -> usize
 pub fn output(input: &[u8], out: &mut [u8; 98304]) -> usize
     ensures size { λ r. ⌜ r ≡ length (programOf (now (input .entry))) ⌝ }
     ensures prints { λ r. ⌜ now (out .exit) ≡ programOf (now (input .entry)) ++ drop r (now (out .entry)) ⌝ }
+    ensures least { λ r. ⌜ LeastPrinted (wordsOf (readBytes (now (input .entry)))) (take r (now (out .exit))) ⌝ }
 {
     let read = words_of(input);
     if read.cut {

@@ -18,7 +18,7 @@ unfolding decimalIn
 in-more k n l h = rw (decimalIn, le-ltb n 10 h)
 
 -- a number below ten or not, for a proof by cases
-by-ten : {P : Type 0} (n : ℕ) → (n < 10 → P) → (10 ≤ n → P) → P
+pub by-ten : {P : Type 0} (n : ℕ) → (n < 10 → P) → (10 ≤ n → P) → P
 by-ten {P} n f g = at (ltb n 10) refl
   where
     at : (t : Bool) → ltb n 10 ≡ t → P

@@ -8,24 +8,17 @@ use lib.Dec.{leb}
 use lib.ListN.{length}
 use borrow.Author.Tests.{leb-true, le-leb, lt-leb}
 use Rattle.definitions.specs.Ticket.{Ticket, ticketOf}
-use Rattle.definitions.specs.Answers.{Outcome, found, spent, refused, said, said-injective, rootOf, wordsOutcome}
+use Rattle.definitions.specs.Answers.{Outcome, found, spent, refused, said, wordsOutcome}
 use Rattle.definitions.specs.Units.{Lists, UnitAnswer, longEnough, unitLists, unitFrom, unitAnswer}
 use Rattle.laws.specs.PairTest.{both-true}
 use Rattle.recurrence.specs.Progress.{Room}
 use Rattle.convergents.specs.Lists.{lists}
-use Rattle.demands.specs.LeastDegree.{LeastFound, LeastIn, t3}
-use Rattle.demands.specs.Written.{unitIn, t3-unit}
+use Rattle.demands.specs.LeastAnswers.{LeastWritten, t3-written}
 
 -- what a call says and leaves in its lists is the answer a
 pub record Answers (a : UnitAnswer) (x : Outcome) (l : Lists) : Type 0 where
   pub says : said x ≡ a .says
   pub lists-are : l ≡ a .lists
-
--- T3 of an outcome with the lists at exit: found, the unit is read from places 0 to R of the first two lists
-abbrev pub LeastWritten : List ℕ → Outcome → Lists → Type 0
-LeastWritten w (found R m c) l = LeastFound (ticketOf w .q) (ticketOf w .D) (unitIn R l) R c
-LeastWritten w (spent k e) l = LeastIn (ticketOf w .q) (ticketOf w .D) (rootOf (ticketOf w)) (spent k e)
-LeastWritten w (refused j) l = Unit
 
 module _ (t : Ticket) (R m c : ℕ) (l : Lists) where
   abbrev answer : Bool → UnitAnswer
@@ -54,22 +47,8 @@ module _ (w : List ℕ) (l : Lists) where
   unfolding unitAnswer
   words-answer t x y out e f a = subst (λ (s : Ticket). Answers (unitFrom s (wordsOutcome w) l) y out) (sym e) (subst (λ (z : Outcome). Answers (unitFrom t z l) y out) f a)
 
-  -- what is said as spent is the outcome of the words
-  spent-only : (k e : ℕ) (t : Ticket) (x : Outcome) → said (spent k e) ≡ unitFrom t x l .says → x ≡ spent k e
-  unfolding unitFrom
-  spent-only k e t (found R m c) h = go (longEnough (suc R) l) h
-    where
-      go : (b : Bool) → said (spent k e) ≡ answer t R m c l b .says → found R m c ≡ spent k e
-      go true z = sym (said-injective (spent k e) (found R m c) z)
-      go false z = absurd (let u : spent k e ≡ refused 12 = said-injective (spent k e) (refused 12) z in let v : _≡_ {A = ℕ} 0 1 = cc in omega arith)
-  spent-only k e t (spent j d) h = sym (said-injective (spent k e) (spent j d) h)
-  spent-only k e t (refused j) h = sym (said-injective (spent k e) (refused j) h)
-
   pub least-written : (x : Outcome) (out : Lists) → Answers (unitAnswer w l) x out → LeastWritten w x out
-  unfolding unitAnswer
-  least-written (found R m c) out a = subst (λ (z : Lists). LeastFound (ticketOf w .q) (ticketOf w .D) (unitIn R z) R c) (sym (a .lists-are)) (t3-unit w l R m c (sym (a .says)))
-  least-written (spent k e) out a = subst (LeastIn (ticketOf w .q) (ticketOf w .D) (rootOf (ticketOf w))) (spent-only k e (ticketOf w) (wordsOutcome w) (a .says)) (t3 w)
-  least-written (refused j) out a = tt
+  least-written x out a = subst (LeastWritten w x) (sym (a .lists-are)) (t3-written w l x (sym (a .says)))
 
 -- ---- the test of four lengths, one after the other
 module _ (r p s x y : ℕ) where

@@ -1,7 +1,9 @@
--- `foskadoin_regulator` meets its contract: the numbers of the engine's outcome.
-use mathlib.Core.Path.{_∙_}
+-- `foskadoin_regulator` meets its contract: the numbers of the engine's outcome, and T3 of them.
+use mathlib.Core.Path.{sym, _∙_}
 use borrow.Author.Needs.{needs}
+use Rattle.demands.specs.Numbered.{t1-numbers}
 use Rattle.foskadoin.specs.Numbers.{plain-same}
+use Rattle.foskadoin.specs.Least.{least-plain}
 use Rattle.foskadoin.proofs.foskadoin_regulator.Statement.{statement}
 use Rattle.foskadoin.proofs.foskadoin_regulator.Tie as tie
 
@@ -15,7 +17,7 @@ returns : tie.Need-returns
 returns c =
     let e = c .before .regulator .ensures in
     let n = c .as-numbers .ensures in
-    (n .0 ∙ e .0, plain-same (e .1 .0) (n .1))
+    (n .0 ∙ e .0, (plain-same (e .1 .0) (n .1), least-plain _ _ (t1-numbers .0 _ _ (sym (e .1 .0))) (n .1) (e .1 .1)))
 
 pub foskadoin-regulator-spec : {M : Type 1} → statement M
 foskadoin-regulator-spec = tie.close (tie.spec regulator-requires as-numbers-requires returns)

@@ -1,7 +1,9 @@
--- `foskadoin_unit` meets its contract: the numbers of the engine's outcome, and the lists as the engine leaves them.
-use mathlib.Core.Path.{_∙_}
+-- `foskadoin_unit` meets its contract: the numbers of the engine's outcome, the lists as the engine leaves them, and T3 of both.
+use mathlib.Core.Path.{sym, _∙_}
 use borrow.Author.Needs.{needs}
+use Rattle.demands.specs.Numbered.{t1-numbers}
 use Rattle.foskadoin.specs.Numbers.{plain-same}
+use Rattle.foskadoin.specs.Least.{least-in-lists}
 use Rattle.foskadoin.proofs.foskadoin_unit.Statement.{statement}
 use Rattle.foskadoin.proofs.foskadoin_unit.Tie as tie
 
@@ -27,7 +29,7 @@ returns : tie.Need-returns
 returns c =
     let e = c .before .before .before .before .before .before .before .before .before .unit .ensures in
     let n = c .as-numbers .ensures in
-    (n .0 ∙ e .0, (plain-same (e .1 .0) (n .1), e .1 .1 .0))
+    (n .0 ∙ e .0, (plain-same (e .1 .0) (n .1), (e .1 .1 .0, least-in-lists _ _ _ (t1-numbers .1 _ _ _ (sym (e .1 .0))) (n .1) (e .1 .1 .1))))
 
 pub foskadoin-unit-spec : {M : Type 1} → statement M
 foskadoin-unit-spec = tie.close (tie.spec unit-requires as-numbers-requires same-length same-length-2 same-length-3 same-length-4 returns)

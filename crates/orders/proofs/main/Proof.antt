@@ -22,10 +22,10 @@ output-requires : tie.Need-output-requires
 output-requires c κs = search needs
 
 array-share-prefix-lines : tie.Need-array-share-prefix-lines
-array-share-prefix-lines c = program-within _ _ (c .output .ensures .0) (c .output .ensures .1)
+array-share-prefix-lines c = program-within _ _ (c .output .ensures .0) (c .output .ensures .1 .0)
 
 slice-aggregate-write-all : tie.Need-slice-aggregate-write-all
-slice-aggregate-write-all c = sym (length-take-le _ _ (program-within _ _ (c .before .output .ensures .0) (c .before .output .ensures .1)))
+slice-aggregate-write-all c = sym (length-take-le _ _ (program-within _ _ (c .before .output .ensures .0) (c .before .output .ensures .1 .0)))
 
 write-all-requires : tie.Need-write-all-requires
 write-all-requires c κs = search needs

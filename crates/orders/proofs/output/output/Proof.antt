@@ -1,12 +1,13 @@
--- A cut word is refused, and whole words are a ticket of at most 70 words.
+-- A cut word is refused, and whole words are a ticket of at most 70 words. T3 of the first line follows from what is printed.
 use native.Mathlib.Omega.{arith}
 use mathlib.Core.Path.{_≡_, sym, _∙_}
 use lib.ListN.{length}
 use lib.Seq.{length-take-le}
+use Rattle.demands.specs.Numbered.{numbered}
 use Rattle.orders.specs.Words.{count-most}
-use Rattle.orders.specs.Refused.{numbered}
 use Rattle.orders.specs.Program.{program-cut, program-whole}
 use Rattle.orders.specs.Printed.{printed-same, printed-whole}
+use Rattle.orders.specs.FirstLine.{printed-least}
 use borrow.Author.Needs.{needs}
 use Rattle.orders.proofs.output.output.Statement.{statement}
 use Rattle.orders.proofs.output.output.Tie as tie
@@ -18,7 +19,9 @@ put-first-requires : tie.Need-put-first-requires
 put-first-requires c κs = (omega arith, numbered 1 (λ e. omega arith) (λ e. omega arith))
 
 returns : tie.Need-returns
-returns c = printed-whole (printed-same (program-cut _ (sym (c .before .before .before .words-of .ensures .cut-is) ∙ c .before .before .if1 .taken)) (c .put-first .ensures))
+returns c =
+    let p = printed-whole (printed-same (program-cut _ (sym (c .before .before .before .words-of .ensures .cut-is) ∙ c .before .before .if1 .taken)) (c .put-first .ensures)) in
+    (p .0, (p .1, printed-least _ _ p))
 
 array-share-prefix-words : tie.Need-array-share-prefix-words
 array-share-prefix-words c =
@@ -36,7 +39,9 @@ put-answer-requires : tie.Need-put-answer-requires
 put-answer-requires c κs = search needs
 
 returns-2 : tie.Need-returns-2
-returns-2 c = printed-whole (printed-same (program-whole _ (sym (c .before .before .before .before .before .words-of .ensures .cut-is) ∙ c .before .before .before .before .if1 .left) _ (c .before .before .before .before .before .words-of .ensures .words-are)) (c .put-answer .ensures))
+returns-2 c =
+    let p = printed-whole (printed-same (program-whole _ (sym (c .before .before .before .before .before .words-of .ensures .cut-is) ∙ c .before .before .before .before .if1 .left) _ (c .before .before .before .before .before .words-of .ensures .words-are)) (c .put-answer .ensures)) in
+    (p .0, (p .1, printed-least _ _ p))
 
 pub output-spec : {M : Type 1} → statement M
 output-spec =

@@ -4,10 +4,10 @@ use mathlib.Core.Path.{_≡_, sym, ap, _∙_}
 use lib.ListN.{length, drop, length-append, length-drop}
 use lib.Seq.{length-take-le}
 use Rattle.definitions.specs.Answers.{said}
+use Rattle.demands.specs.Numbered.{t1-numbers}
 use Rattle.run.specs.Outcome.{meaning}
 use Rattle.regulators.proofs.Kept.{not-found}
 use Rattle.orders.specs.Found.{found-fits, records-fit}
-use Rattle.orders.specs.Refused.{numbered-listing}
 use Rattle.orders.specs.Program.{answer-found, answer-other}
 use Rattle.orders.specs.Printed.{printed-prefix, printed-then, printed-same}
 use borrow.Author.Needs.{needs}
@@ -29,7 +29,7 @@ slice-aggregate-put-first c = sym (length-take-le 1024 (c .before .before .befor
 put-first-requires : tie.Need-put-first-requires
 put-first-requires c κs =
     let e = length-take-le 1024 (c .before .before .before .before .before .before .args .out .now) (omega arith) in
-    (omega arith, numbered-listing _ _ _ (c .before .before .listing .ensures .1 .0))
+    (omega arith, t1-numbers .2 _ _ _ (sym (c .before .before .listing .ensures .1 .0)))
 
 enum-known-outcome : tie.Need-enum-known-outcome
 enum-known-outcome c = search needs
@@ -38,7 +38,7 @@ same-length : tie.Need-same-length
 same-length c = search needs
 
 returns : tie.Need-returns
-returns c = printed-same (answer-other _ _ _ (c .before .before .before .before .before .before .listing .ensures .1 .0) (numbered-listing _ _ _ (c .before .before .before .before .before .before .listing .ensures .1 .0)) (not-found (c .before .before .before .before .before .before .listing .result .outcome) (c .match .keys2))) (printed-prefix _ 1024 _ (omega arith) (c .before .before .before .put-first .ensures))
+returns c = printed-same (answer-other _ _ _ (c .before .before .before .before .before .before .listing .ensures .1 .0) (t1-numbers .2 _ _ _ (sym (c .before .before .before .before .before .before .listing .ensures .1 .0))) (not-found (c .before .before .before .before .before .before .listing .result .outcome) (c .match .keys2))) (printed-prefix _ 1024 _ (omega arith) (c .before .before .before .put-first .ensures))
 
 slice-aggregate-put-records : tie.Need-slice-aggregate-put-records
 slice-aggregate-put-records c = search needs
@@ -63,7 +63,7 @@ same-length-2 : tie.Need-same-length-2
 same-length-2 c = search needs
 
 returns-2 : tie.Need-returns-2
-returns-2 c = printed-same (answer-found _ _ _ _ _ _ _ _ (c .before .before .before .degree .ensures) (ap meaning (c .before .before .before .before .before .before .before .outcome .given .1)) (c .before .before .before .before .before .before .before .before .before .before .before .before .before .before .listing .ensures .1 .0) (c .before .before .before .before .before .before .before .before .before .before .before .before .before .before .listing .ensures .1 .1)) (printed-then (printed-prefix _ 1024 _ (omega arith) (c .before .before .before .before .before .before .before .before .before .before .before .put-first .ensures)) (c .before .before .put-records .ensures))
+returns-2 c = printed-same (answer-found _ _ _ _ _ _ _ _ (c .before .before .before .degree .ensures) (ap meaning (c .before .before .before .before .before .before .before .outcome .given .1)) (c .before .before .before .before .before .before .before .before .before .before .before .before .before .before .listing .ensures .1 .0) (c .before .before .before .before .before .before .before .before .before .before .before .before .before .before .listing .ensures .1 .1 .0)) (printed-then (printed-prefix _ 1024 _ (omega arith) (c .before .before .before .before .before .before .before .before .before .before .before .put-first .ensures)) (c .before .before .put-records .ensures))
 
 pub put-answer-spec : {M : Type 1} → statement M
 put-answer-spec =

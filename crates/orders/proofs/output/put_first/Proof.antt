@@ -2,9 +2,9 @@
 use mathlib.Core.Path.{sym, ap, subst, _∙_}
 use Rattle.definitions.specs.Answers.{said}
 use Rattle.definitions.specs.Program.{firstLine}
+use Rattle.demands.specs.Numbered.{Numbered}
 use Rattle.run.specs.Outcome.{meaning}
 use Rattle.orders.specs.Printed.{printed-line, printed-same}
-use Rattle.orders.specs.Refused.{Numbered}
 use Rattle.orders.specs.Program.{refused-first}
 use borrow.Author.Needs.{needs}
 use Rattle.orders.proofs.output.put_first.Statement.{statement}
