@@ -51,7 +51,9 @@ extern "C" {
 /* words: how many words the ticket has.
    number 0, found:          first = R, the regulator; second = m, the quasi-period; third = c = p^2 - D * s^2 of the unit, 1 to q - 1
    number 11, spent:         first = b, the steps made; second = deg p_(b-1), the degree reached (0 for b = 0); third = 0
-   another number, refused:  0, 0, 0 */
+   another number, refused:  0, 0, 0
+   Of all polynomials p and s modulo q with s not 0 and p^2 - D * s^2 a constant other than 0: found, none has deg p < R, and where deg p = R they are the unit's times
+   a constant, s perhaps with the other sign; spent, none has deg p <= second. */
 struct foskadoin_numbers {
     uint64_t words, number, first, second, third;
 };
