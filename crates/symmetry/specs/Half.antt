@@ -73,6 +73,14 @@ module _ {A : Type 0} (K : Field A) where
       pub regulator-P : (i : ℕ) → MiddleP i → distance K w (suc (suc (i +ₙ i))) +ₙ κ (suc i) ≡ distance K w (suc i) +ₙ distance K w (suc i)
       pub both : (i : ℕ) → MiddleQ i → MiddleP i → QuasiPeriod K w 1
 
+    -- R by the degrees of the partial quotients, where height i is deg a_1 + .. + deg a_i: twice the sum up to a_i and g + 1 where the test of Q
+    -- holds, twice the sum up to a_{i+1} and deg Q_{i+1} where that of P does. And by p_{i-1}: 2 deg p_{i-1} - deg Q_i + deg a_{i+1} where the test
+    -- of Q holds
+    pub record Duplication : Type 0 where
+      pub sum-Q : (i : ℕ) → MiddleQ i → distance K w (suc (i +ₙ i)) ≡ height K w i +ₙ height K w i +ₙ suc g
+      pub sum-P : (i : ℕ) → MiddleP i → distance K w (suc (suc (i +ₙ i))) ≡ height K w (suc i) +ₙ height K w (suc i) +ₙ κ (suc i)
+      pub prior-Q : (i : ℕ) → MiddleQ i → distance K w (suc (i +ₙ i)) +ₙ κ i ≡ distance K w i +ₙ distance K w i +ₙ (suc g -ₙ κ (suc i))
+
     -- a test holds at some i below b, and m is by the first
     abbrev pub Found : ℕ → Type 0
     Found b = (i m : ℕ) × (i < b) × FirstMiddle i m
@@ -216,13 +224,10 @@ module _ {A : Type 0} (K : Field A) where
       pub budget : Budget b
       budget = record { found-within = within; within-found = finds; found-solvable = λ f. solution (within f); solvable-found = solved; decided = decide; none-constant = constant-none b; none-middle = middle-none b; none-solves = above }
 
-    -- ---- R from the degrees of the partial quotients: height i is deg a_1 + .. + deg a_i
-    pub regulator-sum-Q : (i : ℕ) → MiddleQ i → distance K w (suc (i +ₙ i)) ≡ height K w i +ₙ height K w i +ₙ suc g
-    regulator-sum-Q i t = let h = half .regulator-Q i t in let k = distance-height K w i in omega arith
-
-    pub regulator-sum-P : (i : ℕ) → MiddleP i → distance K w (suc (suc (i +ₙ i))) ≡ height K w (suc i) +ₙ height K w (suc i) +ₙ κ (suc i)
-    regulator-sum-P i t = let h = half .regulator-P i t in let k = distance-height K w i in let l = reduced (suc i) in omega arith
-
-    -- the same R by p_{i-1}: 2 deg p_{i-1} - deg Q_i + deg a_{i+1} where Q turns
-    pub regulator-prior-Q : (i : ℕ) → MiddleQ i → distance K w (suc (i +ₙ i)) +ₙ κ i ≡ distance K w i +ₙ distance K w i +ₙ (suc g -ₙ κ (suc i))
-    regulator-prior-Q i t = let h = half .regulator-Q i t in let k = same-κ K w (suc i) i t in let l = reduced i in omega arith
+    -- ---- the duplication rules
+    pub duplication : Duplication
+    duplication = record {
+      sum-Q = λ i t. let h = half .regulator-Q i t in let k = distance-height K w i in omega arith;
+      sum-P = λ i t. let h = half .regulator-P i t in let k = distance-height K w i in let l = reduced (suc i) in omega arith;
+      prior-Q = λ i t. let h = half .regulator-Q i t in let k = same-κ K w (suc i) i t in let l = reduced i in omega arith;
+    }
