@@ -6,13 +6,13 @@ use mathlib.Core.Bool.{Bool, true, false}
 use mathlib.Core.List.{List}
 use lib.Dec.{ltb}
 use borrow.Author.Tests.{lt-ltb, le-ltb}
-use Rattle.definitions.specs.Field.{modulo}
-use Rattle.definitions.specs.Ticket.{Ticket, genus, ticketOf, refusalOf}
-use Rattle.definitions.specs.Walk.{degreeBefore}
-use Rattle.definitions.specs.Answers.{rootOf}
-use Rattle.polynomial.specs.Record.{poly}
-use Rattle.state.specs.State.{rootD}
-use Rattle.regulators.specs.Accepted.{Accepted}
+use Rattle.spec_definitions.specs.Field.{modulo}
+use Rattle.spec_definitions.specs.Ticket.{Ticket, genus, ticketOf, refusalOf}
+use Rattle.spec_definitions.specs.Walk.{degreeBefore}
+use Rattle.spec_definitions.specs.Answers.{rootOf}
+use Rattle.base_polynomial.specs.Record.{poly}
+use Rattle.walk_state.specs.State.{rootD}
+use Rattle.call_regulator.specs.Accepted.{Accepted}
 
 unfoldable pub degreeAfter : List ℕ → ℕ → ℕ
 degreeAfter w steps = elim (ltb steps 268435456) [ true ↦ elim (refusalOf w) [ zero ↦ degreeBefore (modulo (ticketOf w .q)) (ticketOf w .D) (rootOf (ticketOf w)) steps | suc k ↦ 0 ] | false ↦ 0 ]

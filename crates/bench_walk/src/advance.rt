@@ -1,19 +1,20 @@
 // A run of a given number of steps, past every constant Q: for measuring the time of a step.
 ghost use mathlib.Core.Path.{_≡_};
 ghost use Prim.Native.Nat.{_<_, _≤_};
-ghost use Rattle.definitions.specs.Field.{modulo};
-ghost use Rattle.definitions.specs.Ticket.{genus};
-ghost use Rattle.definitions.specs.Walk.{degreeBefore};
-ghost use Rattle.laws.specs.Admitted.{Admitted};
-ghost use Rattle.polynomial.specs.Record.{poly, Held};
-ghost use Rattle.state.specs.State.{rootD};
-ghost use Rattle.state.specs.Start.{Prepared};
-use counters::Distance;
-use field::Field;
-use polynomial::Poly;
-use state::start::prepare;
-use stride::Progress;
-use stride::round;
+ghost use Rattle.spec_definitions.specs.Ticket.{genus};
+ghost use Rattle.spec_definitions.specs.Walk.{degreeBefore};
+ghost use Rattle.spec_laws.specs.Admitted.{Admitted};
+ghost use Rattle.base_polynomial.specs.Record.{poly as polyAt, Held as HeldAt};
+ghost use Rattle.base_polynomial.specs.Whole.{poly, Held};
+ghost use Rattle.walk_state.specs.State.{rootD};
+ghost use Rattle.walk_state.specs.Start.{Prepared};
+ghost use Rattle.base_field.specs.Named.{ops};
+use base_counters::Distance;
+use base_field::Field;
+use base_polynomial::Poly;
+use walk_state::start::prepare;
+use walk_round::Progress;
+use walk_round::round;
 
 // The degree of p_{steps − 1}: so many steps, past every constant Q. D is the first `length` places of `radicand`.
 fn advance(
@@ -26,10 +27,10 @@ fn advance(
     s: &[u32; 129],
     steps: u64,
 ) -> Distance
-    requires { ⌜ Admitted (f .q) (genus n) (poly (now radicand) length) ⌝ }
-    requires { ⌜ Held (f .q) (now radicand) length × (2 ≤ n) × (steps < 268435456) ⌝ }
-    requires { ⌜ Prepared (f .q) (genus n) (poly (now radicand) length) (now table) (now d) (now s) ⌝ }
-    ensures { λ r. ⌜ r .0 ≡ degreeBefore (modulo (f .q)) (poly (now (radicand .entry)) length) (rootD (f .q) (genus n) (poly (now (radicand .entry)) length)) steps ⌝ }
+    requires { ⌜ Admitted (f .q) (genus n) (polyAt (now radicand) length) ⌝ }
+    requires { ⌜ HeldAt (f .q) (now radicand) length × (2 ≤ n) × (steps < 268435456) ⌝ }
+    requires { ⌜ Prepared (f .q) (genus n) (polyAt (now radicand) length) (now table) (now d) (now s) ⌝ }
+    ensures { λ r. ⌜ r .0 ≡ degreeBefore (ops f) (polyAt (now (radicand .entry)) length) (rootD (f .q) (genus n) (polyAt (now (radicand .entry)) length)) steps ⌝ }
 {
     let top = n / 2 + 1;
     let reciprocal = 4294967295 / f.q;
@@ -69,9 +70,9 @@ fn advance(
 
 // The degree that so many steps reach, whether a Q is constant or not: for measuring the time of a step.
 pub fn run_on(f: Field, n: usize, radicand: Poly, steps: u64) -> Distance
-    requires { ⌜ Admitted (f .q) (genus n) (poly (radicand .c) (radicand .size)) ⌝ }
-    requires { ⌜ Held (f .q) (radicand .c) (radicand .size) × (2 ≤ n) × (steps < 268435456) ⌝ }
-    ensures { λ r. ⌜ r .0 ≡ degreeBefore (modulo (f .q)) (poly (radicand .c) (radicand .size)) (rootD (f .q) (genus n) (poly (radicand .c) (radicand .size))) steps ⌝ }
+    requires { ⌜ Admitted (f .q) (genus n) (poly radicand) ⌝ }
+    requires { ⌜ Held f radicand × (2 ≤ n) × (steps < 268435456) ⌝ }
+    ensures { λ r. ⌜ r .0 ≡ degreeBefore (ops f) (poly radicand) (rootD (f .q) (genus n) (poly radicand)) steps ⌝ }
 {
     let mut table = [0u32; 4096];
     let mut d = [0u32; 129];

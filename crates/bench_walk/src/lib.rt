@@ -4,7 +4,7 @@ pub mod advance;
 ghost use mathlib.Core.Path.{_≡_};
 ghost use Rattle.bench_walk.specs.Steps.{degreeAfter};
 use crate::advance::run_on;
-use ticket::read_ticket;
+use ticket_read::read_ticket;
 
 // The degree of p_{steps − 1}, or 0 where the ticket is refused or 2²⁸ steps or more are asked for. The ticket's budget has no part.
 #[no_mangle]

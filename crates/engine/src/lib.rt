@@ -1,26 +1,26 @@
 // The public calls, each from a crate of its own. None relies on its caller: every list of words has its answer, and every lent list is said at exit.
-pub use counters::Distance;
-pub use counters::Index;
-pub use lookup::lookup;
-pub use polynomial::Poly;
-pub use regulators::Answer;
-pub use regulators::regulator;
-pub use run::Outcome;
+pub use base_counters::Distance;
+pub use base_counters::Index;
+pub use call_lookup::lookup;
+pub use base_polynomial::Poly;
+pub use call_regulator::Answer;
+pub use call_regulator::regulator;
+pub use walk_run::Outcome;
 
 pub mod unit {
-    pub use units::unit;
+    pub use call_unit::unit;
 }
 
 pub mod listing {
-    pub use listings::listing;
+    pub use call_listing::listing;
 }
 
 pub mod product {
-    pub use products::ProductAnswer;
-    pub use products::product;
+    pub use call_product::ProductAnswer;
+    pub use call_product::product;
 }
 
 pub mod giant_step {
-    pub use giant_steps::GiantStepAnswer;
-    pub use giant_steps::giant_step;
+    pub use call_giant_step::GiantStepAnswer;
+    pub use call_giant_step::giant_step;
 }

@@ -3,16 +3,16 @@ use Prim.Native.Nat.{ℕ, _<_}
 use native.Mathlib.Omega.{arith}
 use mathlib.Core.Path.{_≡_, sym, ap, _∙_, subst}
 use mathlib.Core.List.{List}
-use Rattle.definitions.specs.Field.{modulo}
-use Rattle.definitions.specs.Polynomials.{deg}
-use Rattle.definitions.specs.Ticket.{ticketOf}
-use Rattle.definitions.specs.Walk.{Unit as UnitPair, unitOf}
-use Rattle.definitions.specs.Answers.{Outcome, found, spent, refused, said, rootOf}
-use Rattle.definitions.specs.Units.{Lists}
-use Rattle.demands.specs.LeastDegree.{Solves, LeastFound, Least}
-use Rattle.demands.specs.Written.{unitIn}
-use Rattle.demands.specs.Numbered.{Numbered}
-use Rattle.demands.specs.LeastAnswers.{LeastWritten}
+use Rattle.spec_definitions.specs.Field.{modulo}
+use Rattle.spec_definitions.specs.Polynomials.{deg}
+use Rattle.spec_definitions.specs.Ticket.{ticketOf}
+use Rattle.spec_definitions.specs.Walk.{Unit as UnitPair, unitOf}
+use Rattle.spec_definitions.specs.Answers.{Outcome, found, spent, refused, said, rootOf}
+use Rattle.spec_definitions.specs.Units.{Lists}
+use Rattle.spec_demands.specs.LeastDegree.{Solves, LeastFound, Least}
+use Rattle.spec_demands.specs.Written.{unitIn}
+use Rattle.spec_demands.specs.Numbered.{Numbered}
+use Rattle.spec_demands.specs.LeastAnswers.{LeastWritten}
 use Rattle.foskadoin.specs.Numbers.{Plain}
 
 -- the ticket of the words w: where the number is 0, the unit u has the least degree, `first`, and the norm `third`; where it is 11, every solution's degree is above `second`

@@ -2,7 +2,7 @@
 use Prim.Native.Nat.{ℕ}
 use mathlib.Core.Path.{_≡_, refl, subst}
 use lib.ListN.{getD}
-use Rattle.definitions.specs.Answers.{Said, found, spent, refused, said}
+use Rattle.spec_definitions.specs.Answers.{Said, found, spent, refused, said}
 
 -- four numbers are what s says: found 0, R, m, c; spent 11, k, e, 0; refused j, 0, 0, 0
 pub record Plain (s : Said) (number first second third : ℕ) : Type 0 where

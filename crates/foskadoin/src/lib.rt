@@ -3,20 +3,20 @@ pub mod pairs;
 
 ghost use mathlib.Core.Path.{_≡_};
 ghost use lib.ListN.{length};
-ghost use Rattle.definitions.specs.Answers.{said, regulatorOf};
-ghost use Rattle.definitions.specs.Listing.{listingAnswer};
-ghost use Rattle.definitions.specs.Lookup.{lookupOf, placeOf};
-ghost use Rattle.definitions.specs.Units.{unitAnswer};
-ghost use Rattle.convergents.specs.Lists.{lists};
+ghost use Rattle.spec_definitions.specs.Answers.{said, regulatorOf};
+ghost use Rattle.spec_definitions.specs.Listing.{listingAnswer};
+ghost use Rattle.spec_definitions.specs.Lookup.{lookupOf, placeOf};
+ghost use Rattle.spec_definitions.specs.Units.{unitAnswer};
+ghost use Rattle.unit_lists.specs.Lists.{lists};
 ghost use Rattle.foskadoin.specs.Numbers.{Plain};
 ghost use Rattle.foskadoin.specs.Least.{LeastPlain, LeastInLists};
-ghost use Rattle.run.specs.Outcome.{meaning};
-use counters::Distance;
+ghost use Rattle.walk_run.specs.Outcome.{meaning};
+use base_counters::Distance;
 use engine::listing::listing;
 use engine::regulator;
 use engine::unit::unit;
-use lookup::place;
-use run::Outcome;
+use call_lookup::place;
+use walk_run::Outcome;
 
 // The number of words handed in, the paper's number of the outcome and its values: found 0, R, m, c; spent 11, k, e, 0; refused j, 0, 0, 0.
 #[repr(C)]

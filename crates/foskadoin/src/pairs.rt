@@ -1,11 +1,11 @@
 // The calls `product` and `giant_step`: their polynomials go into lent arrays of 129 numbers, with their sizes in the answer.
 ghost use mathlib.Core.Path.{_≡_};
 ghost use lib.ListN.{length};
-ghost use Rattle.definitions.specs.Ticket.{ticketOf};
-ghost use Rattle.definitions.specs.Products.{productAnswer, giantAnswer};
-ghost use Rattle.products.specs.Products.{ProductSays, pairOf};
-ghost use Rattle.giant_steps.specs.GiantSteps.{GiantSays};
-use counters::Distance;
+ghost use Rattle.spec_definitions.specs.Ticket.{ticketOf};
+ghost use Rattle.spec_definitions.specs.Products.{productAnswer, giantAnswer};
+ghost use Rattle.call_product.specs.Products.{ProductSays, pairOf};
+ghost use Rattle.call_giant_step.specs.GiantSteps.{GiantSays};
+use base_counters::Distance;
 use engine::giant_step::giant_step;
 use engine::product::product;
 

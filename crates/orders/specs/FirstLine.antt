@@ -6,16 +6,16 @@ use mathlib.Core.Bool.{Bool, true, false}
 use mathlib.Core.List.{List, [], _∷_, _++_, append-assoc, append-nil}
 use lib.ListN.{length, getD, take, drop, replicate}
 use lib.Seq.{take-at}
-use Rattle.definitions.specs.Ticket.{Ticket, ticketOf}
-use Rattle.definitions.specs.Answers.{Outcome, found, spent, refused, Said, said, wordsOutcome}
-use Rattle.definitions.specs.Listing.{ListingAnswer, listingFrom, listingAnswer}
-use Rattle.definitions.specs.Text.{ascii, spaced, line}
-use Rattle.definitions.specs.Program.{wordsOf, readBytes, cutWord, firstLine, answerLines, programOf}
-use Rattle.demands.specs.LeastDegree.{Least}
-use Rattle.demands.specs.Numbered.{Numbered, numbered, numbered-found, numbered-spent, t1-numbers}
-use Rattle.demands.specs.LeastAnswers.{t3-listing}
-use Rattle.listings.specs.Listing.{room-cases}
-use Rattle.text.specs.Digits.{spaced-fixes}
+use Rattle.spec_definitions.specs.Ticket.{Ticket, ticketOf}
+use Rattle.spec_definitions.specs.Answers.{Outcome, found, spent, refused, Said, said, wordsOutcome}
+use Rattle.spec_definitions.specs.Listing.{ListingAnswer, listingFrom, listingAnswer}
+use Rattle.spec_definitions.specs.Text.{ascii, spaced, line}
+use Rattle.spec_definitions.specs.Program.{wordsOf, readBytes, cutWord, firstLine, answerLines, programOf}
+use Rattle.spec_demands.specs.LeastDegree.{Least}
+use Rattle.spec_demands.specs.Numbered.{Numbered, numbered, numbered-found, numbered-spent, t1-numbers}
+use Rattle.spec_demands.specs.LeastAnswers.{t3-listing}
+use Rattle.call_listing.specs.Listing.{room-cases}
+use Rattle.out_text.specs.Digits.{spaced-fixes}
 use Rattle.orders.specs.Program.{refused-first, program-cut, program-whole}
 
 -- the first line fixes the outcome with each of its numbers, and what stands after the line

@@ -4,12 +4,12 @@ use native.Mathlib.Omega.{arith}
 use mathlib.Core.Path.{_≡_, refl, sym, subst}
 use mathlib.Core.List.{List}
 use lib.ListN.{length, getD, take, drop, length-map, length-take, length-drop}
-use Rattle.definitions.specs.Words.{value}
-use Rattle.definitions.specs.Ticket.{Ticket, genus, ticketOf, refusalOf}
-use Rattle.definitions.specs.Answers.{Outcome, found, spent, refused, said, said-injective, outcomeOf, wordsOutcome}
-use Rattle.definitions.specs.Listing.{listingFrom, listingAnswer}
-use Rattle.listings.specs.Listing.{room-cases}
-use Rattle.laws.specs.Admitted.{passed, admitted, degree-of}
+use Rattle.spec_definitions.specs.Words.{value}
+use Rattle.spec_definitions.specs.Ticket.{Ticket, genus, ticketOf, refusalOf}
+use Rattle.spec_definitions.specs.Answers.{Outcome, found, spent, refused, said, said-injective, outcomeOf, wordsOutcome}
+use Rattle.spec_definitions.specs.Listing.{listingFrom, listingAnswer}
+use Rattle.call_listing.specs.Listing.{room-cases}
+use Rattle.spec_laws.specs.Admitted.{passed, admitted, degree-of}
 
 pub record Fits (w l : List ℕ) (m : ℕ) : Type 0 where
   pub words : 1 < length w

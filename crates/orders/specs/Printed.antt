@@ -7,12 +7,12 @@ use mathlib.Core.Path.{_≡_, sym, ap, _∙_, subst}
 use mathlib.Core.List.{List, [], _∷_, _++_, map, append-assoc, append-nil}
 use lib.ListN.{length, take, drop, length-append, length-drop, take-append-drop}
 use lib.Seq.{length-take-le, drop-append-le, drop-drop, sets-eq}
-use Rattle.definitions.specs.Words.{value}
-use Rattle.definitions.specs.Text.{decimal, spaced}
-use Rattle.definitions.specs.Lookup.{recordAt}
-use Rattle.definitions.specs.Program.{recordLine, recordLines, programOf}
-use Rattle.text.specs.Lines.{digits-value, headBytes, length-head, record-line}
-use Rattle.text.specs.Writing.{Put, Line, line-fits, put-none, put-then, put-length, sets-start}
+use Rattle.spec_definitions.specs.Words.{value}
+use Rattle.spec_definitions.specs.Text.{decimal, spaced}
+use Rattle.spec_definitions.specs.Lookup.{recordAt}
+use Rattle.spec_definitions.specs.Program.{recordLine, recordLines, programOf}
+use Rattle.out_text.specs.Lines.{digits-value, headBytes, length-head, record-line}
+use Rattle.out_text.specs.Writing.{Put, Line, line-fits, put-none, put-then, put-length, sets-start}
 
 -- `bytes` are written from `at` on, `next` is the place after them, and there is room for them
 pub record Printed (before : List ℕ) (at : ℕ) (after : List ℕ) (next : ℕ) (bytes : List ℕ) : Type 0 where

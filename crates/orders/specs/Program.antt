@@ -3,16 +3,16 @@ use Prim.Native.Nat.{ℕ}
 use mathlib.Core.Path.{_≡_, refl, sym, ap, _∙_}
 use mathlib.Core.Bool.{Bool, true, false}
 use mathlib.Core.List.{List, [], _∷_, _++_, append-nil}
-use Rattle.definitions.specs.Text.{ascii, line}
-use Rattle.text.specs.Lines.{first-refused}
+use Rattle.spec_definitions.specs.Text.{ascii, line}
+use Rattle.out_text.specs.Lines.{first-refused}
 use lib.Dec.{eqb}
 use lib.ListN.{getD, replicate}
 use borrow.Author.Tests.{ne-eqb}
-use Rattle.definitions.specs.Ticket.{ticketOf}
-use Rattle.definitions.specs.Answers.{Outcome, found, spent, refused, Said, said}
-use Rattle.definitions.specs.Listing.{ListingAnswer, listingAnswer}
-use Rattle.definitions.specs.Program.{wordsOf, readBytes, cutWord, firstLine, recordLines, answerLines, programOf}
-use Rattle.demands.specs.Numbered.{Numbered}
+use Rattle.spec_definitions.specs.Ticket.{ticketOf}
+use Rattle.spec_definitions.specs.Answers.{Outcome, found, spent, refused, Said, said}
+use Rattle.spec_definitions.specs.Listing.{ListingAnswer, listingAnswer}
+use Rattle.spec_definitions.specs.Program.{wordsOf, readBytes, cutWord, firstLine, recordLines, answerLines, programOf}
+use Rattle.spec_demands.specs.Numbered.{Numbered}
 
 module _ (n : ℕ) (list : List ℕ) where
   abbrev lines : Said → List ℕ

@@ -5,8 +5,8 @@ use mathlib.Core.Path.{_≡_}
 use mathlib.Core.Bool.{Bool}
 use mathlib.Core.List.{List}
 use lib.ListN.{length}
-use Rattle.definitions.specs.Program.{wordsOf, readBytes}
-use Rattle.reading.specs.Reading.{Read, length-wordsOf, length-read-most}
+use Rattle.spec_definitions.specs.Program.{wordsOf, readBytes}
+use Rattle.out_reading.specs.Reading.{Read, length-wordsOf, length-read-most}
 
 -- 280 bytes are 70 words
 pub count-most : (l : List ℕ) {cut : Bool} {count : ℕ} {words : List ℕ} → Read (readBytes l) cut count words → count ≤ 70

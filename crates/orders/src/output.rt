@@ -3,22 +3,22 @@ ghost use mathlib.Core.Path.{_≡_};
 ghost use Prim.Native.Nat.{_+_, _*_, _<_, _≤_};
 ghost use mathlib.Core.List.{_++_};
 ghost use lib.ListN.{length, take, drop, replicate};
-ghost use Rattle.definitions.specs.Ticket.{ticketOf};
-ghost use Rattle.definitions.specs.Answers.{said};
-ghost use Rattle.definitions.specs.Listing.{listingAnswer};
-ghost use Rattle.definitions.specs.Program.{wordsOf, readBytes, firstLine, recordLine, recordLines, answerLines, programOf};
-ghost use Rattle.demands.specs.Numbered.{Numbered};
-ghost use Rattle.run.specs.Outcome.{meaning};
+ghost use Rattle.spec_definitions.specs.Ticket.{ticketOf};
+ghost use Rattle.spec_definitions.specs.Answers.{said};
+ghost use Rattle.spec_definitions.specs.Listing.{listingAnswer};
+ghost use Rattle.spec_definitions.specs.Program.{wordsOf, readBytes, firstLine, recordLine, recordLines, answerLines, programOf};
+ghost use Rattle.spec_demands.specs.Numbered.{Numbered};
+ghost use Rattle.walk_run.specs.Outcome.{meaning};
 ghost use Rattle.orders.specs.Printed.{Printed};
 ghost use Rattle.orders.specs.FirstLine.{LeastPrinted};
 use engine::listing::listing;
-use reading::words_of;
-use refusals::words::value;
-use run::Outcome;
-use text::lines::found_line;
-use text::lines::record_line;
-use text::lines::refused_line;
-use text::lines::spent_line;
+use out_reading::words_of;
+use ticket_tests::words::value;
+use walk_run::Outcome;
+use out_text::lines::found_line;
+use out_text::lines::record_line;
+use out_text::lines::refused_line;
+use out_text::lines::spent_line;
 
 // The line of a record from a place on, at most ten bytes for each of its words. Each of these functions returns the place after its last byte.
 fn put_record(out: &mut [u8], at: usize, words: &[u32]) -> usize

@@ -1,7 +1,7 @@
 -- `bench_walk` meets its contract: what `read_ticket` ensures is what the run asks for.
 use native.Mathlib.Omega.{arith}
 use borrow.Author.Needs.{needs}
-use Rattle.regulators.specs.Accepted.{accepted, number-is}
+use Rattle.call_regulator.specs.Accepted.{accepted, number-is}
 use Rattle.bench_walk.specs.Steps.{many-steps, refused-steps, accepted-steps}
 use Rattle.bench_walk.proofs.bench_walk.Statement.{statement}
 use Rattle.bench_walk.proofs.bench_walk.Tie as tie

@@ -1,8 +1,8 @@
 -- `as_numbers` meets its contract: each case of an outcome has its number and its values.
 use mathlib.Core.Path.{refl, sym, ap}
 use borrow.Author.Needs.{needs}
-use Rattle.definitions.specs.Answers.{said}
-use Rattle.run.specs.Outcome.{meaning}
+use Rattle.spec_definitions.specs.Answers.{said}
+use Rattle.walk_run.specs.Outcome.{meaning}
 use Rattle.foskadoin.specs.Numbers.{plain-found, plain-spent, plain-refused, plain-same}
 use Rattle.foskadoin.proofs.as_numbers.Statement.{statement}
 use Rattle.foskadoin.proofs.as_numbers.Tie as tie

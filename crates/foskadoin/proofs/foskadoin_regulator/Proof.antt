@@ -1,7 +1,7 @@
 -- `foskadoin_regulator` meets its contract: the numbers of the engine's outcome, and T3 of them.
 use mathlib.Core.Path.{sym, _∙_}
 use borrow.Author.Needs.{needs}
-use Rattle.demands.specs.Numbered.{t1-numbers}
+use Rattle.spec_demands.specs.Numbered.{t1-numbers}
 use Rattle.foskadoin.specs.Numbers.{plain-same}
 use Rattle.foskadoin.specs.Least.{least-plain}
 use Rattle.foskadoin.proofs.foskadoin_regulator.Statement.{statement}

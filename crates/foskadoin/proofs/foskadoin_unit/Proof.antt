@@ -1,7 +1,7 @@
 -- `foskadoin_unit` meets its contract: the numbers of the engine's outcome, the lists as the engine leaves them, and T3 of both.
 use mathlib.Core.Path.{sym, _∙_}
 use borrow.Author.Needs.{needs}
-use Rattle.demands.specs.Numbered.{t1-numbers}
+use Rattle.spec_demands.specs.Numbered.{t1-numbers}
 use Rattle.foskadoin.specs.Numbers.{plain-same}
 use Rattle.foskadoin.specs.Least.{least-in-lists}
 use Rattle.foskadoin.proofs.foskadoin_unit.Statement.{statement}

@@ -3,12 +3,12 @@ use Prim.Native.Nat.{_-_, _≤_, _<_}
 use native.Mathlib.Omega.{arith}
 use mathlib.Core.Path.{_≡_, refl, ap, _∙_}
 use borrow.Author.Needs.{needs}
-use Rattle.definitions.specs.Ticket.{genus}
-use Rattle.definitions.specs.Field.{modulo}
-use Rattle.definitions.specs.Walk.{degreeBefore}
-use Rattle.polynomial.specs.Record.{poly}
-use Rattle.state.specs.Start.{half-degree, top-is}
-use Rattle.run.specs.Steps.{Standing, standing-first, standing-next, round-rise, round-some}
+use Rattle.spec_definitions.specs.Ticket.{genus}
+use Rattle.spec_definitions.specs.Field.{modulo}
+use Rattle.spec_definitions.specs.Walk.{degreeBefore}
+use Rattle.base_polynomial.specs.Record.{poly}
+use Rattle.walk_state.specs.Start.{half-degree, top-is}
+use Rattle.walk_run.specs.Steps.{Standing, standing-first, standing-next, round-rise, round-some}
 use Rattle.bench_walk.proofs.advance.advance.Statement.{statement}
 use Rattle.bench_walk.proofs.advance.advance.Tie as tie
 

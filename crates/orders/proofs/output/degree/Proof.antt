@@ -1,5 +1,5 @@
 -- The second word's value is n.
-use Rattle.definitions.specs.Ticket.{ticketOf}
+use Rattle.spec_definitions.specs.Ticket.{ticketOf}
 use borrow.Author.Needs.{needs}
 use Rattle.orders.proofs.output.degree.Statement.{statement}
 use Rattle.orders.proofs.output.degree.Tie as tie

@@ -3,7 +3,7 @@ use native.Mathlib.Omega.{arith}
 use mathlib.Core.Path.{_≡_, sym, _∙_}
 use lib.ListN.{length}
 use lib.Seq.{length-take-le}
-use Rattle.demands.specs.Numbered.{numbered}
+use Rattle.spec_demands.specs.Numbered.{numbered}
 use Rattle.orders.specs.Words.{count-most}
 use Rattle.orders.specs.Program.{program-cut, program-whole}
 use Rattle.orders.specs.Printed.{printed-same, printed-whole}

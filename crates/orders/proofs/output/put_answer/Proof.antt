@@ -3,10 +3,10 @@ use native.Mathlib.Omega.{arith}
 use mathlib.Core.Path.{_≡_, sym, ap, _∙_}
 use lib.ListN.{length, drop, length-append, length-drop}
 use lib.Seq.{length-take-le}
-use Rattle.definitions.specs.Answers.{said}
-use Rattle.demands.specs.Numbered.{t1-numbers}
-use Rattle.run.specs.Outcome.{meaning}
-use Rattle.regulators.proofs.Kept.{not-found}
+use Rattle.spec_definitions.specs.Answers.{said}
+use Rattle.spec_demands.specs.Numbered.{t1-numbers}
+use Rattle.walk_run.specs.Outcome.{meaning}
+use Rattle.call_regulator.proofs.Kept.{not-found}
 use Rattle.orders.specs.Found.{found-fits, records-fit}
 use Rattle.orders.specs.Program.{answer-found, answer-other}
 use Rattle.orders.specs.Printed.{printed-prefix, printed-then, printed-same}

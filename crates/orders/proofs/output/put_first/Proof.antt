@@ -1,9 +1,9 @@
 -- Each case has its line.
 use mathlib.Core.Path.{sym, ap, subst, _∙_}
-use Rattle.definitions.specs.Answers.{said}
-use Rattle.definitions.specs.Program.{firstLine}
-use Rattle.demands.specs.Numbered.{Numbered}
-use Rattle.run.specs.Outcome.{meaning}
+use Rattle.spec_definitions.specs.Answers.{said}
+use Rattle.spec_definitions.specs.Program.{firstLine}
+use Rattle.spec_demands.specs.Numbered.{Numbered}
+use Rattle.walk_run.specs.Outcome.{meaning}
 use Rattle.orders.specs.Printed.{printed-line, printed-same}
 use Rattle.orders.specs.Program.{refused-first}
 use borrow.Author.Needs.{needs}

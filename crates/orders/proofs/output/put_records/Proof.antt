@@ -3,7 +3,7 @@ use Prim.Native.Nat.{_+_, _-_, _*_, _≤_}
 use native.Mathlib.Omega.{arith}
 use mathlib.Core.Path.{_≡_, refl, ap}
 use lib.ListN.{length}
-use Rattle.definitions.specs.Program.{recordLines}
+use Rattle.spec_definitions.specs.Program.{recordLines}
 use Rattle.orders.specs.Records.{record-within, part-length, next-place}
 use Rattle.orders.specs.Printed.{Printed, printed-none, printed-then, printed-same, lines-next}
 use borrow.Author.Needs.{needs}

@@ -1,0 +1,3 @@
+pub mod Primes
+pub mod Residue
+pub mod Named

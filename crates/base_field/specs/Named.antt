@@ -1,0 +1,28 @@
+-- What a contract says of a field of the code: its name, its operations, its coefficients.
+use Prim.Native.Nat.{ℕ, _/_, _<_}
+use mathlib.Core.Path.{_≡_}
+use Rattle.spec_definitions.specs.Field.{Ops, FieldName, prime, ops as opsOf}
+use Rattle.spec_bridge.specs.Prime.{Prime}
+use Rattle.spec_fields.specs.Named as fields
+use Rattle.base_field.specs.declared.Field.{Field}
+
+-- 2³² − 1
+abbrev pub largest : ℕ
+largest = 4294967295
+
+abbrev pub name : Field → FieldName
+name f = prime (f .q)
+
+abbrev pub ops : Field → Ops ℕ
+ops f = opsOf (name f)
+
+-- q is an odd prime below 4,096, and the reciprocal belongs to it
+abbrev pub IsField : Field → Type 0
+IsField f = Prime (f .q) × (2 < f .q) × (f .q < 4096) × (f .reciprocal ≡ largest / f .q)
+
+-- an admissible coefficient
+abbrev pub Ok : Field → ℕ → Type 0
+Ok f x = fields.Ok (name f) x
+
+pub named : (f : Field) → IsField f → fields.IsField (name f)
+named f h = record { prime = h .0; odd = h .1 .0; small = h .1 .1 .0 }

@@ -1,0 +1,83 @@
+// Sums, differences, multiples and the derivative, place by place.
+// A function `.._places` works on arrays whose places from n on are 0 and fills the array z.
+ghost use mathlib.Core.Path.{_≡_};
+ghost use Prim.Native.Nat.{ℕ, _+_, _<_, _≤_};
+ghost use lib.ListN.{getD};
+ghost use Rattle.base_places.specs.Places.{Places, Within, Top};
+ghost use Rattle.base_field.specs.Named.{ops};
+use base_field::Field;
+
+// The size: the places from `from` on are 0.
+pub fn top(c: &[u32; 129], from: usize) -> usize
+    requires { ⌜ from ≤ 129 ⌝ }
+    requires { ⌜ ((i : ℕ) → from ≤ i → getD (now c) i 0 ≡ 0) ⌝ }
+    ensures { λ r. ⌜ Top (now (c .entry)) r ⌝ }
+{
+    let mut n: usize = from;
+    while 0 < n {
+        if c[n - 1] != 0 {
+            return n;
+        }
+        n -= 1;
+    }
+    0
+}
+
+// z becomes x + y.
+pub fn add_places(f: Field, x: &[u32; 129], y: &[u32; 129], n: usize, z: &mut [u32; 129])
+    requires { ⌜ (f .q < 4096) × (n ≤ 129) ⌝ }
+    requires { ⌜ Within (f .q) (now x) n ⌝ }
+    requires { ⌜ Within (f .q) (now y) n ⌝ }
+    ensures { λ _. ⌜ Places (now (z .exit)) (λ i. ops f .add (getD (now (x .entry)) i 0) (getD (now (y .entry)) i 0)) ⌝ }
+{
+    *z = [0u32; 129];
+    let mut i: usize = 0;
+    while i < n {
+        z[i] = base_field::add(f, x[i], y[i]);
+        i += 1;
+    }
+}
+
+// z becomes x − y.
+pub fn sub_places(f: Field, x: &[u32; 129], y: &[u32; 129], n: usize, z: &mut [u32; 129])
+    requires { ⌜ (f .q < 4096) × (n ≤ 129) ⌝ }
+    requires { ⌜ Within (f .q) (now x) n ⌝ }
+    requires { ⌜ Within (f .q) (now y) n ⌝ }
+    ensures { λ _. ⌜ Places (now (z .exit)) (λ i. ops f .sub (getD (now (x .entry)) i 0) (getD (now (y .entry)) i 0)) ⌝ }
+{
+    *z = [0u32; 129];
+    let mut i: usize = 0;
+    while i < n {
+        z[i] = base_field::sub(f, x[i], y[i]);
+        i += 1;
+    }
+}
+
+// z becomes k·x.
+pub fn scale_places(f: Field, k: u32, x: &[u32; 129], n: usize, z: &mut [u32; 129])
+    requires { ⌜ (f .q < 4096) × (n ≤ 129) × (k < f .q) ⌝ }
+    requires { ⌜ Within (f .q) (now x) n ⌝ }
+    ensures { λ _. ⌜ Places (now (z .exit)) (λ i. ops f .mul k (getD (now (x .entry)) i 0)) ⌝ }
+{
+    *z = [0u32; 129];
+    let mut i: usize = 0;
+    while i < n {
+        z[i] = base_field::mul(f, k, x[i]);
+        i += 1;
+    }
+}
+
+// z becomes the derivative of x: at i the coefficient at i + 1, times i + 1.
+pub fn derivative_places(f: Field, x: &[u32; 129], n: usize, z: &mut [u32; 129])
+    requires { ⌜ (f .q < 4096) × (n ≤ 129) ⌝ }
+    requires { ⌜ Within (f .q) (now x) n ⌝ }
+    ensures { λ _. ⌜ Places (now (z .exit)) (λ i. ops f .mul (i + 1) (getD (now (x .entry)) (i + 1) 0)) ⌝ }
+{
+    *z = [0u32; 129];
+    let q = f.q;
+    let mut i: usize = 0;
+    while i + 1 < n {
+        z[i] = (i + 1) as u32 * x[i + 1] % q;
+        i += 1;
+    }
+}

@@ -1,0 +1,12 @@
+pub mod Record
+pub mod Pad
+pub mod Held
+pub mod Places
+pub mod Row
+pub mod Linear
+pub mod Result
+pub mod Product
+pub mod Division
+pub mod Gcd
+pub mod Bezout
+pub mod Whole

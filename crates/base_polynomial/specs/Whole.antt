@@ -1,0 +1,18 @@
+-- What a contract says of a whole record: the polynomial that it stands for, over a field of the code.
+use mathlib.Core.List.{List}
+use Prim.Native.Nat.{ℕ}
+use Rattle.base_field.specs.declared.Field.{Field}
+use Rattle.base_polynomial.specs.declared.Poly.{Poly}
+use Rattle.base_polynomial.specs.Record as places
+
+-- its polynomial
+abbrev pub poly : Poly → List ℕ
+poly a = places.poly (a .c) (a .size)
+
+-- a record as every function keeps it
+abbrev pub Held : Field → Poly → Type 0
+Held f a = places.Held (f .q) (a .c) (a .size)
+
+-- it is the record that stands for the polynomial l
+abbrev pub Is : Field → Poly → List ℕ → Type 0
+Is f a l = places.Is (f .q) (a .c) (a .size) l

@@ -1,0 +1,39 @@
+-- `list_found` meets its contract: a list that is too short is refused as it is, any other receives the records.
+use Prim.Native.Nat.{_+_, _*_, _≤_}
+use native.Mathlib.Nat.{mul-le-mul}
+use native.Mathlib.Omega.{arith}
+use borrow.Author.Needs.{needs}
+use Rattle.call_regulator.specs.Found.{found-index, found-degree}
+use Rattle.call_listing.specs.Listing.{long-list, short-list}
+use Rattle.call_listing.proofs.list_found.Statement.{statement}
+use Rattle.call_listing.proofs.list_found.Tie as tie
+
+add-words : tie.Need-add-words
+add-words c = search needs
+
+mul-words : tie.Need-mul-words
+mul-words c =
+    let f = c .before .before .pre .0 in
+    let i = found-index f in
+    let g = f .admitted .genus-most in
+    let e = f .even in
+    let k : c .before .before .args .m .0 * (c .before .before .args .t .n + 4) ≤ 268435456 * 68 = mul-le-mul {n₂ = 268435456} {m₂ = 68} (omega arith) (omega arith) in
+    record { fits = omega arith }
+
+returns : tie.Need-returns
+returns c = short-list _ _ _ _ _ (omega arith)
+
+write-listing-requires : tie.Need-write-listing-requires
+write-listing-requires c κs =
+    let f = c .before .before .before .before .pre .0 in
+    (record { admitted = f .admitted; even = f .even; index-fits = found-index f; regulator-is = found-degree f; words-fit = omega arith }, c .before .before .before .before .pre .1)
+
+same-length : tie.Need-same-length
+same-length c = search needs
+
+returns-2 : tie.Need-returns-2
+returns-2 c = long-list _ _ _ _ _ _ (omega arith) (c .before .before .write-listing .ensures _)
+
+pub list-found-spec : {M : Type 1} → statement M
+list-found-spec =
+    tie.close (tie.spec add-words mul-words returns write-listing-requires same-length returns-2)

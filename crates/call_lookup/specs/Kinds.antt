@@ -1,0 +1,142 @@
+-- The kinds of a record's words, place by place: they are a list of n + 4 numbers, and the test of a whole record is the test of each place.
+use Prim.Native.Nat.{ℕ, zero, suc, _+_, _-_, _/_, _%_, _<_, _≤_}
+use native.Mathlib.Omega.{arith}
+use mathlib.Core.Path.{_≡_, refl, sym, ap, ap₂, _∙_}
+use mathlib.Core.Bool.{Bool, true, false, _||_}
+use mathlib.Core.List.{List, [], _∷_, _++_, map}
+use lib.Dec.{eqb}
+use lib.ListN.{length, getD, take, drop, replicate, length-append, length-replicate, length-map, length-drop, getD-replicate, List·getD-append, List·getD-map}
+use lib.Seq.{ext-getD, getD-take, getD-drop, getD-append-add, length-take-le}
+use borrow.Author.Tests.{eqb-true, eq-eqb, ltb-false, not-false}
+use Rattle.spec_definitions.specs.Words.{kind, same}
+use Rattle.spec_definitions.specs.Ticket.{wrongDegree, genus}
+use Rattle.spec_definitions.specs.Lookup.{recordKinds}
+
+-- the allowed degrees, as facts about numbers
+pub record Allowed (n : ℕ) : Type 0 where
+  pub even : n % 2 ≡ 0
+  pub least : 2 ≤ n
+  pub most : n ≤ 64
+
+pub or-false : (a b : Bool) → (a || b) ≡ false → (a ≡ false) × (b ≡ false)
+or-false true b h = (h, absurd (let z : true ≡ false = h in let w : _≡_ {A = ℕ} 0 1 = cc in omega arith))
+or-false false b h = (refl, h)
+
+pub allowed : (n : ℕ) → wrongDegree n ≡ false → Allowed n
+unfolding wrongDegree
+allowed n h =
+    let a = or-false _ _ h in
+    let b = or-false _ _ (a .0) in
+    record { even = eqb-true (n % 2) 0 (not-false _ (b .0)); least = ltb-false n 2 (b .1); most = ltb-false 64 n (a .1) }
+
+module _ (n : ℕ) (h : wrongDegree n ≡ false) where
+  coefficients : List ℕ
+  coefficients = replicate (suc (genus n)) 8 ++ replicate (genus n) 9
+
+  length-eights : length (replicate {A = ℕ} (suc (genus n)) 8) ≡ n / 2
+  unfolding genus
+  length-eights = length-replicate {A = ℕ} (suc (genus n)) 8 ∙ (let a : Allowed n = allowed n h in omega arith)
+
+  pub length-recordKinds : length (recordKinds n) ≡ n + 4
+  unfolding recordKinds genus coefficients
+  length-recordKinds =
+      let a : Allowed n = allowed n h in
+      let e : length coefficients ≡ length (replicate {A = ℕ} (suc (genus n)) 8) + length (replicate {A = ℕ} (genus n) 9) = length-append (replicate (suc (genus n)) 8) (replicate (genus n) 9) in
+      let f : length (replicate {A = ℕ} (genus n) 9) ≡ genus n = length-replicate {A = ℕ} (genus n) 9 in
+      let g : length (replicate {A = ℕ} (suc (genus n)) 8) ≡ n / 2 = length-eights in
+      omega arith
+
+  -- index, distance and mirror, each half of these in a word of its own; the coefficients of Q; those of P
+  pub kind-first : (j : ℕ) → j < 3 → getD (recordKinds n) j 0 ≡ 5 + j
+  unfolding recordKinds
+  kind-first zero k = refl
+  kind-first (suc zero) k = refl
+  kind-first (suc (suc zero)) k = refl
+  kind-first (suc (suc (suc j))) k = absurd (omega arith)
+
+  pub kind-mirror : (j : ℕ) → 3 ≤ j → j < 5 → getD (recordKinds n) j 0 ≡ 7 + j
+  unfolding recordKinds
+  kind-mirror zero m k = absurd (omega arith)
+  kind-mirror (suc zero) m k = absurd (omega arith)
+  kind-mirror (suc (suc zero)) m k = absurd (omega arith)
+  kind-mirror (suc (suc (suc zero))) m k = refl
+  kind-mirror (suc (suc (suc (suc zero)))) m k = refl
+  kind-mirror (suc (suc (suc (suc (suc j))))) m k = absurd (omega arith)
+
+  at-coefficients : (j : ℕ) → 5 ≤ j → getD (recordKinds n) j 0 ≡ getD coefficients (j - 5) 0
+  unfolding recordKinds coefficients
+  at-coefficients zero m = absurd (omega arith)
+  at-coefficients (suc zero) m = absurd (omega arith)
+  at-coefficients (suc (suc zero)) m = absurd (omega arith)
+  at-coefficients (suc (suc (suc zero))) m = absurd (omega arith)
+  at-coefficients (suc (suc (suc (suc zero)))) m = absurd (omega arith)
+  at-coefficients (suc (suc (suc (suc (suc j))))) m = let e : j ≡ suc (suc (suc (suc (suc j)))) - 5 = omega arith in ap (λ (i : ℕ). getD coefficients i 0) e
+
+  pub kind-Q : (j : ℕ) → 5 ≤ j → j < 5 + n / 2 → getD (recordKinds n) j 0 ≡ 8
+  unfolding coefficients genus
+  kind-Q j m k =
+      let e : length (replicate {A = ℕ} (suc (genus n)) 8) ≡ n / 2 = length-eights in
+      let a : Allowed n = allowed n h in
+      at-coefficients j m
+      ∙ List·getD-append (replicate (suc (genus n)) 8) (replicate (genus n) 9) 0 (j - 5) (omega arith)
+      ∙ getD-replicate (suc (genus n)) (j - 5) 8 0 (omega arith)
+
+  pub kind-P : (j : ℕ) → 5 + n / 2 ≤ j → j < n + 4 → getD (recordKinds n) j 0 ≡ 9
+  unfolding coefficients genus
+  kind-P j m k =
+      let e : length (replicate {A = ℕ} (suc (genus n)) 8) ≡ n / 2 = length-eights in
+      let a : Allowed n = allowed n h in
+      at-coefficients j (omega arith)
+      ∙ ap (λ (i : ℕ). getD coefficients i 0) (let w : j - 5 ≡ length (replicate {A = ℕ} (suc (genus n)) 8) + (j - 5 - n / 2) = omega arith in w)
+      ∙ getD-append-add (replicate (suc (genus n)) 8) (replicate (genus n) 9) (j - 5 - n / 2) 0
+      ∙ getD-replicate (genus n) (j - 5 - n / 2) 9 0 (omega arith)
+
+-- `same` is equality
+pub same-refl : (a : List ℕ) → same a a ≡ true
+unfolding same
+same-refl [] = refl
+same-refl (x ∷ a) = rw (same, eq-eqb x x refl) (same-refl a)
+
+same-step : (x y : ℕ) (a b : List ℕ) (t : Bool) → eqb x y ≡ t → (same a b ≡ true → a ≡ b) → elim t [ true ↦ same a b | false ↦ false ] ≡ true → x ∷ a ≡ y ∷ b
+same-step x y a b true e s h = ap₂ (λ u v. u ∷ v) (eqb-true x y e) (s h)
+same-step x y a b false e s h = absurd (let w : _≡_ {A = ℕ} 0 1 = cc in omega arith)
+
+pub same-equal : (a b : List ℕ) → same a b ≡ true → a ≡ b
+unfolding same
+same-equal [] [] h = refl
+same-equal [] (y ∷ b) h = absurd (let w : _≡_ {A = ℕ} 0 1 = cc in omega arith)
+same-equal (x ∷ a) [] h = absurd (let w : _≡_ {A = ℕ} 0 1 = cc in omega arith)
+same-equal (x ∷ a) (y ∷ b) h = same-step x y a b (eqb x y) refl (same-equal a b) h
+
+refuted : (t : Bool) → (t ≡ true → ⊥) → t ≡ false
+refuted true h = absurd (h refl)
+refuted false h = refl
+
+-- the n + 4 words from `at` on have the kinds of a record
+unfoldable pub kindsOk : List ℕ → ℕ → ℕ → Bool
+kindsOk l n at = same (map kind (take (n + 4) (drop at l))) (recordKinds n)
+
+module _ (l : List ℕ) (n at : ℕ) (h : wrongDegree n ≡ false) (fits : at + (n + 4) ≤ length l) where
+  kinds : List ℕ
+  kinds = map kind (take (n + 4) (drop at l))
+
+  length-kinds : length kinds ≡ n + 4
+  unfolding kinds
+  length-kinds =
+      length-map (take (n + 4) (drop at l)) kind
+      ∙ length-take-le (n + 4) (drop at l) (let e : length (drop at l) ≡ length l - at = length-drop at l in omega arith)
+
+  at-kinds : (j : ℕ) → j < n + 4 → getD kinds j 0 ≡ kind (getD l (at + j) 0)
+  unfolding kinds kind
+  at-kinds j k = List·getD-map kind (take (n + 4) (drop at l)) j 0 ∙ ap kind (getD-take (n + 4) (drop at l) j 0 k ∙ getD-drop at l j 0)
+
+  pub kinds-right : ((j : ℕ) → j < n + 4 → kind (getD l (at + j) 0) ≡ getD (recordKinds n) j 0) → kindsOk l n at ≡ true
+  unfolding kindsOk kinds
+  kinds-right r =
+      let e : length kinds ≡ n + 4 = length-kinds in
+      ap (λ (b : List ℕ). same kinds b) (sym (ext-getD 0 kinds (recordKinds n) (e ∙ sym (length-recordKinds n h)) (λ j k. at-kinds j (omega arith) ∙ r j (omega arith))))
+      ∙ same-refl kinds
+
+  pub kinds-wrong : (j : ℕ) → j < n + 4 → (kind (getD l (at + j) 0) ≡ getD (recordKinds n) j 0 → ⊥) → kindsOk l n at ≡ false
+  unfolding kindsOk kinds
+  kinds-wrong j k w = refuted _ (λ s. w (sym (at-kinds j k) ∙ ap (λ (b : List ℕ). getD b j 0) (same-equal kinds (recordKinds n) s)))

@@ -1,0 +1,40 @@
+-- The outcome of a ticket's words, by whether they are refused, and what T3 says of an outcome that is said as the definitions say it.
+use Prim.Native.Nat.{ℕ, zero, suc}
+use native.Mathlib.Omega.{arith}
+use mathlib.Core.Path.{_≡_, refl, sym, ap, _∙_, subst}
+use mathlib.Core.List.{List}
+use Rattle.spec_definitions.specs.Ticket.{ticketOf, refusalOf}
+use Rattle.spec_definitions.specs.Answers.{Outcome, refused, said, said-injective, outcomeOf, wordsOutcome, regulatorOf}
+use Rattle.base_polynomial.specs.Record.{poly}
+use Rattle.walk_run.specs.Outcome.{ticket}
+use Rattle.spec_demands.specs.LeastDegree.{Least, t3}
+use Rattle.call_regulator.specs.Accepted.{Accepted}
+
+module _ (w : List ℕ) where
+  pub refused-outcome : (k : ℕ) → k ≡ refusalOf w → (k ≡ 0 → ⊥) → refused k ≡ wordsOutcome w
+  unfolding wordsOutcome
+  refused-outcome k e h = go (refusalOf w) e
+    where
+      go : (r : ℕ) → k ≡ r → refused k ≡ (elim r [ zero ↦ outcomeOf (ticketOf w) | suc j ↦ refused (suc j) ])
+      go zero z = absurd (h z)
+      go (suc j) z = ap refused z
+
+  pub accepted-outcome : {q n : ℕ} {c : List ℕ} {size b : ℕ} (x : Outcome) → Accepted w q n c size b → x ≡ outcomeOf (ticket q n (poly c size) b) → x ≡ wordsOutcome w
+  unfolding wordsOutcome
+  accepted-outcome x a e = e ∙ ap outcomeOf (sym (a .ticket-is)) ∙ go (refusalOf w) (a .passes)
+    where
+      go : (r : ℕ) → r ≡ 0 → outcomeOf (ticketOf w) ≡ (elim r [ zero ↦ outcomeOf (ticketOf w) | suc j ↦ refused (suc j) ])
+      go zero z = refl
+      go (suc j) z = absurd (let k : _≡_ {A = ℕ} (suc j) 0 = z in omega arith)
+
+  pub outcome-said : (x : Outcome) → x ≡ wordsOutcome w → said x ≡ regulatorOf w
+  unfolding regulatorOf
+  outcome-said x e = ap said e
+
+  -- what is said fixes the outcome
+  pub said-outcome : (x : Outcome) → said x ≡ regulatorOf w → x ≡ wordsOutcome w
+  unfolding regulatorOf
+  said-outcome x e = said-injective x (wordsOutcome w) e
+
+  pub least : (x : Outcome) → said x ≡ regulatorOf w → Least w x
+  least x e = subst (Least w) (sym (said-outcome x e)) (t3 w)

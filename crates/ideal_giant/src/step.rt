@@ -1,0 +1,73 @@
+// The giant step: the product of two ideals, reduced, with f and the distance.
+ghost use mathlib.Core.Path.{_≡_};
+ghost use Prim.Native.Nat.{_+_, _-_, _<_, _≤_};
+ghost use lib.IntN.{pos, _-ℤ_};
+ghost use Rattle.spec_definitions.specs.Ticket.{genus};
+ghost use Rattle.spec_laws.specs.Admitted.{Admitted};
+ghost use Rattle.base_polynomial.specs.Whole.{poly, Held, Is};
+ghost use Rattle.walk_state.specs.State.{rootD};
+ghost use Rattle.ideal_product.specs.Operand.{heldPair, Operand};
+ghost use Rattle.ideal_giant.specs.Stepped.{Stepped};
+use crate::Giant;
+use base_counters::Distance;
+use base_field::Field;
+use ideal_product::multiply::product;
+use base_polynomial::Poly;
+use base_polynomial::division::div_rem;
+use base_polynomial::linear::monic;
+use ideal_reduce::reduce::reduce;
+
+// total − lower.
+fn signed(total: u64, lower: u64) -> i64
+    requires { ⌜ (total ≤ 2199023255552) × (lower ≤ 2199023255552) ⌝ }
+    ensures { λ r. ⌜ r ≡ pos total -ℤ pos lower ⌝ }
+{
+    total as i64 - lower as i64
+}
+
+// deg Q + deg S − deg Q_k − sum, from the sizes of Q, S and Q_k.
+fn lower(q: usize, s: usize, last: usize, sum: u64) -> u64
+    requires { ⌜ (q ≤ 129) × (0 < s) × (s ≤ 129) × (last + sum ≤ q) ⌝ }
+    ensures { λ r. ⌜ r ≡ (q - last - sum) + (s - 1) ⌝ }
+{
+    (q - last + s - 1) as u64 - sum
+}
+
+// The giant step of two ideals of degree at most g = n/2 − 1, with their distances. D is the radicand, of degree n, and d its root.
+pub fn giant(
+    f: Field,
+    n: usize,
+    radicand: Poly,
+    d: Poly,
+    q1: Poly,
+    p1: Poly,
+    d1: Distance,
+    q2: Poly,
+    p2: Poly,
+    d2: Distance,
+) -> Giant
+    requires { ⌜ Admitted (f .q) (genus n) (poly radicand) × Held f radicand × (2 ≤ n) ⌝ }
+    requires { ⌜ Is f d (rootD (f .q) (genus n) (poly radicand)) ⌝ }
+    requires { ⌜ Operand (f .q) (genus n) (poly radicand) (q1 .c) (q1 .size) (p1 .c) (p1 .size) ⌝ }
+    requires { ⌜ Operand (f .q) (genus n) (poly radicand) (q2 .c) (q2 .size) (p2 .c) (p2 .size) ⌝ }
+    requires { ⌜ (d1 .0 ≤ 1099511627776) × (d2 .0 ≤ 1099511627776) ⌝ }
+    ensures { λ r. ⌜ Stepped (f .q) n (poly radicand) (heldPair (q1 .c) (q1 .size) (p1 .c) (p1 .size)) (d1 .0) (heldPair (q2 .c) (q2 .size) (p2 .c) (p2 .size)) (d2 .0) (r .q .c) (r .q .size) (r .p .c) (r .p .size) (r .f) (r .distance) ⌝ }
+{
+    let m = product(f, n, radicand, q1, p1, q2, p2);
+    let s = m.s;
+    let q = m.q;
+    let p = m.p;
+    let r = reduce(f, n, radicand, d, q, p);
+    let x = r.q;
+    let y = r.p;
+    let less = lower(q.size, s.size, x.size, r.sum);
+    let a = monic(f, x);
+    let k = div_rem(f, y, a);
+    let b = k.rem;
+    Giant {
+        q: a,
+        p: b,
+        f: signed(0, less),
+        distance: signed(d1.0 + d2.0, less),
+    }
+}

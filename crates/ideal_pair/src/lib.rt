@@ -1,0 +1,11 @@
+// Pairs (Q, P) as they are handed in, and the test of refusal 9.
+pub mod operand;
+
+use base_polynomial::Poly;
+
+// A pair (Q, P) that was handed in: whether it is an ideal as refusal 9 asks, and its polynomials, 0 where it is not.
+pub struct Pair {
+    pub ok: bool,
+    pub q: Poly,
+    pub p: Poly,
+}

@@ -1,0 +1,48 @@
+-- The ideal in 129 places gives the same words as the ideal itself.
+use native.Mathlib.Omega.{arith}
+use Rattle.spec_definitions.specs.Field.{modulo}
+use Rattle.spec_definitions.specs.Polynomials.{sub}
+use Rattle.listing_record.specs.Remainder.{monic-result, remainder-held, value-fits}
+use Rattle.listing_record.specs.Entry.{record-written}
+use borrow.Author.Needs.{needs}
+use Rattle.listing_record.proofs.write_record.Statement.{statement}
+use Rattle.listing_record.proofs.write_record.Tie as tie
+
+add-ideal-of : tie.Need-add-ideal-of
+add-ideal-of c = search needs
+
+ideal-of-requires : tie.Need-ideal-of-requires
+ideal-of-requires c κs = search needs
+
+sub-put-record : tie.Need-sub-put-record
+sub-put-record c = search needs
+
+put-record-requires : tie.Need-put-record-requires
+put-record-requires c κs =
+    let s = c .before .before .before .before .before .before .before .before .before .before in
+    let x = c .before .before .before .before .before .before .before .before .ideal-of .ensures in
+    let h = s .pre .1 .1 .0 in
+    let q-fits = value-fits _ _ _ (s .pre .0 .1) (monic-result _ _ _ h _ _ (x .0) .held) in
+    let p-fits = value-fits _ _ _ (s .pre .0 .1) (remainder-held _ _ _ h _ _ (x .0) (s .pre .0 .0) (s .pre .0 .4) (sub (modulo (s .args .f .q)) (s .args .d .now) (s .args .left .now)) _ _ (x .1)) in
+    ((search needs, search needs, search needs), ((search needs, omega arith, omega arith), (q-fits, p-fits)))
+
+same-length : tie.Need-same-length
+same-length c = search needs
+
+returns : tie.Need-returns
+returns c =
+    let s = c .before .before .before .before .before .before .before .before .before .before .before .before .before in
+    let a = s .args in
+    let x = c .before .before .before .before .before .before .before .before .before .before .before .ideal-of .ensures in
+    record-written (a .f .q) (a .n) (a .r) (a .index .0) (a .distance .0) (a .d .now) (a .left .now) (a .b .now) (a .size) _ _ _ (a .out .now) (a .at) (s .pre .0 .3) (x .0 .places) (x .1 .places) (c .before .before .put-record .ensures (a .f .q))
+
+pub write-record-spec : {M : Type 1} → statement M
+write-record-spec =
+    tie.close
+    (tie.spec
+    add-ideal-of
+    ideal-of-requires
+    sub-put-record
+    put-record-requires
+    same-length
+    returns)

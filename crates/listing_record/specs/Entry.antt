@@ -1,0 +1,46 @@
+-- One record as words, from the arrays of the walk: it has n + 4 words, and Q and P in 129 places give the same.
+use Prim.Native.Nat.{ℕ, suc, _+_, _-_, _/_, _≤_}
+use native.Mathlib.Omega.{arith}
+use mathlib.Core.Path.{_≡_, ap, ap₂, _∙_}
+use mathlib.Core.List.{List, _∷_, _++_, map}
+use lib.ListN.{length, length-append, length-map}
+use Rattle.spec_definitions.specs.Field.{Ops, modulo}
+use Rattle.spec_definitions.specs.Polynomials.{pad, sub, rem, monic}
+use Rattle.spec_definitions.specs.Words.{word, high, low}
+use Rattle.spec_definitions.specs.Ticket.{genus}
+use Rattle.spec_definitions.specs.Listing.{Entry, idealOf, recordWords}
+use Rattle.base_polynomial.specs.Record.{poly}
+use Rattle.base_polynomial.specs.Pad.{length-pad, pad-pad}
+use Rattle.listing_record.specs.Stored.{stored}
+
+-- the words of a record from arrays: Q, the first `size` places of b, and P = d − r
+unfoldable pub recordFrom : ℕ → ℕ → ℕ → ℕ → ℕ → List ℕ → List ℕ → List ℕ → ℕ → List ℕ
+recordFrom q n R index distance d r b size = recordWords (modulo q) n (R - distance) (record { index = index; distance = distance; ideal = idealOf (modulo q) (record { q = poly b size; p = sub (modulo q) d r }) })
+
+pub length-record : (o : Ops ℕ) (n mirror : ℕ) (e : Entry) → suc (genus n) + suc (genus n) ≡ n → length (recordWords o n mirror e) ≡ n + 4
+unfolding recordWords
+length-record o n mirror e even = let s = length-append x y in let k = length-x in let l = length-y in omega arith
+  where
+    x : List ℕ
+    x = map (word 8) (pad o (suc (genus n)) (e .ideal .q))
+
+    y : List ℕ
+    y = map (word 9) (pad o (genus n) (e .ideal .p))
+
+    length-x : length x ≡ suc (genus n)
+    length-x = length-map (pad o (suc (genus n)) (e .ideal .q)) (word 8) ∙ length-pad o (suc (genus n)) (e .ideal .q)
+
+    length-y : length y ≡ genus n
+    length-y = length-map (pad o (genus n) (e .ideal .p)) (word 9) ∙ length-pad o (genus n) (e .ideal .p)
+
+-- Q and P in 129 places give the same words
+record-pad : (o : Ops ℕ) (n mirror : ℕ) (e : Entry) (x y : List ℕ) → n ≤ 64 → x ≡ pad o 129 (e .ideal .q) → y ≡ pad o 129 (e .ideal .p) → recordWords o n mirror (record { index = e .index; distance = e .distance; ideal = record { q = x; p = y } }) ≡ recordWords o n mirror e
+unfolding recordWords genus
+record-pad o n mirror e x y h ex ey =
+    ap₂ (λ (u v : List ℕ). word 5 (e .index) ∷ word 6 (high (e .distance)) ∷ word 7 (low (e .distance)) ∷ word 10 (high mirror) ∷ word 11 (low mirror) ∷ (map (word 8) u ++ map (word 9) v))
+    (ap (pad o (suc (n / 2 - 1))) ex ∙ pad-pad o (suc (n / 2 - 1)) 129 (e .ideal .q) (omega arith)) (ap (pad o (n / 2 - 1)) ey ∙ pad-pad o (n / 2 - 1) 129 (e .ideal .p) (omega arith))
+
+pub record-written : (q n R index distance : ℕ) (d r b : List ℕ) (size : ℕ) (x y l out : List ℕ) (at : ℕ) → n ≤ 64 → x ≡ pad (modulo q) 129 (monic (modulo q) (poly b size)) → y ≡ pad (modulo q) 129 (rem (modulo q) (sub (modulo q) d r) (monic (modulo q) (poly b size)))
+    → l ≡ stored out at (recordWords (modulo q) n (R - distance) (record { index = index; distance = distance; ideal = record { q = x; p = y } })) → l ≡ stored out at (recordFrom q n R index distance d r b size)
+unfolding recordFrom idealOf
+record-written q n R index distance d r b size x y l out at h ex ey e = e ∙ ap (stored out at) (record-pad (modulo q) n (R - distance) _ x y h ex ey)

@@ -1,0 +1,4 @@
+pub mod Extension
+pub mod Pairs
+pub mod Powers
+pub mod Roots

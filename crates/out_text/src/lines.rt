@@ -1,0 +1,152 @@
+// Lines as bytes in a lent buffer. Each function writes from a place on and returns the place after its last byte.
+ghost use mathlib.Core.Path.{_≡_};
+ghost use mathlib.Core.List.{[], _∷_, map};
+ghost use Prim.Native.Nat.{_+_, _*_, _<_, _≤_};
+ghost use lib.ListN.{length};
+ghost use Rattle.spec_definitions.specs.Words.{value};
+ghost use Rattle.spec_definitions.specs.Answers.{said, found, spent};
+ghost use Rattle.spec_definitions.specs.Text.{ascii, decimal, spaced, line};
+ghost use Rattle.spec_definitions.specs.Program.{firstLine, recordLine};
+ghost use Rattle.out_text.specs.Lines.{joinedAt, headBytes};
+ghost use Rattle.out_text.specs.Writing.{Put, Line};
+
+// The number of values of a word.
+const VALUES: u32 = 268435456;
+
+// The digits of x: those of its tenth part, and then the last one.
+fn put_decimal(out: &mut [u8], at: usize, x: u64) -> usize
+    requires { ⌜ at + length (decimal x) ≤ length (now out) ⌝ }
+    ensures { λ r. ⌜ Put (now (out .entry)) (now (out .exit)) at r (decimal x) ⌝ }
+{
+    if x < 10 {
+        out[at] = 48 + x as u8;
+        return at + 1;
+    }
+    let last = put_decimal(out, at, x / 10);
+    out[last] = 48 + (x % 10) as u8;
+    last + 1
+}
+
+// A space and a number.
+fn put_spaced(out: &mut [u8], at: usize, x: u64) -> usize
+    requires { ⌜ at + 1 + length (decimal x) ≤ length (now out) ⌝ }
+    ensures { λ r. ⌜ Put (now (out .entry)) (now (out .exit)) at r (32 ∷ decimal x) ⌝ }
+{
+    out[at] = 32;
+    put_decimal(out, at + 1, x)
+}
+
+// Each number after a space.
+fn put_numbers(out: &mut [u8], at: usize, numbers: &[u64]) -> usize
+    requires { ⌜ at + 21 * length (now numbers) ≤ length (now out) ⌝ }
+    ensures { λ r. ⌜ Put (now (out .entry)) (now (out .exit)) at r (spaced (now (numbers .entry))) ⌝ }
+    ensures { λ r. ⌜ r ≤ at + 21 * length (now (numbers .entry)) ⌝ }
+{
+    let mut next = at;
+    let mut i: usize = 0;
+    while i < numbers.len() {
+        next = put_spaced(out, next, numbers[i]);
+        i += 1;
+    }
+    next
+}
+
+// The value of each word after a space.
+fn put_values(out: &mut [u8], at: usize, words: &[u32]) -> usize
+    requires { ⌜ at + 10 * length (now words) ≤ length (now out) ⌝ }
+    ensures { λ r. ⌜ Put (now (out .entry)) (now (out .exit)) at r (spaced (map value (now (words .entry)))) ⌝ }
+    ensures { λ r. ⌜ r ≤ at + 10 * length (now (words .entry)) ⌝ }
+{
+    let mut next = at;
+    let mut i: usize = 0;
+    while i < words.len() {
+        next = put_spaced(out, next, (words[i] % VALUES) as u64);
+        i += 1;
+    }
+    next
+}
+
+// Some bytes as they are.
+fn put_bytes(out: &mut [u8], at: usize, bytes: &[u8]) -> usize
+    requires { ⌜ at + length (now bytes) ≤ length (now out) ⌝ }
+    ensures { λ r. ⌜ Put (now (out .entry)) (now (out .exit)) at r (now (bytes .entry)) ⌝ }
+{
+    let mut i: usize = 0;
+    while i < bytes.len() {
+        out[at + i] = bytes[i];
+        i += 1;
+    }
+    at + i
+}
+
+// The end of a line.
+fn put_end(out: &mut [u8], at: usize) -> usize
+    requires { ⌜ at < length (now out) ⌝ }
+    ensures { λ r. ⌜ Put (now (out .entry)) (now (out .exit)) at r (10 ∷ []) ⌝ }
+{
+    out[at] = 10;
+    at + 1
+}
+
+// The number in two words, high then low.
+fn joined(words: &[u32], at: usize) -> u64
+    requires { ⌜ at + 1 < length (now words) ⌝ }
+    ensures { λ r. ⌜ r ≡ joinedAt (now (words .entry)) at ⌝ }
+{
+    (words[at] % VALUES) as u64 * VALUES as u64 + (words[at + 1] % VALUES) as u64
+}
+
+// Index, distance and mirror of a record.
+fn put_head(out: &mut [u8], words: &[u32]) -> usize
+    requires { ⌜ (5 ≤ length (now words)) × (45 ≤ length (now out)) ⌝ }
+    ensures { λ r. ⌜ Put (now (out .entry)) (now (out .exit)) 0 r (headBytes (now (words .entry))) ⌝ }
+{
+    let index = put_decimal(out, 0, (words[0] % VALUES) as u64);
+    let distance = put_spaced(out, index, joined(words, 1));
+    put_spaced(out, distance, joined(words, 3))
+}
+
+// The line of a record of at most 68 words: index, distance, mirror, and the coefficients.
+pub fn record_line(out: &mut [u8], words: &[u32]) -> usize
+    requires { ⌜ (5 ≤ length (now words)) × (length (now words) ≤ 68) × (1024 ≤ length (now out)) ⌝ }
+    ensures { λ r. ⌜ Line (now (out .entry)) (now (out .exit)) r (recordLine (now (words .entry))) ⌝ }
+{
+    let head = put_head(out, words);
+    let last = put_values(out, head, &words[5..]);
+    put_end(out, last)
+}
+
+// A word, numbers after spaces, and the end of the line.
+fn put_line(out: &mut [u8], word: &[u8], numbers: &[u64]) -> usize
+    requires { ⌜ length (now word) + 21 * length (now numbers) < length (now out) ⌝ }
+    ensures { λ r. ⌜ Line (now (out .entry)) (now (out .exit)) r (line (now (word .entry)) (now (numbers .entry))) ⌝ }
+{
+    let first = put_bytes(out, 0, word);
+    let last = put_numbers(out, first, numbers);
+    put_end(out, last)
+}
+
+// The first line of an answer that is found, spent or refused.
+pub fn found_line(out: &mut [u8], regulator: u64, period: u64, constant: u64) -> usize
+    requires { ⌜ 1024 ≤ length (now out) ⌝ }
+    ensures { λ r. ⌜ Line (now (out .entry)) (now (out .exit)) r (firstLine (said (found regulator period constant))) ⌝ }
+{
+    let numbers = [regulator, period, constant];
+    put_line(out, b"found", &numbers)
+}
+
+pub fn spent_line(out: &mut [u8], steps: u64, degree: u64) -> usize
+    requires { ⌜ 1024 ≤ length (now out) ⌝ }
+    ensures { λ r. ⌜ Line (now (out .entry)) (now (out .exit)) r (firstLine (said (spent steps degree))) ⌝ }
+{
+    let numbers = [steps, degree];
+    put_line(out, b"spent", &numbers)
+}
+
+pub fn refused_line(out: &mut [u8], number: u64) -> usize
+    requires { ⌜ 1024 ≤ length (now out) ⌝ }
+    ensures { λ r. ⌜ Line (now (out .entry)) (now (out .exit)) r (line (ascii "refused") (number ∷ [])) ⌝ }
+{
+    let numbers = [number];
+    put_line(out, b"refused", &numbers)
+}

@@ -1,2 +1,0 @@
--- The words of crate `places` for arrays, passed on.
-pub use Rattle.places.specs.Places.{Places, Filled, Within, Top, zeros, length-zeros, at-zeros, filled-none, filled-more, filled-all}

@@ -1,5 +1,0 @@
-pub mod Extension
-pub mod Pairs
-pub mod Powers
-pub mod Roots
-pub mod Walks

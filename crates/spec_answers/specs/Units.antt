@@ -1,0 +1,110 @@
+-- T2, the part on the unit's lists, place by place: where the call `unit` answers found, places 0 to R of the first list hold the coefficients of p_{m−1}, those of
+-- the second the coefficients of s_{m−1}, those of the other two are 0, and later places keep what they had.
+use Prim.Native.Nat.{ℕ, zero, suc, _≤_, _<_}
+use native.Mathlib.Omega.{arith}
+use mathlib.Core.Path.{_≡_, refl, sym, ap, _∙_, subst}
+use mathlib.Core.Bool.{Bool, true, false}
+use mathlib.Core.List.{List, [], _∷_}
+use lib.ListN.{getD, drop, List·getD-append}
+use Rattle.spec_definitions.specs.Field.{modulo}
+use Rattle.spec_definitions.specs.Polynomials.{size, deg, pad}
+use Rattle.spec_definitions.specs.Ticket.{Ticket, genus, ticketOf}
+use Rattle.spec_definitions.specs.Walk.{unitOf, pBefore, sBefore, degreeBefore}
+use Rattle.spec_definitions.specs.Answers.{Outcome, found, refused, said, said-injective, opsOf, rootOf, wordsOutcome}
+use Rattle.spec_definitions.specs.Units.{Lists, UnitAnswer, longEnough, written, unitLists, unitFrom, unitAnswer}
+use Rattle.spec_bridge.specs.Trim.{size-is, length-trim}
+use Rattle.spec_bridge.specs.Residues.{pos, model}
+use Rattle.spec_laws.specs.Admitted.{Admitted, admitted}
+use Rattle.spec_demands.specs.Records.{length-pad}
+use Rattle.spec_demands.specs.Continued.{StopsAt, Walks, t2}
+use Rattle.spec_demands.specs.Written.{s-fits}
+use Rattle.spec_demands.specs.LentLists.{KeepsFrom, t1-lists, refused-not, found-passes}
+use Rattle.spec_answers.specs.Refusals.{unit-found}
+
+-- "in places 0 to R, constant term first, zeros above the degree .. Later places keep what they had.": `new` holds the polynomial f in places 0 to R and is `old`
+-- from R+1 on
+pub record Holds (R : ℕ) (f old new : List ℕ) : Type 0 where
+  pub places : (i : ℕ) → i ≤ R → getD new i 0 ≡ getD f i 0
+  pub later : KeepsFrom (suc R) old new
+
+-- "R = deg p_{m−1} the regulator, (p_{m−1}, s_{m−1}) the unit"; "The first receives p, the second s .. In the other two, places 0 to R end as zero.": [] is the
+-- zero polynomial, and nothing of p and s is left out
+pub record UnitWritten (t : Ticket) (R m : ℕ) (old new : Lists) : Type 0 where
+  pub regulator : R ≡ deg (opsOf t) (pBefore (opsOf t) (t .D) (rootOf t) m)
+  pub s-whole : size (opsOf t) (sBefore (opsOf t) (t .D) (rootOf t) m) ≤ suc R
+  pub p-written : Holds R (pBefore (opsOf t) (t .D) (rootOf t) m) (old .first) (new .first)
+  pub s-written : Holds R (sBefore (opsOf t) (t .D) (rootOf t) m) (old .second) (new .second)
+  pub third-zero : Holds R [] (old .third) (new .third)
+  pub fourth-zero : Holds R [] (old .fourth) (new .fourth)
+
+abbrev pub T2UnitLists : Type 0
+T2UnitLists = (w : List ℕ) (l : Lists) (R m c : ℕ) → unitAnswer w l .says ≡ said (found R m c) → UnitWritten (ticketOf w) R m l (unitAnswer w l .lists)
+
+-- ---- the proof
+-- each of the k places of a padded list holds its coefficient, 0 above the degree
+pub pad-at : (q k : ℕ) (l : List ℕ) (i : ℕ) → i < k → getD (pad (modulo q) k l) i 0 ≡ getD l i 0
+unfolding pad
+pad-at q zero l i h = absurd (omega arith)
+pad-at q (suc k) [] zero h = refl
+pad-at q (suc k) [] (suc i) h = pad-at q k [] i (omega arith)
+pad-at q (suc k) (a ∷ l) zero h = refl
+pad-at q (suc k) (a ∷ l) (suc i) h = pad-at q k l i (omega arith)
+
+written-at : (t : Ticket) (k : ℕ) (f old : List ℕ) (i : ℕ) → i < k → getD (written t k f old) i 0 ≡ getD f i 0
+unfolding written
+written-at t k f old i h = List·getD-append (pad (opsOf t) k f) (drop k old) 0 i (let e = length-pad (opsOf t) k f in omega arith) ∙ pad-at (t .q) k f i h
+
+-- what is written where the answer is found
+lists-written : (t : Ticket) (x : Outcome) (l : Lists) (R m c : ℕ) → x ≡ found R m c → unitFrom t x l .says ≡ said (found R m c) → unitFrom t x l .lists ≡ unitLists t R m l
+unfolding unitFrom
+lists-written t x l R m c f e = ap (λ (y : Outcome). unitFrom t y l .lists) f ∙ go (longEnough (suc R) l) (ap (λ (y : Outcome). unitFrom t y l .says) (sym f) ∙ e)
+  where
+    by : Bool → UnitAnswer
+    by b = elim b as (λ _. UnitAnswer) [ true ↦ record { says = said (found R m c); lists = unitLists t R m l } | false ↦ record { says = said (refused 12); lists = l } ]
+
+    go : (b : Bool) → by b .says ≡ said (found R m c) → by b .lists ≡ unitLists t R m l
+    go true k = refl
+    go false k = absurd (refused-not 12 R m c (said-injective _ _ k))
+
+s-most : (t : Ticket) → Admitted (t .q) (genus (t .n)) (t .D) → (R m : ℕ) → R ≡ deg (opsOf t) (pBefore (opsOf t) (t .D) (rootOf t) m) → size (opsOf t) (sBefore (opsOf t) (t .D) (rootOf t) m) ≤ suc R
+unfolding rootOf degreeBefore
+s-most t h R m is =
+    let a = s-fits h m in
+    let b = length-trim (model (t .q) (pos (t .q) (h .prime))) (sBefore (opsOf t) (t .D) (rootOf t) m) in
+    let c = size-is (model (t .q) (pos (t .q) (h .prime))) (sBefore (opsOf t) (t .D) (rootOf t) m) in
+    omega arith
+
+module _ (t : Ticket) (R m : ℕ) (old new : Lists) (at-exit : new ≡ unitLists t R m old) where
+  first-at : (i : ℕ) → i ≤ R → getD (new .first) i 0 ≡ getD (pBefore (opsOf t) (t .D) (rootOf t) m) i 0
+  unfolding unitLists unitOf
+  first-at i k = ap (λ (x : Lists). getD (x .first) i 0) at-exit ∙ written-at t (suc R) (pBefore (opsOf t) (t .D) (rootOf t) m) (old .first) i (omega arith)
+
+  second-at : (i : ℕ) → i ≤ R → getD (new .second) i 0 ≡ getD (sBefore (opsOf t) (t .D) (rootOf t) m) i 0
+  unfolding unitLists unitOf
+  second-at i k = ap (λ (x : Lists). getD (x .second) i 0) at-exit ∙ written-at t (suc R) (sBefore (opsOf t) (t .D) (rootOf t) m) (old .second) i (omega arith)
+
+  third-at : (i : ℕ) → i ≤ R → getD (new .third) i 0 ≡ 0
+  unfolding unitLists
+  third-at i k = ap (λ (x : Lists). getD (x .third) i 0) at-exit ∙ written-at t (suc R) [] (old .third) i (omega arith)
+
+  fourth-at : (i : ℕ) → i ≤ R → getD (new .fourth) i 0 ≡ 0
+  unfolding unitLists
+  fourth-at i k = ap (λ (x : Lists). getD (x .fourth) i 0) at-exit ∙ written-at t (suc R) [] (old .fourth) i (omega arith)
+
+pub t2-unit-lists : T2UnitLists
+unfolding unitAnswer
+t2-unit-lists w l R m c e =
+    let f = unit-found w l R m c e in
+    let z = found-passes w R m c f in
+    let s : StopsAt (ticketOf w .q) (ticketOf w .D) (rootOf (ticketOf w)) (ticketOf w .b) R m c = subst (Walks (ticketOf w)) f (t2 w z) .ends in
+    let new = unitAnswer w l .lists in
+    let at-exit : unitAnswer w l .lists ≡ unitLists (ticketOf w) R m l = lists-written (ticketOf w) (wordsOutcome w) l R m c f e in
+    let kept = t1-lists .0 w l .later R m c e in
+    record {
+      regulator = s .regulator;
+      s-whole = s-most (ticketOf w) (admitted w z) R m (s .regulator);
+      p-written = record { places = first-at (ticketOf w) R m l new at-exit; later = kept .0 };
+      s-written = record { places = second-at (ticketOf w) R m l new at-exit; later = kept .1 };
+      third-zero = record { places = third-at (ticketOf w) R m l new at-exit; later = kept .2 };
+      fourth-zero = record { places = fourth-at (ticketOf w) R m l new at-exit; later = kept .3 };
+    }

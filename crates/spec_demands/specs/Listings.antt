@@ -1,0 +1,198 @@
+-- T2, the part on listings: in every record nothing is cut, the mirror and the distance make up R, and the pair is an ideal; the words are read back as they were written,
+-- and lookup takes the listing.
+use Prim.Native.Nat.{ℕ, zero, suc, _+_, _*_, _-_, _/_, _%_, _≤_, _<_}
+use native.Mathlib.Nat.{mul-le-mul, div-add-mod}
+use native.Mathlib.Omega.{arith}
+use mathlib.Core.Path.{_≡_, sym, ap, _∙_, subst}
+use mathlib.Core.Bool.{true, false, false≢true}
+use mathlib.Core.List.{List, map}
+use lib.ListN.{length, getD}
+use borrow.Author.Tests.{eq-eqb, ne-eqb}
+use Rattle.math_ring.specs.Residues.{Fq}
+use Rattle.math_algebra.specs.Field.{Field}
+use Rattle.math_algebra.specs.Polynomial.{F, _≺_ as Low, low-up}
+use Rattle.math_surd.specs.Step.{State}
+use Rattle.math_surd.specs.Walk.{prior}
+use Rattle.math_surd.specs.Walk as states
+use Rattle.spec_definitions.specs.Field.{modulo}
+use Rattle.spec_definitions.specs.Polynomials.{trim, monic, rem, root}
+use Rattle.spec_definitions.specs.Words.{kind, high}
+use Rattle.spec_definitions.specs.Ticket.{Ticket, genus, ticketOf, refusalOf, wrongDegree}
+use Rattle.spec_definitions.specs.Walk.{degreeBefore}
+use Rattle.spec_definitions.specs.Walk as walk
+use Rattle.spec_definitions.specs.Answers.{found, wordsOutcome, opsOf, rootOf}
+use Rattle.spec_definitions.specs.Listing.{idealOf, entryOf, mirrorOf, recordOf, listingOf}
+use Rattle.spec_definitions.specs.Lookup.{recordKinds, recordAt, distanceAt, recordCount, rightKinds, rising, wrongListing}
+use Rattle.spec_bridge.specs.Model.{Model, Inverts, series}
+use Rattle.spec_bridge.specs.Trim.{below-length}
+use Rattle.spec_bridge.specs.Division.{rem-less, oks-rem}
+use Rattle.spec_bridge.specs.Monic.{trim-monic, oks-monic, length-monic}
+use Rattle.spec_bridge.specs.Residues.{pos, model, field, inverts}
+use Rattle.spec_laws.specs.Surd.{Surd, Q-trim}
+use Rattle.spec_laws.specs.Fraction.{fraction, Q-deg, Q-some, Q-length}
+use Rattle.spec_laws.specs.Convergents.{degree-zero, degree-rise, degree-most}
+use Rattle.spec_laws.specs.Reduced.{reduced-ideal}
+use Rattle.spec_laws.specs.Admitted.{Admitted, surd-of, admitted, passed, degree-of, budget-less}
+use Rattle.spec_demands.specs.Continued.{StopsAt, Walks, t2}
+use Rattle.spec_demands.specs.Lookups.{WrongListing, tests-listing}
+use Rattle.spec_demands.specs.Pairs.{IsPair, is-pair}
+use Rattle.spec_demands.specs.Records.{kinds-record, count-listing, length-listing, whole-listing, record-listing, distance-listing, kinds-listing, rising-listing}
+
+-- record j + 1: each number fits into its words of 28 bits, no coefficient is left out, mirror and distance make up R, and the pair is an ideal
+pub record RecordHolds (t : Ticket) (R j : ℕ) : Type 0 where
+  pub index-fits : entryOf t j .index < 268435456
+  pub distance-fits : high (entryOf t j .distance) < 268435456
+  pub mirror-fits : high (mirrorOf R (entryOf t j)) < 268435456
+  pub mirror-is : mirrorOf R (entryOf t j) + entryOf t j .distance ≡ R
+  pub Q-whole : length (entryOf t j .ideal .q) ≤ suc (genus (t .n))
+  pub P-whole : length (entryOf t j .ideal .p) ≤ genus (t .n)
+  pub Q-below : (i : ℕ) → getD (entryOf t j .ideal .q) i 0 < t .q
+  pub P-below : (i : ℕ) → getD (entryOf t j .ideal .p) i 0 < t .q
+  pub ideal : IsPair (t .q) (t .D) (entryOf t j .ideal .q) (entryOf t j .ideal .p)
+
+-- what is read in the list l of the records 1 to m, and that refusal 8 does not apply to it
+pub record ReadBack (t : Ticket) (R m : ℕ) (l : List ℕ) : Type 0 where
+  pub count : recordCount l (t .n) ≡ m
+  pub records : (j : ℕ) → j < m → recordAt l (t .n) j ≡ recordOf t R j
+  pub distances : (j : ℕ) → j < m → distanceAt l (t .n) j ≡ entryOf t j .distance
+  pub accepted : ¬ WrongListing l (t .n)
+
+abbrev pub T2Listings : Type 0
+T2Listings = (w : List ℕ) → refusalOf w ≡ 0 → (R m c : ℕ) → wordsOutcome w ≡ found R m c → ((j : ℕ) → j < m → RecordHolds (ticketOf w) R j) × ReadBack (ticketOf w) R m (listingOf (ticketOf w) R m)
+
+-- ---- the ideals of the walk, for a D that is admitted
+module _ {q g : ℕ} {D : List ℕ} (h : Admitted q g D) where
+  abbrev K : Field (Fq q)
+  K = field q (h .prime) (h .odd)
+
+  abbrev M : Model (modulo q) (F K)
+  M = model q (pos q (h .prime))
+
+  abbrev I : Inverts M
+  I = inverts q (pos q (h .prime)) (h .prime)
+
+  abbrev d : List ℕ
+  d = root (modulo q) D (suc g)
+
+  abbrev z : Surd K M g D d
+  z = surd-of h
+
+  abbrev Q : ℕ → List ℕ
+  Q = walk.Q (modulo q) D d
+
+  abbrev P : ℕ → List ℕ
+  P = walk.P (modulo q) D d
+
+  state-at : (i : ℕ) → State K (series M D) (series M (Q i)) (prior K (series M D) (λ j. series M (Q j)) i) (series M (P i))
+  state-at i = record { κ = length (Q i) - 1; deg = Q-deg z i; norm = states.norm K (fraction z) i; size = length (before i) + length (P i); C-low = low i; P-low = low-up K _ (omega arith) (below-length M (P i)) }
+    where
+      before : ℕ → List ℕ
+      before zero = D
+      before (suc i) = Q i
+
+      low : (i : ℕ) → Low K (prior K (series M D) (λ j. series M (Q j)) i) (length (before i) + length (P i))
+      low zero = low-up K _ (omega arith) (below-length M D)
+      low (suc i) = low-up K _ (omega arith) (below-length M (Q i))
+
+  monic-length : (i : ℕ) → length (monic (modulo q) (Q i)) ≡ length (Q i)
+  monic-length i = length-monic M I (Q i) ∙ ap length (Q-trim z i)
+
+  rem-length : (i : ℕ) → length (rem (modulo q) (P i) (monic (modulo q) (Q i))) < length (Q i)
+  rem-length i =
+      let m : List ℕ = monic (modulo q) (Q i) in
+      let t : length (trim (modulo q) m) ≡ length m = ap length (trim-monic M I (Q i)) in
+      let e = monic-length i in
+      let k = Q-some z i in
+      let l = rem-less M I (P i) m (omega arith) in
+      omega arith
+
+  walk-pair : (i : ℕ) → let x = idealOf (modulo q) (walk.walk (modulo q) D d i) in IsPair q D (x .q) (x .p)
+  unfolding idealOf
+  walk-pair i = is-pair h (oks-monic M I (Q i)) (reduced-ideal K M I D (walk.walk (modulo q) D d i) (state-at i))
+
+  -- 2²⁸·32 is far below 2⁵⁶
+  degree-fits : (i : ℕ) → i ≤ 268435456 → degreeBefore (modulo q) D d i ≤ 8589934592
+  degree-fits i l =
+      let k = degree-most z i in
+      let y : suc g ≤ 32 = (let e = h .genus-most in omega arith) in
+      let w : i * suc g ≤ 268435456 * 32 = mul-le-mul l y in
+      omega arith
+
+high-fits : (x : ℕ) → x ≤ 8589934592 → high x < 268435456
+unfolding high
+high-fits x l = let e : 268435456 * (x / 268435456) + x % 268435456 ≡ x = div-add-mod x 268435456 in omega arith
+
+-- ---- the records
+module _ (t : Ticket) (h : Admitted (t .q) (genus (t .n)) (t .D)) (R m : ℕ) (most : m < 268435456) (is : R ≡ degreeBefore (opsOf t) (t .D) (rootOf t) m) where
+  holds : (j : ℕ) → j < m → RecordHolds t R j
+  unfolding entryOf idealOf mirrorOf rootOf
+  holds j l = record {
+    index-fits = omega arith;
+    distance-fits = high-fits _ (degree-fits h j (omega arith));
+    mirror-fits = high-fits _ (let e = is in let k = degree-fits h m (omega arith) in omega arith);
+    mirror-is = let e = is in let k = degree-rise (surd-of h) j m l in omega arith;
+    Q-whole = let e = monic-length h j in let k = Q-length (surd-of h) j in omega arith;
+    P-whole = let e = rem-length h j in let k = Q-length (surd-of h) j in omega arith;
+    Q-below = oks-monic (M h) (I h) (Q h j);
+    P-below = oks-rem (M h) (P h j) (monic (opsOf t) (Q h j));
+    ideal = walk-pair h j;
+  }
+
+  -- ---- their words, read back
+  module _ (positive : 0 < m) (degree : wrongDegree (t .n) ≡ false) where
+    abbrev l : List ℕ
+    l = listingOf t R m
+
+    even : suc (genus (t .n)) + suc (genus (t .n)) ≡ t .n
+    even = degree-of (t .n) degree .0
+
+    distances : (j : ℕ) → j < m → distanceAt l (t .n) j ≡ entryOf t j .distance
+    distances j k = distance-listing t R even m j k (holds j k .distance-fits)
+
+    fits : (j : ℕ) → j < m → map kind (recordOf t R j) ≡ recordKinds (t .n)
+    unfolding recordOf
+    fits j k =
+        let r = holds j k in
+        kinds-record (t .q) (t .n) _ (entryOf t j) (r .index-fits) (r .distance-fits) (r .mirror-fits) (λ i. let a = r .Q-below i in let b = h .small in omega arith) (λ i. let a = r .P-below i in let b = h .small in omega arith)
+
+    first : distanceAt l (t .n) 0 ≡ 0
+    unfolding entryOf rootOf
+    first = distances 0 positive ∙ degree-zero (surd-of h)
+
+    rise : (j : ℕ) → suc j < m → distanceAt l (t .n) j < distanceAt l (t .n) (suc j)
+    unfolding entryOf rootOf
+    rise j k = let a = distances j (omega arith) in let b = distances (suc j) k in let c = degree-rise (surd-of h) j (suc j) (omega arith) in omega arith
+
+    some : length l ≡ 0 → ⊥
+    some e = let a = length-listing t R even m in let b : 1 * (t .n + 4) ≤ m * (t .n + 4) = mul-le-mul positive (let c : t .n + 4 ≤ t .n + 4 = omega arith in c) in omega arith
+
+    read-back : ReadBack t R m l
+    unfolding wrongListing
+    read-back = record {
+      count = count-listing t R even m;
+      records = record-listing t R even m;
+      distances = distances;
+      accepted = λ w. false≢true (sym passes ∙ tests-listing l (t .n) .1 w);
+    }
+      where
+        kinds : rightKinds l (t .n) (recordCount l (t .n)) ≡ true
+        kinds = ap (rightKinds l (t .n)) (count-listing t R even m) ∙ kinds-listing t R even m fits m (omega arith)
+
+        rises : rising l (t .n) (recordCount l (t .n) - 1) ≡ true
+        rises = ap (λ (k : ℕ). rising l (t .n) (k - 1)) (count-listing t R even m) ∙ rising-listing t R even m rise (m - 1) (omega arith)
+
+        passes : wrongListing l (t .n) ≡ false
+        passes = simp (wrongListing, degree, ne-eqb (length l) 0 some, eq-eqb (length l % (t .n + 4)) 0 (whole-listing t R even m), kinds, eq-eqb (distanceAt l (t .n) 0) 0 first, rises)
+
+pub t2-listings : T2Listings
+unfolding degreeBefore
+t2-listings w e R m c f = (holds (ticketOf w) h R m most (s .regulator), read-back (ticketOf w) h R m most (s .regulator) (s .positive) (passed w e .degree))
+  where
+    h : Admitted (ticketOf w .q) (genus (ticketOf w .n)) (ticketOf w .D)
+    h = admitted w e
+
+    s : StopsAt (ticketOf w .q) (ticketOf w .D) (rootOf (ticketOf w)) (ticketOf w .b) R m c
+    s = subst (Walks (ticketOf w)) f (t2 w e) .ends
+
+    most : m < 268435456
+    most = let a = s .within in let b = budget-less w in omega arith

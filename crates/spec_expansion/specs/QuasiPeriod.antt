@@ -1,0 +1,128 @@
+-- "The walk stops at the first index from 1 up whose Q is a nonzero constant, and that index m is its yield. m is the quasi-period": every ticket past
+-- refusals 1 to 7 has one, and only one.
+-- The walk has finitely many pairs (Q, P), so that two indices have the same pair. Equal ideals are preceded by equal ideals, so that the ideal of index 0 comes
+-- back after as many steps as there are between the two indices: there Q is constant, as Q_0 is. The quasi-period is the least such index.
+use Prim.Native.Nat.{ℕ, zero, suc, _+_, _*_, _^_, _-_, _≤_, _<_}
+use native.Mathlib.Nat.{mul-le-mul-left, mul-suc, zero-add}
+use native.Mathlib.Omega.{arith}
+use mathlib.Core.Path.{_≡_, sym, subst, ap, _∙_, fun-ext}
+use mathlib.Core.Logic.{_≢_, ⊎-elim}
+use mathlib.Core.List.{List}
+use Rattle.math_ring.specs.Order.{le-or-lt}
+use Rattle.math_ring.specs.Residues.{Fq}
+use Rattle.math_ring.specs.Series.{Series}
+use Rattle.math_algebra.specs.Field.{Field}
+use Rattle.math_algebra.specs.Polynomial.{F, Px}
+use Rattle.math_algebra.specs.Divides.{divides-path, divides-zero}
+use Rattle.math_algebra.specs.Associate.{associate-path}
+use Rattle.math_surd.specs.Walk.{κ-first}
+use Rattle.math_surd.specs.Same.{Same, same-prior, same-κ}
+use Rattle.math_surd.specs.QuasiPeriod.{QuasiPeriod, quasi-period}
+use Rattle.spec_definitions.specs.Field.{modulo}
+use Rattle.spec_definitions.specs.Polynomials.{size, root}
+use Rattle.spec_definitions.specs.Ticket.{Ticket, ticketOf, refusalOf}
+use Rattle.spec_definitions.specs.Walk as walk
+use Rattle.spec_definitions.specs.Answers.{opsOf, rootOf}
+use Rattle.spec_bridge.specs.Model.{Model, series}
+use Rattle.spec_bridge.specs.Residues.{pos, model, field}
+use Rattle.spec_laws.specs.Surd.{Surd, Q-oks, P-oks}
+use Rattle.spec_laws.specs.Fraction.{fraction, Q-length, Q-some}
+use Rattle.spec_laws.specs.Walk.{P-length}
+use Rattle.spec_laws.specs.QuasiPeriod.{size-length}
+use Rattle.spec_laws.specs.Admitted.{Admitted, surd-of, admitted}
+use Rattle.spec_expansion.specs.Pigeonhole.{Repeats, pigeonhole}
+use Rattle.spec_expansion.specs.Digits.{number, number-below, number-tells, sum-tells}
+
+-- m is the least index from 1 up whose Q is a nonzero constant, with no bound on it
+pub record IsQuasiPeriod (t : Ticket) (m : ℕ) : Type 0 where
+  pub positive : 0 < m
+  pub constant : size (opsOf t) (walk.Q (opsOf t) (t .D) (rootOf t) m) ≡ 1
+  pub least : (j : ℕ) → 0 < j → j < m → size (opsOf t) (walk.Q (opsOf t) (t .D) (rootOf t) j) ≢ 1
+
+-- every ticket past its refusals has a quasi-period
+abbrev pub T2Exists : Type 0
+T2Exists = (w : List ℕ) → refusalOf w ≡ 0 → (m : ℕ) × IsQuasiPeriod (ticketOf w) m
+
+-- no ticket has two
+abbrev pub QuasiPeriodUnique : Type 0
+QuasiPeriodUnique = (t : Ticket) (m k : ℕ) → IsQuasiPeriod t m → IsQuasiPeriod t k → m ≡ k
+
+-- ---- the proof
+pub quasi-period-unique : QuasiPeriodUnique
+quasi-period-unique t m k h i = ⊎-elim (λ u. ⊎-elim (λ v. omega arith) (λ v. absurd (h .least k (i .positive) v (i .constant))) (le-or-lt m k)) (λ u. absurd (i .least m (h .positive) u (h .constant))) (le-or-lt k m)
+
+module _ {q g : ℕ} {D : List ℕ} (h : Admitted q g D) where
+  abbrev K : Field (Fq q)
+  K = field q (h .prime) (h .odd)
+
+  abbrev M : Model (modulo q) (F K)
+  M = model q (pos q (h .prime))
+
+  abbrev d : List ℕ
+  d = root (modulo q) D (suc g)
+
+  abbrev z : Surd K M g D d
+  z = surd-of h
+
+  abbrev Q : ℕ → List ℕ
+  Q = walk.Q (modulo q) D d
+
+  abbrev P : ℕ → List ℕ
+  P = walk.P (modulo q) D d
+
+  -- ---- the pair (Q_i, P_i) as a number below B²: neither has more than g + 2 coefficients
+  abbrev B : ℕ
+  B = q ^ suc (suc g)
+
+  pair-number : ℕ → ℕ
+  pair-number i = number q (Q i) + B * number q (P i)
+
+  Q-below : (i : ℕ) → number q (Q i) < B
+  Q-below i = number-below q (suc (suc g)) (Q i) (Q-oks z i) (let k = Q-length z i in omega arith)
+
+  P-below : (i : ℕ) → number q (P i) < B
+  P-below i = number-below q (suc (suc g)) (P i) (P-oks z i) (P-length z i)
+
+  pair-below : (i : ℕ) → pair-number i < B * B
+  unfolding pair-number
+  pair-below i = let a = Q-below i in let b : B * suc (number q (P i)) ≤ B * B = mul-le-mul-left B (P-below i) in let c : B * suc (number q (P i)) ≡ B * number q (P i) + B = mul-suc B (number q (P i)) in omega arith
+
+  -- the number tells the polynomials, and so the ideal
+  pair-same : (i j : ℕ) → pair-number i ≡ pair-number j → Same K (fraction z) i j
+  unfolding pair-number
+  pair-same i j e =
+      let s = sum-tells B (number q (Q i)) (number q (Q j)) (number q (P i)) (number q (P j)) (Q-below i) (Q-below j) e in
+      let a : series M (Q i) ≡ series M (Q j) = fun-ext (λ n. ap (M .φ) (number-tells q (Q i) (Q j) (Q-oks z i) (Q-oks z j) (s .0) n)) in
+      let b : series M (P i) ≡ series M (P j) = fun-ext (λ n. ap (M .φ) (number-tells q (P i) (P j) (P-oks z i) (P-oks z j) (s .1) n)) in
+      record { ratio = associate-path K a; congruent = divides-path K (sym (ap (λ (u : Px K). Series (F K) .add u (Series (F K) .neg (series M (P j)))) b ∙ Series (F K) .add-neg (series M (P j)))) (divides-zero K (series M (Q j))) }
+
+  -- back to the index 0
+  same-first : (i k : ℕ) → Same K (fraction z) i (i + k) → Same K (fraction z) 0 k
+  same-first zero k s = subst (Same K (fraction z) 0) (zero-add k) s
+  same-first (suc i) k s = same-first i k (same-prior K (fraction z) i (i + k) (subst (Same K (fraction z) (suc i)) (omega arith) s))
+
+  -- some index from 1 up has the ideal of index 0, so that its Q is constant: the first of them is within it
+  exists : (m : ℕ) × QuasiPeriod K (fraction z) m
+  exists = ⊎-elim (λ s. (s .0, s .2)) (λ never. absurd (never k (omega (arith, r .rises)) (omega arith) constant)) (quasi-period K (fraction z) k)
+    where
+      r : Repeats pair-number (B * B)
+      r = pigeonhole (B * B) pair-number (λ i _. pair-below i)
+
+      k : ℕ
+      k = r .second - r .first
+
+      constant : fraction z .κ k ≡ 0
+      constant = sym (same-κ K (fraction z) 0 k (same-first (r .first) k (subst (Same K (fraction z) (r .first)) (omega (arith, r .rises)) (pair-same (r .first) (r .second) (r .same))) .ratio)) ∙ κ-first K (fraction z)
+
+  size-constant : (i : ℕ) → fraction z .κ i ≡ 0 → size (modulo q) (Q i) ≡ 1
+  size-constant i e = let k = Q-some z i in let l = size-length z i in omega arith
+
+  constant-size : (i : ℕ) → size (modulo q) (Q i) ≡ 1 → fraction z .κ i ≡ 0
+  constant-size i e = let l = size-length z i in omega arith
+
+pub t2-exists : T2Exists
+unfolding rootOf
+t2-exists w e =
+    let h = admitted w e in
+    let (m, f) = exists h in
+    (m, record { positive = f .positive; constant = size-constant h m (f .constant); least = λ j l u k. f .least j l u (constant-size h j k) })

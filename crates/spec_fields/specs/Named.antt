@@ -1,0 +1,97 @@
+-- The field that a name stands for: its operations on the values of words have a model in a perfect field. What follows from that is said and proved once, over `arithmetic f h`.
+use Prim.Native.Nat.{ℕ, _%_, _<_}
+use native.Mathlib.Nat.{mod-lt, mod-eq-of-lt, zero-mod}
+use native.Mathlib.Omega.{arith}
+use mathlib.Core.Path.{_≡_, refl, sym, ap, _∙_, subst}
+use mathlib.Core.Bool.{true}
+use borrow.Author.Tests.{ltb-true, lt-ltb}
+use Rattle.math_ring.specs.Residues.{Fq}
+use Rattle.math_algebra.specs.Field.{Field}
+use Rattle.math_algebra.specs.Characteristic.{Perfect}
+use Rattle.math_algebra.specs.Fermat.{perfect-residues}
+use Rattle.spec_definitions.specs.Field.{FieldName, ops, fits, reading}
+use Rattle.spec_bridge.specs.Model.{Model, Inverts}
+use Rattle.spec_bridge.specs.Coefficients.{Onto}
+use Rattle.spec_bridge.specs.Prime.{Prime}
+use Rattle.spec_bridge.specs.Residues.{pos, field, model, inverts, onto, to-mod}
+
+-- f names a field: q is an odd prime below 4,096
+pub record IsField (f : FieldName) : Type 0 where
+  pub prime : Prime (f .q)
+  pub odd : 2 < f .q
+  pub small : f .q < 4096
+
+-- an admissible coefficient
+abbrev pub Ok : FieldName → ℕ → Type 0
+Ok f x = x < f .q
+
+-- what the laws ask of the operations: a model in a perfect field
+pub record Arithmetic (f : FieldName) : Type 1 where
+  pub Elements : Type 0
+  pub K : Field Elements
+  pub M : Model (ops f) (K .scalars)
+  pub I : Inverts M
+  pub onto : Onto M
+  pub perfect : Perfect K
+  -- its coefficients are the admissible ones
+  pub ok-of : (x : ℕ) → Ok f x → M .Ok x
+  pub ok-is : (x : ℕ) → M .Ok x → Ok f x
+  -- a number and the coefficient that it stands for are the same element
+  pub φ-reading : (x : ℕ) → M .φ (reading f x) ≡ M .φ x
+  pub ok-reading : (x : ℕ) → M .Ok (reading f x)
+
+-- the test is the rule
+pub fits-ok : (f : FieldName) (x : ℕ) → fits f x ≡ true → Ok f x
+unfolding fits
+fits-ok f x e = ltb-true x (f .q) e
+
+pub ok-fits : (f : FieldName) (x : ℕ) → Ok f x → fits f x ≡ true
+unfolding fits
+ok-fits f x h = lt-ltb x (f .q) h
+
+reading-same-element : (f : FieldName) (p : 0 < f .q) (x : ℕ) → model (f .q) p .φ (reading f x) ≡ model (f .q) p .φ x
+unfolding reading
+reading-same-element f p x = to-mod (f .q) p x
+
+reading-below : (f : FieldName) → 0 < f .q → (x : ℕ) → reading f x < f .q
+unfolding reading
+reading-below f p x = mod-lt x p
+
+abbrev pub arithmetic : (f : FieldName) → IsField f → Arithmetic f
+arithmetic f h = record {
+  Elements = Fq (f .q);
+  K = field (f .q) (h .prime) (h .odd);
+  M = model (f .q) (pos (f .q) (h .prime));
+  I = inverts (f .q) (pos (f .q) (h .prime)) (h .prime);
+  onto = onto (f .q) (h .prime);
+  perfect = perfect-residues (f .q) (pos (f .q) (h .prime)) (h .prime) (field (f .q) (h .prime) (h .odd)) refl;
+  ok-of = λ x k. k;
+  ok-is = λ x k. k;
+  φ-reading = reading-same-element f (pos (f .q) (h .prime));
+  ok-reading = reading-below f (pos (f .q) (h .prime));
+}
+
+module _ (f : FieldName) (h : IsField f) where
+  -- 0 is admissible
+  pub ok-zero : Ok f 0
+  ok-zero = arithmetic f h .ok-is 0 (arithmetic f h .M .ok-zer)
+
+  -- the number 1 is the field's 1
+  pub φ-first : arithmetic f h .M .φ 1 ≡ arithmetic f h .K .scalars .one
+  φ-first = ap (arithmetic f h .M .φ) (sym (mod-eq-of-lt (let w : 1 < f .q = (let z = h .odd in omega arith) in w))) ∙ arithmetic f h .M .φ-one
+
+  -- two numbers stand for the same coefficient where they are the same element
+  pub same-reading : (x y : ℕ) → arithmetic f h .M .φ x ≡ arithmetic f h .M .φ y → reading f x ≡ reading f y
+  same-reading x y e = arithmetic f h .M .inj _ _ (arithmetic f h .ok-reading x) (arithmetic f h .ok-reading y) (arithmetic f h .φ-reading x ∙ e ∙ sym (arithmetic f h .φ-reading y))
+
+  pub reading-same : (x y : ℕ) → reading f x ≡ reading f y → arithmetic f h .M .φ x ≡ arithmetic f h .M .φ y
+  reading-same x y e = sym (arithmetic f h .φ-reading x) ∙ ap (arithmetic f h .M .φ) e ∙ arithmetic f h .φ-reading y
+
+  -- 1 is admissible
+  pub ok-first : arithmetic f h .M .Ok 1
+  ok-first = subst (arithmetic f h .M .Ok) (mod-eq-of-lt (let w : 1 < f .q = (let z = h .odd in omega arith) in w)) (arithmetic f h .M .ok-one)
+
+-- 0 stands for itself
+pub reading-zero : (f : FieldName) → reading f 0 ≡ 0
+unfolding reading
+reading-zero f = zero-mod (f .q)

@@ -1,0 +1,1 @@
+// The theorems on walks, products of ideals and square factors over the quadratic extension of the field of q elements, specs only.

@@ -1,0 +1,128 @@
+// Products, divisions and greatest common divisors of sample polynomials, written out to be compared with values found by another program.
+ghost use Prim.Native.Nat.{_+_, _<_, _≤_};
+ghost use Rattle.spec_bridge.specs.Prime.{Prime};
+ghost use Rattle.base_polynomial.specs.Whole.{Held};
+use base_field::Field;
+use base_field::field_of;
+use libc::STDOUT_FILENO;
+use base_polynomial::Poly;
+
+// n coefficients from a linear congruence that starts at `seed`.
+fn sample(f: Field, seed: u32, n: usize) -> Poly
+    requires { ⌜ (0 < f .q) × (f .q < 4096) × (seed < 65537) × (n ≤ 65) ⌝ }
+    ensures { λ r. ⌜ Held f r × (r .size ≤ n) ⌝ }
+{
+    let mut z = [0u32; 129];
+    let mut s: u32 = seed;
+    let mut i: usize = 0;
+    while i < n {
+        s = (s * 75 + 74) % 65537;
+        z[i] = s % f.q;
+        i += 1;
+    }
+    let size = base_polynomial::linear::top(&z, n);
+    Poly { c: z, size }
+}
+
+fn wide(x: u32) -> u64 {
+    x as u64
+}
+
+fn places(n: usize) -> usize
+    ensures { λ r. ⌜ r ≤ 129 ⌝ }
+{
+    if n <= 129 { n } else { 129 }
+}
+
+// The coefficients in one line, constant term first.
+fn show(p: Poly) {
+    let n = places(p.size);
+    let mut i: usize = 0;
+    while i < n {
+        io::print_decimal(STDOUT_FILENO, wide(p.c[i]));
+        io::write_all(STDOUT_FILENO, b" ");
+        i += 1;
+    }
+    io::write_all(STDOUT_FILENO, b"\n");
+}
+
+fn show_product(f: Field, a: Poly, b: Poly)
+    requires { ⌜ (f .q < 4096) × (a .size + b .size ≤ 130) ⌝ }
+    requires { ⌜ Held f a ⌝ }
+    requires { ⌜ Held f b ⌝ }
+{
+    show(base_polynomial::product::mul(f, a, b));
+}
+
+// Quotient and remainder.
+fn show_division(f: Field, a: Poly, b: Poly)
+    requires { ⌜ Prime (f .q) × (f .q < 4096) ⌝ }
+    requires { ⌜ Held f a ⌝ }
+    requires { ⌜ Held f b ⌝ }
+{
+    let s = base_polynomial::division::div_rem(f, a, b);
+    let q = s.quo;
+    let r = s.rem;
+    show(q);
+    show(r);
+}
+
+// The greatest common divisor, alone and with its factors.
+fn show_gcd(f: Field, a: Poly, b: Poly)
+    requires { ⌜ Prime (f .q) × (f .q < 4096) ⌝ }
+    requires { ⌜ Held f a ⌝ }
+    requires { ⌜ Held f b ⌝ }
+{
+    show(base_polynomial::gcd::gcd(f, a, b));
+    let t = base_polynomial::gcd::bezout(f, a, b);
+    let g = t.gcd;
+    let u = t.u;
+    let v = t.v;
+    show(g);
+    show(u);
+    show(v);
+}
+
+// The same of a and b times a third polynomial.
+fn show_common(f: Field, a: Poly, b: Poly, c: Poly)
+    requires { ⌜ Prime (f .q) × (f .q < 4096) × (a .size + c .size ≤ 130) × (b .size + c .size ≤ 130) ⌝ }
+    requires { ⌜ Held f a ⌝ }
+    requires { ⌜ Held f b ⌝ }
+    requires { ⌜ Held f c ⌝ }
+{
+    let x = base_polynomial::product::mul(f, a, c);
+    let y = base_polynomial::product::mul(f, b, c);
+    show_gcd(f, x, y);
+}
+
+// Of sample polynomials of m and n places, and one of 9.
+fn samples(f: Field, m: usize, n: usize, seed: u32)
+    requires { ⌜ Prime (f .q) × (0 < f .q) × (f .q < 4096) × (m ≤ 65) × (n ≤ 65) × (seed < 1000) ⌝ }
+{
+    let a = sample(f, seed, m);
+    let b = sample(f, seed + 1, n);
+    let c = sample(f, seed + 2, 9);
+    show_product(f, a, b);
+    show_division(f, a, b);
+    show_gcd(f, a, b);
+    show_common(f, a, b, c);
+}
+
+fn run(q: u32, m: usize, n: usize, seed: u32)
+    requires { ⌜ (m ≤ 65) × (n ≤ 65) × (seed < 1000) ⌝ }
+{
+    if base_field::primes::is_odd_prime(q) {
+        samples(field_of(q), m, n, seed);
+    }
+}
+
+fn main() {
+    run(3, 9, 5, 1);
+    run(7, 20, 8, 2);
+    run(101, 33, 33, 3);
+    run(4093, 65, 33, 4);
+    run(4093, 33, 65, 5);
+    run(5, 6, 0, 6);
+    run(4091, 0, 4, 7);
+    run(61, 1, 1, 8);
+}

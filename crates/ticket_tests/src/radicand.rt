@@ -1,0 +1,85 @@
+// The polynomial D: its coefficients read from the words, and the tests on them.
+ghost use mathlib.Core.Path.{_≡_};
+ghost use Prim.Native.Nat.{ℕ, _+_, _<_, _≤_};
+ghost use lib.ListN.{length};
+ghost use Rattle.spec_definitions.specs.Ticket.{wrongCoefficient, wrongLead, notSquarefree, firstOf};
+ghost use Rattle.spec_bridge.specs.Prime.{Prime};
+ghost use Rattle.base_polynomial.specs.Record.{Is as IsAt};
+ghost use Rattle.base_polynomial.specs.Whole.{poly, Held, Is};
+ghost use Rattle.ticket_tests.specs.Radicand.{coefficients};
+ghost use Rattle.ticket_tests.specs.Refusal.{radicandTests};
+use crate::words::value;
+use base_field::Field;
+use base_polynomial::Poly;
+use base_polynomial::gcd::gcd;
+use base_polynomial::linear::derivative;
+
+// The values of the n + 1 words after the first two.
+pub fn radicand(n: usize, words: &[u32]) -> Poly
+    requires { ⌜ (n ≤ 64) × (n + 3 ≤ length (now words)) ⌝ }
+    ensures { λ r. ⌜ ((q : ℕ) → IsAt q (r .c) (r .size) (coefficients n (now (words .entry)))) ⌝ }
+{
+    let mut c = [0u32; 129];
+    let mut i: usize = 0;
+    while i < n + 1 {
+        c[i] = value(words[i + 2]);
+        i += 1;
+    }
+    Poly { c: c, size: n + 1 }
+}
+
+// A coefficient is q or more.
+fn wrong_coefficient(f: Field, d: Poly) -> bool
+    requires { ⌜ (0 < f .q) × (d .size ≤ 129) ⌝ }
+    ensures { λ r. ⌜ r ≡ wrongCoefficient (f .q) (poly d) ⌝ }
+{
+    let c = d.c;
+    let size = d.size;
+    let mut i: usize = 0;
+    while i < size {
+        if f.q <= c[i] {
+            return true;
+        }
+        i += 1;
+    }
+    false
+}
+
+// The coefficient of x^n isn't 1.
+fn wrong_lead(n: usize, d: Poly) -> bool
+    requires { ⌜ (n ≤ 64) × (n < d .size) ⌝ }
+    ensures { λ r. ⌜ r ≡ wrongLead n (poly d) ⌝ }
+{
+    let c = d.c;
+    c[n] != 1
+}
+
+// The square of some polynomial of degree 1 or more divides D: gcd(D, D′) is not constant.
+fn not_squarefree(f: Field, d: Poly) -> bool
+    requires { ⌜ Prime (f .q) × (f .q < 4096) ⌝ }
+    requires { ⌜ Held f d ⌝ }
+    ensures { λ r. ⌜ r ≡ notSquarefree (f .q) (poly d) ⌝ }
+{
+    let e = derivative(f, d);
+    let g = gcd(f, d, e);
+    g.size != 1
+}
+
+// The first of the tests 5, 6 and 7 that applies, 0 where none does.
+pub fn radicand_refusal(f: Field, n: usize, d: Poly) -> u32
+    requires { ⌜ Prime (f .q) × (f .q < 4096) ⌝ }
+    requires { ⌜ (n ≤ 64) × (d .size ≡ n + 1) ⌝ }
+    requires { ⌜ Is f d (poly d) ⌝ }
+    ensures { λ r. ⌜ r ≡ firstOf (radicandTests (f .q) n (poly d)) ⌝ }
+{
+    if wrong_coefficient(f, d) {
+        return 5;
+    }
+    if wrong_lead(n, d) {
+        return 6;
+    }
+    if not_squarefree(f, d) {
+        return 7;
+    }
+    0
+}

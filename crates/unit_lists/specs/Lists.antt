@@ -1,0 +1,76 @@
+-- The four lists at the end, as the definitions give them: p and s hold the unit's coefficients, the other two zeros, each in its places 0 to R, and all later places are as they were.
+use Prim.Native.Nat.{ℕ, zero, suc, _+_, _%_, _≤_}
+use native.Mathlib.Numerals.{add-one}
+use native.Mathlib.Decide.{ℕ-discrete}
+use native.Mathlib.Omega.{arith}
+use mathlib.Core.Path.{_≡_, refl, ap, _∙_}
+use mathlib.Core.List.{List, [], _∷_, _++_}
+use lib.ListN.{length, drop}
+use Rattle.spec_definitions.specs.Field.{modulo}
+use Rattle.spec_definitions.specs.Polynomials.{pad}
+use Rattle.spec_definitions.specs.Ticket.{genus}
+use Rattle.spec_definitions.specs.Walk.{pBefore, sBefore, degreeBefore, unitOf}
+use Rattle.spec_definitions.specs.Answers.{rootOf}
+use Rattle.spec_definitions.specs.Units.{Lists, written, unitLists}
+use Rattle.spec_laws.specs.Admitted.{Admitted, surd-of}
+use Rattle.spec_laws.specs.Convergents.{p-length, degree-least}
+use Rattle.walk_state.specs.State.{rootD}
+use Rattle.walk_state.specs.Start.{ticket}
+use Rattle.unit_recurrence.specs.Written.{Written, written-again, written-is}
+use Rattle.unit_recurrence.specs.Pair.{Pair, pair-long}
+use Rattle.unit_recurrence.specs.Recurrence.{s-short}
+use Rattle.unit_recurrence.specs.Progress.{Room, Progress, Ended, progress-first}
+
+abbrev pub lists : List ℕ → List ℕ → List ℕ → List ℕ → Lists
+lists p s x y = record { first = p; second = s; third = x; fourth = y }
+
+-- ---- two lists after their start
+module _ {t k : ℕ} {u v old-p old-x p x : List ℕ} (w : Pair t k u v old-p old-x p x) where
+  self : (l old list : List ℕ) → Written k l old list → Written k l list list
+  self l old list w = record { long = refl; low = w .low; high = λ i h. refl }
+
+  pair-self : Pair t k u v p x p x
+  pair-self = record { even = λ e. (self u old-p p (w .even e .0), self v old-x x (w .even e .1)); odd = λ n. (self v old-p p (w .odd n .0), self u old-x x (w .odd n .1)) }
+
+  pair-again : (l m new-p new-x : List ℕ) → Written k l p new-p → Written k m x new-x → Written k l old-p new-p × Written k m old-x new-x
+  pair-again l m new-p new-x a b =
+      elim (ℕ-discrete (t % 2) 0) [
+        | yes e ↦ (written-again k u l old-p p new-p (w .even e .0) a, written-again k v m old-x x new-x (w .even e .1) b)
+        | no n ↦ (written-again k v l old-p p new-p (w .odd n .0) a, written-again k u m old-x x new-x (w .odd n .1) b)
+      ]
+
+-- an index is at most the degree of its convergent
+pub index-most : {q g : ℕ} {D : List ℕ} → Admitted q g D → (m : ℕ) → m ≤ degreeBefore (modulo q) D (rootD q g D) m
+index-most h zero = omega arith
+index-most h (suc i) = let l = degree-least (surd-of h) i in omega arith
+
+module _ {q g : ℕ} {D : List ℕ} (h : Admitted q g D) {m k : ℕ} {old-p old-s old-x old-y p s x y : List ℕ} (u : Pair m k (1 ∷ []) [] old-p old-x p x) (v : Pair (m + 1) k (1 ∷ []) [] old-s old-y s y) where
+  pub start-progress : Progress q g D k m 0 p s x y p s x y
+  start-progress = progress-first h m (pair-self u) (pair-self v)
+
+  pub start-long : ((length p ≡ length old-p) × (length x ≡ length old-x)) × ((length s ≡ length old-s) × (length y ≡ length old-y))
+  start-long = (pair-long m k _ _ old-p old-x p x u, pair-long (m + 1) k _ _ old-s old-y s y v)
+
+  pub start-room : Room k old-p old-s old-x old-y → Room k p s x y
+  start-room r = let e = start-long in record { p-room = omega arith; s-room = omega arith; x-room = omega arith; y-room = omega arith }
+
+  -- the steps after the start
+  pub start-ended : {last-p last-s last-x last-y : List ℕ} → Ended q g D k m p s x y last-p last-s last-x last-y → Ended q g D k m old-p old-s old-x old-y last-p last-s last-x last-y
+  start-ended w =
+      let a = pair-again u _ _ _ _ (w .p-is) (w .x-is) in
+      let b = pair-again v _ _ _ _ (w .s-is) (w .y-is) in
+      record { p-is = a .0; s-is = b .0; x-is = a .1; y-is = b .1 }
+
+-- the work lists are cleared
+pub unit-lists : {q : ℕ} (n : ℕ) {D : List ℕ} → Admitted q (genus n) D → {k m : ℕ} {old-p old-s old-x old-y p s x y clear-x clear-y : List ℕ} → Ended q (genus n) D k m old-p old-s old-x old-y p s x y → Written k [] x clear-x → Written k [] y clear-y → Room k old-p old-s old-x old-y → (R : ℕ) → R ≡ degreeBefore (modulo q) D (rootD q (genus n) D) m → k ≡ R + 1 → (b : ℕ) → lists p s clear-x clear-y ≡ unitLists (ticket q n D b) R m (lists old-p old-s old-x old-y)
+unfolding unitLists written unitOf rootOf
+unit-lists {q} n {D} h {k} {m} {old-p} {old-s} {old-x} {old-y} {p} {s} {x} {y} {clear-x} {clear-y} w a c room R e f b j =
+    record {
+      first = full (pBefore (modulo q) D (rootD q (genus n) D) m) old-p p (room .p-room) (let l = p-length (surd-of h) m in omega arith) (w .p-is) j;
+      second = full (sBefore (modulo q) D (rootD q (genus n) D) m) old-s s (room .s-room) (let l = s-short (surd-of h) m in omega arith) (w .s-is) j;
+      third = full [] old-x clear-x (room .x-room) (omega arith) (written-again k _ [] old-x x clear-x (w .x-is) a) j;
+      fourth = full [] old-y clear-y (room .y-room) (omega arith) (written-again k _ [] old-y y clear-y (w .y-is) c) j;
+    }
+  where
+    full : (l old list : List ℕ) → k ≤ length old → length l ≤ k → Written k l old list → list ≡ pad (modulo q) (suc R) l ++ drop (suc R) old
+    full l old list r t z = written-is l old q k list z r t ∙ ap (λ (i : ℕ). pad (modulo q) i l ++ drop i old) (f ∙ add-one R)

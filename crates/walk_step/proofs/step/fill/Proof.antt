@@ -1,0 +1,29 @@
+-- Both ways give the same.
+use mathlib.Core.Path.{_≡_, subst}
+use Prim.Native.Nat.{ℕ, _+_}
+use native.Mathlib.Omega.{arith}
+use Rattle.walk_step.specs.Step.{Ready}
+use borrow.Author.Needs.{needs}
+use Rattle.walk_step.proofs.step.fill.Statement.{statement}
+use Rattle.walk_step.proofs.step.fill.Tie as tie
+
+add-if1 : tie.Need-add-if1
+add-if1 c = search needs
+
+linear-requires : tie.Need-linear-requires
+linear-requires c κs =
+    let s = c .before .before .before in
+    let e : s .args .m ≡ s .args .n + 1 = omega arith in
+    (s .pre .0, (s .pre .1 .0 .0, omega arith, subst (λ (m : ℕ). Ready (s .args .f .q) m (s .args .n) (s .args .s .now) (s .args .before .now) (s .args .b .now) (s .args .r .now)) e (s .pre .1 .1)))
+
+general-requires : tie.Need-general-requires
+general-requires c κs = let s = c .before .before .before in (s .pre .0, (s .pre .1 .0, s .pre .1 .1))
+
+returns : tie.Need-returns
+returns c = c .linear .ensures
+
+returns-2 : tie.Need-returns-2
+returns-2 c = c .general .ensures
+
+pub fill-spec : {M : Type 1} → statement M
+fill-spec = tie.close (tie.spec add-if1 linear-requires general-requires returns returns-2)

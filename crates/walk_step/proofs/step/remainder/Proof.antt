@@ -1,0 +1,82 @@
+-- The invariant: the coefficients below k are the remainder's.
+use Prim.Native.Nat.{_-_, _≤_}
+use native.Mathlib.Omega.{arith}
+use lib.ListN.{getD}
+use borrow.Author.Needs.{needs}
+use Rattle.base_polynomial.specs.Places.{Filled, filled-none, filled-more, filled-all}
+use Rattle.walk_step.specs.Step.{nextRem}
+use Rattle.walk_step.specs.Sizes.{rem-past, quo-within}
+use Rattle.walk_step.specs.Quotient.{rem-at}
+use Rattle.walk_step.proofs.step.remainder.Statement.{statement}
+use Rattle.walk_step.proofs.step.remainder.Tie as tie
+
+abbrev Inv-loop : tie.InvT-loop
+Inv-loop f reciprocal s r a m b n z₀ l k₀ z k = (k ≤ n - 1) × Filled z (λ i. getD (nextRem (f .q) s b r) i 0) k
+
+abbrev μ-loop : tie.MeasureT-loop
+μ-loop f reciprocal s r a m b n z₀ l k₀ z k = n - 1 - k
+
+add-l : tie.Need-add-l Inv-loop μ-loop
+add-l c = search needs
+
+sub-l : tie.Need-sub-l Inv-loop μ-loop
+sub-l c = search needs
+
+loop-holds : tie.Need-loop-holds Inv-loop μ-loop
+loop-holds c = (omega arith, filled-none _)
+
+sub-loop : tie.Need-sub-loop Inv-loop μ-loop
+sub-loop c = search needs
+
+rest-at-requires : tie.Need-rest-at-requires Inv-loop μ-loop
+rest-at-requires c κs =
+    let s = c .before .before .before in
+    let p = s .pre .0 .0 in
+    let d = s .pre .1 .1 .0 in
+    ((s .pre .0 .1, s .pre .0 .2, omega arith, omega arith), ((d .s-within .reduced, d .r-within .reduced, d .b-within .reduced), (quo-within p d (s .pre .1 .1 .1), λ i h. absurd (omega arith))))
+
+mul-z : tie.Need-mul-z Inv-loop μ-loop
+mul-z c = search needs
+
+element-write-z : tie.Need-element-write-z Inv-loop μ-loop
+element-write-z c = search needs
+
+add-k : tie.Need-add-k Inv-loop μ-loop
+add-k c = search needs
+
+loop-less : tie.Need-loop-less Inv-loop μ-loop
+loop-less c = search needs
+
+loop-again : tie.Need-loop-again Inv-loop μ-loop
+loop-again c =
+    let s = c .before .before .before .before in
+    let p = s .pre .0 .0 in
+    let d = s .pre .1 .1 .0 in
+    let l = c .before .before .loop in
+    (omega arith, filled-more _ (l .z) (l .k) _ (l .inv .1) (omega arith) (rem-at p d (s .args .a .now) (s .pre .1 .1 .1 .at) (l .k) _ (c .rest-at .ensures)))
+
+returns : tie.Need-returns Inv-loop μ-loop
+returns c =
+    let s = c .before .before .before in
+    let p = s .pre .0 .0 in
+    let d = s .pre .1 .1 .0 in
+    let l = c .before .loop in
+    filled-all _ (l .z) (l .k) (l .inv .1) (λ i h. rem-past p d i (omega arith))
+
+pub remainder-spec : {M : Type 1} → statement M
+remainder-spec =
+    tie.close
+    (tie.spec
+    Inv-loop
+    μ-loop
+    add-l
+    sub-l
+    loop-holds
+    sub-loop
+    rest-at-requires
+    mul-z
+    element-write-z
+    add-k
+    loop-less
+    loop-again
+    returns)
