@@ -25,4 +25,4 @@ abbrev pub Ok : Field → ℕ → Type 0
 Ok f x = fields.Ok (name f) x
 
 pub named : (f : Field) → IsField f → fields.IsField (name f)
-named f h = record { prime = h .0; odd = h .1 .0; small = h .1 .1 .0 }
+named f h = record { prime = h .0; odd = h .1; small = h .2 }

@@ -49,11 +49,11 @@ pub ok-fits : (f : FieldName) (x : ℕ) → Ok f x → fits f x ≡ true
 unfolding fits
 ok-fits f x h = lt-ltb x (f .q) h
 
-reading-same-element : (f : FieldName) (p : 0 < f .q) (x : ℕ) → model (f .q) p .φ (reading f x) ≡ model (f .q) p .φ x
+pub reading-same-element : (f : FieldName) (p : 0 < f .q) (x : ℕ) → model (f .q) p .φ (reading f x) ≡ model (f .q) p .φ x
 unfolding reading
 reading-same-element f p x = to-mod (f .q) p x
 
-reading-below : (f : FieldName) → 0 < f .q → (x : ℕ) → reading f x < f .q
+pub reading-below : (f : FieldName) → 0 < f .q → (x : ℕ) → reading f x < f .q
 unfolding reading
 reading-below f p x = mod-lt x p
 

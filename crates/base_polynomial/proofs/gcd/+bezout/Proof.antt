@@ -167,7 +167,7 @@ bezout-returns-2 t c =
     let t = c .before .before .before .before .before .before .bezout .result in
     let e = c .before .before .before .before .before .before .bezout .ensures in
     let m = c .before .before .mul .ensures in
-    let some : 0 < s .args .b .size = omega arith in (
+    let some : 0 < s .args .b .size = omega (arith, c .before .before .before .before .before .before .before .before .before .if1 .left) in (
       subst (λ (l : List ℕ). Is q (t .gcd .c) (t .gcd .size) l) (sym (turn-gcd _ p _ _ a _ _ b some _ _ (d .0) _ _ (d .1))) (e .0),
       (subst (λ (l : List ℕ). Is q (t .v .c) (t .v .size) l) (sym (turn-u _ p _ _ a _ _ b some _ _ (d .0) _ _ (d .1))) (e .1 .1), subst (λ (l : List ℕ). Is q (c .sub .result .c) (c .sub .result .size) l) (sym (turn-v _ p _ _ a _ _ b some _ _ (d .0) _ _ (d .1) _ _ (e .1 .0) _ _ (e .1 .1) _ _ m)) (c .sub .ensures)),
     )
