@@ -2,6 +2,7 @@
 use mathlib.Core.List.{List}
 use Prim.Native.Nat.{ℕ}
 use Rattle.base_field.specs.declared.Field.{Field}
+use Rattle.base_field.specs.Named.{name}
 use Rattle.base_polynomial.specs.declared.Poly.{Poly}
 use Rattle.base_polynomial.specs.Record as places
 
@@ -11,8 +12,8 @@ poly a = places.poly (a .c) (a .size)
 
 -- a record as every function keeps it
 abbrev pub Held : Field → Poly → Type 0
-Held f a = places.Held (f .q) (a .c) (a .size)
+Held f a = places.Held (name f) (a .c) (a .size)
 
 -- it is the record that stands for the polynomial l
 abbrev pub Is : Field → Poly → List ℕ → Type 0
-Is f a l = places.Is (f .q) (a .c) (a .size) l
+Is f a l = places.Is (name f) (a .c) (a .size) l
