@@ -81,17 +81,17 @@ T2Records = (w old : List ℕ) (R m c : ℕ) → listingAnswer w old .says ≡ s
 
 -- ---- the proof
 -- lists with the same coefficients, one of which may have zeros at its end
-module _ (q : FieldName) (named : IsField q) (f h : List ℕ) (e : (i : ℕ) → getD f i 0 ≡ getD h i 0) where
-  pub size-same : size (ops q) f ≡ size (ops q) h
-  size-same = size-is (arithmetic q named .M) f ∙ ap length (trim-ext (arithmetic q named .M) f h e) ∙ sym (size-is (arithmetic q named .M) h)
+module _ (f : FieldName) (named : IsField f) (l h : List ℕ) (e : (i : ℕ) → getD l i 0 ≡ getD h i 0) where
+  pub size-same : size (ops f) l ≡ size (ops f) h
+  size-same = size-is (arithmetic f named .M) l ∙ ap length (trim-ext (arithmetic f named .M) l h e) ∙ sym (size-is (arithmetic f named .M) h)
 
-  pub lead-same : lead (ops q) f ≡ lead (ops q) h
+  pub lead-same : lead (ops f) l ≡ lead (ops f) h
   unfolding lead
-  lead-same = e (size (ops q) f - 1) ∙ ap (λ (k : ℕ). getD h (k - 1) 0) size-same
+  lead-same = e (size (ops f) l - 1) ∙ ap (λ (k : ℕ). getD h (k - 1) 0) size-same
 
 -- what is padded to its length or more has the same coefficients
-pub pad-same : (q : FieldName) (k : ℕ) (l : List ℕ) → length l ≤ k → (i : ℕ) → getD (pad (ops q) k l) i 0 ≡ getD l i 0
-pad-same q k l h i = ⊎-elim (λ past. List·getD-eq-default (pad (ops q) k l) 0 (let e = length-pad (ops q) k l in omega arith) ∙ sym (List·getD-eq-default l 0 (omega arith))) (λ low. pad-at q k l i low) (le-or-lt k i)
+pub pad-same : (f : FieldName) (k : ℕ) (l : List ℕ) → length l ≤ k → (i : ℕ) → getD (pad (ops f) k l) i 0 ≡ getD l i 0
+pad-same f k l h i = ⊎-elim (λ past. List·getD-eq-default (pad (ops f) k l) 0 (let e = length-pad (ops f) k l in omega arith) ∙ sym (List·getD-eq-default l 0 (omega arith))) (λ low. pad-at f k l i low) (le-or-lt k i)
 
 -- the values of words of one kind
 values-words : (c : ℕ) (l : List ℕ) → ((i : ℕ) → getD l i 0 < 268435456) → map value (map (word c) l) ≡ l
@@ -99,57 +99,57 @@ values-words c [] h = refl
 values-words c (x ∷ l) h = ap₂ (λ (a : ℕ) (t : List ℕ). a ∷ t) (value-word c x (h 0)) (values-words c l (λ i. h (suc i)))
 
 -- ---- the ideal of index i of the walk, for a D that is admitted
-module _ {q : FieldName} {g : ℕ} {D : List ℕ} (h : Admitted q g D) where
-  abbrev A : Arithmetic q
-  A = arithmetic q (is-field h)
+module _ {f : FieldName} {g : ℕ} {D : List ℕ} (h : Admitted f g D) where
+  abbrev A : Arithmetic f
+  A = arithmetic f (is-field h)
 
   abbrev K : Field (A .Elements)
   K = A .K
 
-  abbrev M : Model (ops q) (F K)
+  abbrev M : Model (ops f) (F K)
   M = A .M
 
   abbrev I : Inverts M
   I = A .I
 
   abbrev d : List ℕ
-  d = root (ops q) D (suc g)
+  d = root (ops f) D (suc g)
 
   abbrev z : Surd K M g D d
   z = surd-of h
 
   abbrev Q : ℕ → List ℕ
-  Q = walk.Q (ops q) D d
+  Q = walk.Q (ops f) D d
 
   abbrev P : ℕ → List ℕ
-  P = walk.P (ops q) D d
+  P = walk.P (ops f) D d
 
   -- the constant that makes Q monic is not 0
-  lead-inverse : (i : ℕ) → 0 < ops q .inv (lead (ops q) (Q i))
-  lead-inverse i = ⊎-elim (λ e. absurd (K .one-not-zero (sym (I .inv-mul (lead (ops q) (Q i)) not-zero) ∙ ap (λ (c : ℕ). F K .mul (M .φ c) (M .φ (lead (ops q) (Q i)))) e ∙ zer-mul (F K) (M .φ (lead (ops q) (Q i)))))) (λ l. l) (eq-zero-or-pos (ops q .inv (lead (ops q) (Q i))))
+  lead-inverse : (i : ℕ) → 0 < ops f .inv (lead (ops f) (Q i))
+  lead-inverse i = ⊎-elim (λ e. absurd (K .one-not-zero (sym (I .inv-mul (lead (ops f) (Q i)) not-zero) ∙ ap (λ (c : ℕ). F K .mul (M .φ c) (M .φ (lead (ops f) (Q i)))) e ∙ zer-mul (F K) (M .φ (lead (ops f) (Q i)))))) (λ l. l) (eq-zero-or-pos (ops f .inv (lead (ops f) (Q i))))
     where
-      not-zero : M .φ (lead (ops q) (Q i)) ≡ F K .zer → ⊥
+      not-zero : M .φ (lead (ops f) (Q i)) ≡ F K .zer → ⊥
       not-zero = lead-some M (Q i) (let e = ap length (Q-trim z i) in let k = Q-some z i in omega arith)
 
-  monic-is : (i : ℕ) → monic (ops q) (Q i) ≡ scale (ops q) (ops q .inv (lead (ops q) (Q i))) (Q i)
+  monic-is : (i : ℕ) → monic (ops f) (Q i) ≡ scale (ops f) (ops f .inv (lead (ops f) (Q i))) (Q i)
   unfolding monic
   monic-is i = refl
 
   -- P less its remainder is a multiple of the divisor, whatever zeros stand at the end
-  rem-congruent : (a b f r : List ℕ) → ((i : ℕ) → getD f i 0 ≡ getD b i 0) → ((i : ℕ) → getD r i 0 ≡ getD (rem (ops q) a b) i 0) → Divides q f (sub (ops q) a r)
-  rem-congruent a b f r e k = (c, series-same q (is-field h) (sub (ops q) a r) (mul (ops q) f c) (series-sub M a r ∙ ap (λ (u : Px K). addS (F K) (series M a) (negS (F K) u)) r-is ∙ whole ∙ ap (λ (u : Px K). conv (F K) u (series M c)) (sym f-is) ∙ sym (series-mul M f c)))
+  rem-congruent : (a b l r : List ℕ) → ((i : ℕ) → getD l i 0 ≡ getD b i 0) → ((i : ℕ) → getD r i 0 ≡ getD (rem (ops f) a b) i 0) → Divides f l (sub (ops f) a r)
+  rem-congruent a b l r e k = (c, series-same f (is-field h) (sub (ops f) a r) (mul (ops f) l c) (series-sub M a r ∙ ap (λ (u : Px K). addS (F K) (series M a) (negS (F K) u)) r-is ∙ whole ∙ ap (λ (u : Px K). conv (F K) u (series M c)) (sym f-is) ∙ sym (series-mul M l c)))
     where
       c : List ℕ
-      c = quo (ops q) a b
+      c = quo (ops f) a b
 
-      f-is : series M f ≡ series M b
+      f-is : series M l ≡ series M b
       f-is = fun-ext (λ i. ap (M .φ) (e i))
 
-      r-is : series M r ≡ series M (rem (ops q) a b)
+      r-is : series M r ≡ series M (rem (ops f) a b)
       r-is = fun-ext (λ i. ap (M .φ) (k i))
 
-      whole : addS (F K) (series M a) (negS (F K) (series M (rem (ops q) a b))) ≡ conv (F K) (series M b) (series M c)
-      whole = ring-from (Series (F K)) (series M a ∷ series M b ∷ series M c ∷ series M (rem (ops q) a b) ∷ []) (times (Series (F K)) (con (F K) (F K .one)) (series-quo-rem M a b)) (search quote depth 40 fits 9999) tt
+      whole : addS (F K) (series M a) (negS (F K) (series M (rem (ops f) a b))) ≡ conv (F K) (series M b) (series M c)
+      whole = ring-from (Series (F K)) (series M a ∷ series M b ∷ series M c ∷ series M (rem (ops f) a b) ∷ []) (times (Series (F K)) (con (F K) (F K .one)) (series-quo-rem M a b)) (search quote depth 40 fits 9999) tt
 
 -- ---- a list in which record j + 1 stands at its place
 module _ (t : Ticket) (h : Admitted (t .field) (genus (t .n)) (t .D)) (even : suc (genus (t .n)) + suc (genus (t .n)) ≡ t .n) (R j : ℕ) (r : RecordHolds t R j) (l : List ℕ) (stands : recordAt l (t .n) j ≡ recordOf t R j) where

@@ -115,23 +115,23 @@ module _ (w : List ℕ) where
       go (suc n) z = let f : refused (suc n) ≡ refused k = sym (outcome-by (suc n) z) ∙ e in let g : suc n ≡ k = cc in number-first k (λ h. omega arith) (z ∙ g)
 
 -- ---- an outcome is told by the walk
-module _ (q : FieldName) (D d : List ℕ) (b : ℕ) where
-  stops-unique : {R m c R′ m′ c′ : ℕ} → StopsAt q D d b R m c → StopsAt q D d b R′ m′ c′ → found R m c ≡ found R′ m′ c′
+module _ (f : FieldName) (D d : List ℕ) (b : ℕ) where
+  stops-unique : {R m c R′ m′ c′ : ℕ} → StopsAt f D d b R m c → StopsAt f D d b R′ m′ c′ → found R m c ≡ found R′ m′ c′
   stops-unique {R} {m} {c} {R′} {m′} {c′} s u = ⊎-elim (λ h. ⊎-elim (λ e. same (sym e)) (λ l. absurd (s .least m′ (u .positive) l (u .constant))) (eq-or-lt-of-le h)) (λ l. absurd (u .least m (s .positive) l (s .constant))) (le-or-lt m′ m)
     where
       same : m ≡ m′ → found R m c ≡ found R′ m′ c′
       same e =
-          let t : StopsAt q D d b R m′ c = subst (λ (i : ℕ). StopsAt q D d b R i c) e s in
+          let t : StopsAt f D d b R m′ c = subst (λ (i : ℕ). StopsAt f D d b R i c) e s in
           let x : R ≡ R′ = t .regulator ∙ sym (u .regulator) in
           let y : c ∷ [] ≡ c′ ∷ [] = t .value ∙ sym (u .value) in
           cc
 
-  stops-only : (x : Outcome) → Ends q D d b x → (R m c : ℕ) → StopsAt q D d b R m c → x ≡ found R m c
+  stops-only : (x : Outcome) → Ends f D d b x → (R m c : ℕ) → StopsAt f D d b R m c → x ≡ found R m c
   stops-only (found R′ m′ c′) h R m c s = stops-unique h s
   stops-only (spent k e) h R m c s = absurd (h .none-constant m (s .positive) (s .within) (s .constant))
   stops-only (refused j) h R m c s = absurd h
 
-  spends-only : (x : Outcome) → Ends q D d b x → (k e : ℕ) → Spends q D d b k e → x ≡ spent k e
+  spends-only : (x : Outcome) → Ends f D d b x → (k e : ℕ) → Spends f D d b k e → x ≡ spent k e
   spends-only (found R m c) h k e s = absurd (s .none-constant m (h .positive) (h .within) (h .constant))
   spends-only (spent k′ e′) h k e s = let x : k′ ≡ k = h .all ∙ sym (s .all) in let y : e′ ≡ e = h .reached ∙ sym (s .reached) in cc
   spends-only (refused j) h k e s = absurd h

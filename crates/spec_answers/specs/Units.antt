@@ -42,13 +42,13 @@ T2UnitLists = (w : List ℕ) (l : Lists) (R m c : ℕ) → unitAnswer w l .says 
 
 -- ---- the proof
 -- each of the k places of a padded list holds its coefficient, 0 above the degree
-pub pad-at : (q : FieldName) (k : ℕ) (l : List ℕ) (i : ℕ) → i < k → getD (pad (ops q) k l) i 0 ≡ getD l i 0
+pub pad-at : (f : FieldName) (k : ℕ) (l : List ℕ) (i : ℕ) → i < k → getD (pad (ops f) k l) i 0 ≡ getD l i 0
 unfolding pad
-pad-at q zero l i h = absurd (omega arith)
-pad-at q (suc k) [] zero h = refl
-pad-at q (suc k) [] (suc i) h = pad-at q k [] i (omega arith)
-pad-at q (suc k) (a ∷ l) zero h = refl
-pad-at q (suc k) (a ∷ l) (suc i) h = pad-at q k l i (omega arith)
+pad-at f zero l i h = absurd (omega arith)
+pad-at f (suc k) [] zero h = refl
+pad-at f (suc k) [] (suc i) h = pad-at f k [] i (omega arith)
+pad-at f (suc k) (a ∷ l) zero h = refl
+pad-at f (suc k) (a ∷ l) (suc i) h = pad-at f k l i (omega arith)
 
 written-at : (t : Ticket) (k : ℕ) (f old : List ℕ) (i : ℕ) → i < k → getD (written t k f old) i 0 ≡ getD f i 0
 unfolding written

@@ -83,10 +83,10 @@ module _ (k : ℕ) (l : Lists) where
   long-not-short e s = false≢true (sym (short-false s) ∙ e)
 
 -- ---- what is written in one list
-pad-zeros : (q : FieldName) (k : ℕ) → pad (ops q) k [] ≡ replicate k 0
+pad-zeros : (f : FieldName) (k : ℕ) → pad (ops f) k [] ≡ replicate k 0
 unfolding pad
-pad-zeros q zero = refl
-pad-zeros q (suc k) = ap (λ (l : List ℕ). 0 ∷ l) (pad-zeros q k)
+pad-zeros f zero = refl
+pad-zeros f (suc k) = ap (λ (l : List ℕ). 0 ∷ l) (pad-zeros f k)
 
 module _ (t : Ticket) (k : ℕ) (old : List ℕ) where
   zeros : take k (written t k [] old) ≡ replicate k 0

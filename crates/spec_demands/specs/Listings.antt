@@ -60,27 +60,27 @@ abbrev pub T2Listings : Type 0
 T2Listings = (w : List ℕ) → refusalOf w ≡ 0 → (R m c : ℕ) → wordsOutcome w ≡ found R m c → ((j : ℕ) → j < m → RecordHolds (ticketOf w) R j) × ReadBack (ticketOf w) R m (listingOf (ticketOf w) R m)
 
 -- ---- the ideals of the walk, for a D that is admitted
-module _ {q : FieldName} {g : ℕ} {D : List ℕ} (h : Admitted q g D) where
-  abbrev K : Field (arithmetic q (is-field h) .Elements)
-  K = arithmetic q (is-field h) .K
+module _ {f : FieldName} {g : ℕ} {D : List ℕ} (h : Admitted f g D) where
+  abbrev K : Field (arithmetic f (is-field h) .Elements)
+  K = arithmetic f (is-field h) .K
 
-  abbrev M : Model (ops q) (F K)
-  M = arithmetic q (is-field h) .M
+  abbrev M : Model (ops f) (F K)
+  M = arithmetic f (is-field h) .M
 
   abbrev I : Inverts M
-  I = arithmetic q (is-field h) .I
+  I = arithmetic f (is-field h) .I
 
   abbrev d : List ℕ
-  d = root (ops q) D (suc g)
+  d = root (ops f) D (suc g)
 
   abbrev z : Surd K M g D d
   z = surd-of h
 
   abbrev Q : ℕ → List ℕ
-  Q = walk.Q (ops q) D d
+  Q = walk.Q (ops f) D d
 
   abbrev P : ℕ → List ℕ
-  P = walk.P (ops q) D d
+  P = walk.P (ops f) D d
 
   state-at : (i : ℕ) → State K (series M D) (series M (Q i)) (prior K (series M D) (λ j. series M (Q j)) i) (series M (P i))
   state-at i = record { κ = length (Q i) - 1; deg = Q-deg z i; norm = states.norm K (fraction z) i; size = length (before i) + length (P i); C-low = low i; P-low = low-up K _ (omega arith) (below-length M (P i)) }
@@ -93,24 +93,24 @@ module _ {q : FieldName} {g : ℕ} {D : List ℕ} (h : Admitted q g D) where
       low zero = low-up K _ (omega arith) (below-length M D)
       low (suc i) = low-up K _ (omega arith) (below-length M (Q i))
 
-  monic-length : (i : ℕ) → length (monic (ops q) (Q i)) ≡ length (Q i)
+  monic-length : (i : ℕ) → length (monic (ops f) (Q i)) ≡ length (Q i)
   monic-length i = length-monic M I (Q i) ∙ ap length (Q-trim z i)
 
-  rem-length : (i : ℕ) → length (rem (ops q) (P i) (monic (ops q) (Q i))) < length (Q i)
+  rem-length : (i : ℕ) → length (rem (ops f) (P i) (monic (ops f) (Q i))) < length (Q i)
   rem-length i =
-      let m : List ℕ = monic (ops q) (Q i) in
-      let t : length (trim (ops q) m) ≡ length m = ap length (trim-monic M I (Q i)) in
+      let m : List ℕ = monic (ops f) (Q i) in
+      let t : length (trim (ops f) m) ≡ length m = ap length (trim-monic M I (Q i)) in
       let e = monic-length i in
       let k = Q-some z i in
       let l = rem-less M I (P i) m (omega arith) in
       omega arith
 
-  walk-pair : (i : ℕ) → let x = idealOf (ops q) (walk.walk (ops q) D d i) in IsPair q D (x .q) (x .p)
+  walk-pair : (i : ℕ) → let x = idealOf (ops f) (walk.walk (ops f) D d i) in IsPair f D (x .q) (x .p)
   unfolding idealOf
-  walk-pair i = is-pair h (oks-monic M I (Q i)) (reduced-ideal K M I D (walk.walk (ops q) D d i) (state-at i))
+  walk-pair i = is-pair h (oks-monic M I (Q i)) (reduced-ideal K M I D (walk.walk (ops f) D d i) (state-at i))
 
   -- 2²⁸·32 is far below 2⁵⁶
-  degree-fits : (i : ℕ) → i ≤ 268435456 → degreeBefore (ops q) D d i ≤ 8589934592
+  degree-fits : (i : ℕ) → i ≤ 268435456 → degreeBefore (ops f) D d i ≤ 8589934592
   degree-fits i l =
       let k = degree-most z i in
       let y : suc g ≤ 32 = (let e = h .genus-most in omega arith) in

@@ -28,10 +28,10 @@ use Rattle.spec_demands.specs.Tests.{Tests, tests-lt, tests-not, tests-e
 use Rattle.spec_demands.specs.Arithmetic.{Divides, rem-divides, divides-rem, lead-is-one}
 
 -- Q is monic, deg P < deg Q, and Q divides D − P²
-pub record IsPair (q : FieldName) (D Q P : List ℕ) : Type 0 where
-  pub monic : lead (ops q) Q ≡ 1
-  pub less : size (ops q) P < size (ops q) Q
-  pub divides : Divides q Q (sub (ops q) D (mul (ops q) P P))
+pub record IsPair (f : FieldName) (D Q P : List ℕ) : Type 0 where
+  pub monic : lead (ops f) Q ≡ 1
+  pub less : size (ops f) P < size (ops f) Q
+  pub divides : Divides f Q (sub (ops f) D (mul (ops f) P P))
 
 -- "A pair is g+1 and g coefficients below q, Q monic, deg P < deg Q, Q dividing D − P²."
 pub record GivenPair (t : Ticket) (x : Ideal ℕ) : Type 0 where
@@ -70,19 +70,19 @@ abbrev pub T1Pairs : Type 0
 T1Pairs = (w : List ℕ) (x : Ideal ℕ) (d : ℕ) (y : Ideal ℕ) (e : ℕ) → PairRefusals w x d y e
 
 -- ---- ideals over the field are pairs, for a D that is admitted
-module _ {q : FieldName} {g : ℕ} {D : List ℕ} (h : Admitted q g D) where
-  abbrev K : Field (arithmetic q (is-field h) .Elements)
-  K = arithmetic q (is-field h) .K
+module _ {f : FieldName} {g : ℕ} {D : List ℕ} (h : Admitted f g D) where
+  abbrev K : Field (arithmetic f (is-field h) .Elements)
+  K = arithmetic f (is-field h) .K
 
-  abbrev M : Model (ops q) (F K)
-  M = arithmetic q (is-field h) .M
+  abbrev M : Model (ops f) (F K)
+  M = arithmetic f (is-field h) .M
 
-  pub exact : (l f : List ℕ) → rem (ops q) l f ≡ [] → Divides q f l
-  exact = rem-divides q (is-field h)
+  pub exact : (l a : List ℕ) → rem (ops f) l a ≡ [] → Divides f a l
+  exact = rem-divides f (is-field h)
 
-  pub is-pair : {s : Ideal ℕ} → Oks M (s .q) → IsIdeal K M D s → IsPair q D (s .q) (s .p)
+  pub is-pair : {s : Ideal ℕ} → Oks M (s .q) → IsIdeal K M D s → IsPair f D (s .q) (s .p)
   is-pair {s} k i = record {
-    monic = lead-is-one q (is-field h) (s .q) k (i .monic);
+    monic = lead-is-one f (is-field h) (s .q) k (i .monic);
     less = let a = monic-size K M (s .q) (i .monic) in let b = size-le M (s .p) (i .κ) (i .low) in let c = size-is M (s .q) in let e = size-is M (s .p) in omega arith;
     divides = exact _ (s .q) (i .divides);
   }
@@ -91,8 +91,8 @@ module _ {q : FieldName} {g : ℕ} {D : List ℕ} (h : Admitted q g D) where
 and-true : {a b : Bool} → a ≡ true → b ≡ true → (a && b) ≡ true
 and-true e f = ap₂ _&&_ e f
 
-below-true : (q : FieldName) (l : List ℕ) → ((i : ℕ) → Ok q (getD l i 0)) → not (someNot (fits q) l) ≡ true
-below-true q l low = tests-not (tests-some (fits q) l) .1 (λ s. absurd (false≢true (sym (s .2) ∙ ok-fits q _ (low (s .0)))))
+below-true : (f : FieldName) (l : List ℕ) → ((i : ℕ) → Ok f (getD l i 0)) → not (someNot (fits f) l) ≡ true
+below-true f l low = tests-not (tests-some (fits f) l) .1 (λ s. absurd (false≢true (sym (s .2) ∙ ok-fits f _ (low (s .0)))))
 
 module _ (t : Ticket) (h : Admitted (t .field) (genus (t .n)) (t .D)) where
   -- D − P²

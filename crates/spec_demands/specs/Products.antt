@@ -1,6 +1,6 @@
 -- T2, the part on products: for a ticket past its refusals and two pairs as document 01 describes them, S is the greatest common divisor, Q·S² is Q_1·Q_2, P is document 01's for ANY U, V, W
 -- with S = U·Q_1 + V·Q_2 + W·(P_1 + P_2), and Q divides D − P². The giant step's reduction divides exactly, ends at the first reduced index, and −2g ≤ f ≤ 0.
--- Polynomials are lists of coefficients, read ops q. The proof reads the product of ideals over the field of q elements off as equations of lists.
+-- Polynomials are lists of coefficients, read in the field. The proof reads the product of ideals over the field off as equations of lists.
 use Prim.Native.Nat.{ℕ, zero, suc, _+_, _≤_, _<_}
 use native.Mathlib.Omega.{arith}
 use mathlib.Core.Path.{_≡_, refl, sym, ap, ap₂, _∙_, subst}
@@ -42,8 +42,8 @@ use Rattle.spec_demands.specs.Tests.{tests-none}
 use Rattle.spec_demands.specs.Continued.{sumTo}
 use Rattle.spec_demands.specs.Pairs.{IsPair, GivenPair, WrongDistance, exact, is-pair, pairs-passed, tests-distances, product-by, giant-by}
 
-module _ (q : FieldName) where
-  open Operators (operators q) using (plus as _⊕_, minus as _⊖_, times as _⊗_)
+module _ (f : FieldName) where
+  open Operators (operators f) using (plus as _⊕_, minus as _⊖_, times as _⊗_)
 
   infixl 6 _⊕_ _⊖_
   infixl 7 _⊗_
@@ -53,34 +53,34 @@ module _ (q : FieldName) where
 
   -- (P_1 + (Q_1/S)·(U·(P_2 − P_1) + W·(D − P_1²)/Q_1)) mod Q
   abbrev pub paperP : List ℕ → Ideal ℕ → Ideal ℕ → List ℕ → List ℕ → List ℕ → List ℕ → List ℕ
-  paperP D x y S Q u w = rem (ops q) (x .p ⊕ quo (ops q) (x .q) S ⊗ (u ⊗ (y .p ⊖ x .p) ⊕ w ⊗ quo (ops q) (D ⊖ x .p ⊗ x .p) (x .q))) Q
+  paperP D x y S Q u w = rem (ops f) (x .p ⊕ quo (ops f) (x .q) S ⊗ (u ⊗ (y .p ⊖ x .p) ⊕ w ⊗ quo (ops f) (D ⊖ x .p ⊗ x .p) (x .q))) Q
 
   pub record IsProduct (g : ℕ) (D : List ℕ) (x y : Ideal ℕ) (S Q P : List ℕ) : Type 0 where
-    pub S-monic : lead (ops q) S ≡ 1
-    pub S-first : Divides q S (x .q)
-    pub S-second : Divides q S (y .q)
-    pub S-sum : Divides q S (x .p ⊕ y .p)
-    pub S-greatest : (f : List ℕ) → Divides q f (x .q) → Divides q f (y .q) → Divides q f (x .p ⊕ y .p) → Divides q f S
+    pub S-monic : lead (ops f) S ≡ 1
+    pub S-first : Divides f S (x .q)
+    pub S-second : Divides f S (y .q)
+    pub S-sum : Divides f S (x .p ⊕ y .p)
+    pub S-greatest : (l : List ℕ) → Divides f l (x .q) → Divides f l (y .q) → Divides f l (x .p ⊕ y .p) → Divides f l S
     pub S-combines : (u : List ℕ) × (v : List ℕ) × (w : List ℕ) × Combines x y S u v w
     pub Q-square : Q ⊗ (S ⊗ S) ≡ x .q ⊗ y .q
-    pub Q-most : deg (ops q) Q ≤ g + g
+    pub Q-most : deg (ops f) Q ≤ g + g
     pub P-any : (u v w : List ℕ) → Combines x y S u v w → P ≡ paperP D x y S Q u w
-    pub ideal : IsPair q D Q P
+    pub ideal : IsPair f D Q P
 
   -- the steps from (Q, P), of which the k-th is the first that is reduced
   module _ (g : ℕ) (D d : List ℕ) (s : Ideal ℕ) where
     abbrev Q : ℕ → List ℕ
-    Q j = steps (ops q) D d s j .q
+    Q j = steps (ops f) D d s j .q
 
     abbrev P : ℕ → List ℕ
-    P j = steps (ops q) D d s j .p
+    P j = steps (ops f) D d s j .p
 
     pub record ReducesAt (k : ℕ) : Type 0 where
-      pub exact : (j : ℕ) → Divides q (Q j) (D ⊖ P (suc j) ⊗ P (suc j))
-      pub not-zero : (j : ℕ) → 0 < size (ops q) (Q j)
-      pub partial-deg : (j : ℕ) → 0 < deg (ops q) (partial (ops q) D d (steps (ops q) D d s (suc j)))
-      pub reduced : deg (ops q) (Q k) ≤ g
-      pub first : (j : ℕ) → j < k → g < deg (ops q) (Q j)
+      pub exact : (j : ℕ) → Divides f (Q j) (D ⊖ P (suc j) ⊗ P (suc j))
+      pub not-zero : (j : ℕ) → 0 < size (ops f) (Q j)
+      pub partial-deg : (j : ℕ) → 0 < deg (ops f) (partial (ops f) D d (steps (ops f) D d s (suc j)))
+      pub reduced : deg (ops f) (Q k) ≤ g
+      pub first : (j : ℕ) → j < k → g < deg (ops f) (Q j)
       pub few : k + k ≤ suc g
 
 pub record Multiplies (t : Ticket) (x y : Ideal ℕ) (r : ProductAnswer) : Type 0 where
@@ -108,18 +108,18 @@ T2GiantSteps = (w : List ℕ) → refusalOf w ≡ 0 → (x y : Ideal ℕ) → Gi
     → Steps (ticketOf w) x d y e (productAnswer w x y .s) (record { q = productAnswer w x y .q; p = productAnswer w x y .p }) (giantAnswer w x d y e)
 
 -- ---- the proof, for a D that is admitted and two pairs that pass
-module _ {q : FieldName} {g : ℕ} {D : List ℕ} (h : Admitted q g D) {x y : Ideal ℕ} (px : Passes q g D x) (py : Passes q g D y) where
-  abbrev K : Field (arithmetic q (is-field h) .Elements)
-  K = arithmetic q (is-field h) .K
+module _ {f : FieldName} {g : ℕ} {D : List ℕ} (h : Admitted f g D) {x y : Ideal ℕ} (px : Passes f g D x) (py : Passes f g D y) where
+  abbrev K : Field (arithmetic f (is-field h) .Elements)
+  K = arithmetic f (is-field h) .K
 
-  abbrev M : Model (ops q) (F K)
-  M = arithmetic q (is-field h) .M
+  abbrev M : Model (ops f) (F K)
+  M = arithmetic f (is-field h) .M
 
   abbrev I : Inverts M
-  I = arithmetic q (is-field h) .I
+  I = arithmetic f (is-field h) .I
 
   abbrev d : List ℕ
-  d = root (ops q) D (suc g)
+  d = root (ops f) D (suc g)
 
   abbrev z : Surd K M g D d
   z = surd-of h
@@ -130,33 +130,33 @@ module _ {q : FieldName} {g : ℕ} {D : List ℕ} (h : Admitted q g D) {x y : Id
   abbrev hy : IsIdeal K M D y
   hy = pair-ideal h py
 
-  gives : (u v w : List ℕ) → Combines q x y (commonOf (ops q) x y) u v w → Gives K M I D x y u v w
+  gives : (u v w : List ℕ) → Combines f x y (commonOf (ops f) x y) u v w → Gives K M I D x y u v w
   gives u v w e = record { is = ap (series M) e ∙ series-add M _ _ ∙ ap₂ (addS (F K)) (series-add M _ _ ∙ ap₂ (addS (F K)) (series-mul M u (x .q)) (series-mul M v (y .q))) (series-mul M w _ ∙ ap (conv (F K) (series M w)) (series-add M (x .p) (y .p))) }
 
-  combines : (u v w : List ℕ) → Gives K M I D x y u v w → Combines q x y (commonOf (ops q) x y) u v w
+  combines : (u v w : List ℕ) → Gives K M I D x y u v w → Combines f x y (commonOf (ops f) x y) u v w
   combines u v w k = series-ext M _ _ (trim-gcd M I _ _) (trim-add M _ _) (oks-gcd M I _ _) (oks-add M _ _) (k .is ∙ sym (series-add M _ _ ∙ ap₂ (addS (F K)) (series-add M _ _ ∙ ap₂ (addS (F K)) (series-mul M u (x .q)) (series-mul M v (y .q))) (series-mul M w _ ∙ ap (conv (F K) (series M w)) (series-add M (x .p) (y .p)))))
 
   -- ---- the product, as its lists are named
   abbrev S : List ℕ
-  S = commonOf (ops q) x y
+  S = commonOf (ops f) x y
 
   abbrev Q₀ : List ℕ
-  Q₀ = productQ (ops q) x y
+  Q₀ = productQ (ops f) x y
 
   abbrev P₀ : List ℕ
-  P₀ = productP (ops q) D x y (bezoutU (ops q) x y) (bezoutW (ops q) x y)
+  P₀ = productP (ops f) D x y (bezoutU (ops f) x y) (bezoutW (ops f) x y)
 
   abbrev r : Product ℕ
   r = record { s = S; ideal = record { q = Q₀; p = P₀ } }
 
-  is-product : IsProduct q g D x y S Q₀ P₀
+  is-product : IsProduct f g D x y S Q₀ P₀
   is-product = record {
-    S-monic = lead-is-one q (is-field h) S (oks-gcd M I _ _) (common K M I D hx hy .monic);
+    S-monic = lead-is-one f (is-field h) S (oks-gcd M I _ _) (common K M I D hx hy .monic);
     S-first = exact h (x .q) S (S-divides K M I D hx hy .0);
     S-second = exact h (y .q) S (S-divides K M I D hx hy .1);
     S-sum = exact h _ S (S-divides K M I D hx hy .2);
-    S-greatest = λ f u v w. gcd-rules q (is-field h) (gcd (ops q) (x .q) (y .q)) (add (ops q) (x .p) (y .p)) .greatest f (gcd-rules q (is-field h) (x .q) (y .q) .greatest f u v) w;
-    S-combines = (bezoutU (ops q) x y, bezoutV (ops q) x y, bezoutW (ops q) x y, combines _ _ _ (bezout-gives K M I D x y));
+    S-greatest = λ l u v w. gcd-rules f (is-field h) (gcd (ops f) (x .q) (y .q)) (add (ops f) (x .p) (y .p)) .greatest l (gcd-rules f (is-field h) (x .q) (y .q) .greatest l u v) w;
+    S-combines = (bezoutU (ops f) x y, bezoutV (ops f) x y, bezoutW (ops f) x y, combines _ _ _ (bezout-gives K M I D x y));
     Q-square = Q-product K M I D hx hy;
     Q-most = let e = product.Q-size K M I D hx hy in let e′ = deg-is K M Q₀ in let a = pair-degree h px in let b = pair-degree h py in omega arith;
     P-any = λ u v w e. product-same K M I D hx hy (bezout-gives K M I D x y) (gives u v w e);
@@ -164,23 +164,23 @@ module _ {q : FieldName} {g : ℕ} {D : List ℕ} (h : Admitted q g D) {x y : Id
   }
 
   -- ---- its reduction
-  abbrev st : State K (series M D) (series M Q₀) (series M (cofactorAt (ops q) D (r .ideal))) (series M P₀)
+  abbrev st : State K (series M D) (series M Q₀) (series M (cofactorAt (ops f) D (r .ideal))) (series M P₀)
   st = ideal-state K M D (product-ideal K M I D hx hy (bezout-gives K M I D x y))
 
-  reduces-at : ReducesAt q g D d (r .ideal) (turnsOf (ops q) D d g (r .ideal))
+  reduces-at : ReducesAt f g D d (r .ideal) (turnsOf (ops f) D d g (r .ideal))
   unfolding steps
   reduces-at = record {
-    exact = λ j. exact h _ (steps (ops q) D d (r .ideal) j .q) (next-divides z (steps (ops q) D d (r .ideal) j) (stated z (r .ideal) st j .state));
-    not-zero = λ j. let e = Q-size z (r .ideal) st j in let e′ = size-is M (steps (ops q) D d (r .ideal) j .q) in omega arith;
-    partial-deg = λ j. let e = a-size z (r .ideal) st j in let e′ = deg-is K M (partial (ops q) D d (steps (ops q) D d (r .ideal) (suc j))) in omega arith;
+    exact = λ j. exact h _ (steps (ops f) D d (r .ideal) j .q) (next-divides z (steps (ops f) D d (r .ideal) j) (stated z (r .ideal) st j .state));
+    not-zero = λ j. let e = Q-size z (r .ideal) st j in let e′ = size-is M (steps (ops f) D d (r .ideal) j .q) in omega arith;
+    partial-deg = λ j. let e = a-size z (r .ideal) st j in let e′ = deg-is K M (partial (ops f) D d (steps (ops f) D d (r .ideal) (suc j))) in omega arith;
     reduced = turns-first z (r .ideal) st .0;
     first = turns-first z (r .ideal) st .1;
-    few = subst (λ (p : Product ℕ). turnsOf (ops q) D d g (p .ideal) + turnsOf (ops q) D d g (p .ideal) ≤ suc g) (product-is K M I D x y) (turns-few z hx hy (pair-degree h px) (pair-degree h py));
+    few = subst (λ (p : Product ℕ). turnsOf (ops f) D d g (p .ideal) + turnsOf (ops f) D d g (p .ideal) ≤ suc g) (product-is K M I D x y) (turns-few z hx hy (pair-degree h px) (pair-degree h py));
   }
 
-  answer-pair : (k : ℕ) → let i = idealOf (ops q) (steps (ops q) D d (r .ideal) k) in IsPair q D (i .q) (i .p)
+  answer-pair : (k : ℕ) → let i = idealOf (ops f) (steps (ops f) D d (r .ideal) k) in IsPair f D (i .q) (i .p)
   unfolding idealOf
-  answer-pair k = is-pair h (oks-monic M I (steps (ops q) D d (r .ideal) k .q)) (reduced-ideal K M I D (steps (ops q) D d (r .ideal) k) (stated z (r .ideal) st k .state))
+  answer-pair k = is-pair h (oks-monic M I (steps (ops f) D d (r .ideal) k .q)) (reduced-ideal K M I D (steps (ops f) D d (r .ideal) k) (stated z (r .ideal) st k .state))
 
 -- ---- for a ticket
 module _ (t : Ticket) (h : Admitted (t .field) (genus (t .n)) (t .D)) {x y : Ideal ℕ} (px : Passes (t .field) (genus (t .n)) (t .D) x) (py : Passes (t .field) (genus (t .n)) (t .D) y) where

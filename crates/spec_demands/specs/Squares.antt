@@ -27,29 +27,29 @@ use Rattle.spec_fields.specs.Named.{Arithmetic, same-reading-in, reading-same-i
 use Rattle.spec_demands.specs.Sentences.{SquareDivides}
 use Rattle.spec_demands.specs.Tests.{Tests, tests-eq, tests-not}
 
-module _ (q : FieldName) (A : Arithmetic q) where
+module _ (f : FieldName) (A : Arithmetic f) where
   abbrev K : Field (A .Elements)
   K = A .K
 
-  abbrev M : Model (ops q) (F K)
+  abbrev M : Model (ops f) (F K)
   M = A .M
 
   -- ---- a square that divides D, on lists and on polynomials
-  pub square-factor : (D : List ℕ) → SquareDivides q D → SquareFactor K (series M D)
+  pub square-factor : (D : List ℕ) → SquareDivides f D → SquareFactor K (series M D)
   square-factor D s = record {
     factor = series M (s .h);
-    size = length (trim (ops q) (s .h)) -ₙ 1;
+    size = length (trim (ops f) (s .h)) -ₙ 1;
     some = omega (arith, size-is M (s .h), s .degree);
     deg = series-deg K M (s .h) (omega (arith, size-is M (s .h), s .degree));
     divides = record {
       by = series M (s .e);
       size = length (s .e);
       low = below-length M (s .e);
-      is = fun-ext (λ i. reading-same-in A _ _ (s .product i)) ∙ series-mul M (mul (ops q) (s .h) (s .h)) (s .e) ∙ ap (λ f. conv (F K) f (series M (s .e))) (series-mul M (s .h) (s .h));
+      is = fun-ext (λ i. reading-same-in A _ _ (s .product i)) ∙ series-mul M (mul (ops f) (s .h) (s .h)) (s .e) ∙ ap (λ l. conv (F K) l (series M (s .e))) (series-mul M (s .h) (s .h));
     };
   }
 
-  pub square-lists : (D : List ℕ) → SquareFactor K (series M D) → SquareDivides q D
+  pub square-lists : (D : List ℕ) → SquareFactor K (series M D) → SquareDivides f D
   square-lists D s = record {
     h = h;
     e = e;
@@ -69,25 +69,25 @@ module _ (q : FieldName) (A : Arithmetic q) where
       e-is : series M e ≡ s .divides .by
       e-is = series-coefficients M (A .onto) (s .divides .by) (s .divides .size) (s .divides .low)
 
-      same : series M D ≡ series M (mul (ops q) (mul (ops q) h h) e)
-      same = s .divides .is ∙ sym (series-mul M (mul (ops q) h h) e ∙ ap₂ (conv (F K)) (series-mul M h h ∙ ap (λ f. conv (F K) f f) h-is) e-is)
+      same : series M D ≡ series M (mul (ops f) (mul (ops f) h h) e)
+      same = s .divides .is ∙ sym (series-mul M (mul (ops f) h h) e ∙ ap₂ (conv (F K)) (series-mul M h h ∙ ap (λ l. conv (F K) l l) h-is) e-is)
 
   -- ---- the gcd of D and D′ is not constant
-  pub tests-square : (D : List ℕ) (n : ℕ) → length D ≤ suc n → getD D n 0 ≡ 1 → Tests (notSquarefree q D) (SquareDivides q D)
+  pub tests-square : (D : List ℕ) (n : ℕ) → length D ≤ suc n → getD D n 0 ≡ 1 → Tests (notSquarefree f D) (SquareDivides f D)
   unfolding notSquarefree
-  tests-square D n long lead = Iff·trans (tests-not (tests-eq (size (ops q) G) 1)) (λ h. square-lists D (some h), λ s e. constant (square-gcd K d is (square-factor D s)) e)
+  tests-square D n long lead = Iff·trans (tests-not (tests-eq (size (ops f) G) 1)) (λ h. square-lists D (some h), λ s e. constant (square-gcd K d is (square-factor D s)) e)
     where
       d : Deg K (series M D) n
       d = monic-deg K (series-monic-of K M D n (omega (arith, length-trim M D)) (ap (M .φ) lead ∙ φ-one-in A))
 
       G : List ℕ
-      G = gcd (ops q) D (derivative (ops q) D)
+      G = gcd (ops f) D (derivative (ops f) D)
 
       is : IsGcd K (series M D) (∂ (F K) (series M D)) (series M G)
-      is = subst (λ f. IsGcd K (series M D) f (series M G)) (series-derivative M D) (gcd-is K M (A .I) D (derivative (ops q) D))
+      is = subst (λ a. IsGcd K (series M D) a (series M G)) (series-derivative M D) (gcd-is K M (A .I) D (derivative (ops f) D))
 
-      constant : (m : ℕ) × (1 ≤ m) × Deg K (series M G) m → size (ops q) G ≡ 1 → ⊥
+      constant : (m : ℕ) × (1 ≤ m) × Deg K (series M G) m → size (ops f) G ≡ 1 → ⊥
       constant (m, l, t) e = omega (arith, size-is M G, deg-size K M G t)
 
-      some : size (ops q) G ≢ 1 → SquareFactor K (series M D)
-      some h = ⊎-elim (λ l. gcd-square K (A .perfect) is (⊎-elim (λ k. omega arith) (λ k. absurd (h (size-is M G ∙ omega arith))) (le-or-lt 2 (length (trim (ops q) G)))) (series-deg K M G l)) (λ l. absurd (deg-not-zero K d (gcd-zero K is (series-zero K M G (omega arith)) .0))) (le-or-lt 1 (length (trim (ops q) G)))
+      some : size (ops f) G ≢ 1 → SquareFactor K (series M D)
+      some h = ⊎-elim (λ l. gcd-square K (A .perfect) is (⊎-elim (λ k. omega arith) (λ k. absurd (h (size-is M G ∙ omega arith))) (le-or-lt 2 (length (trim (ops f) G)))) (series-deg K M G l)) (λ l. absurd (deg-not-zero K d (gcd-zero K is (series-zero K M G (omega arith)) .0))) (le-or-lt 1 (length (trim (ops f) G)))

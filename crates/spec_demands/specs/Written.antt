@@ -31,49 +31,49 @@ abbrev pub T3-unit : Type 0
 T3-unit = (w : List ℕ) (l : Lists) (R m c : ℕ) → unitAnswer w l .says ≡ said (found R m c) → LeastFound (ticketOf w .field) (ticketOf w .D) (unitIn R (unitAnswer w l .lists)) R c
 
 -- ---- what T3 says depends on polynomials alone
-module _ (q : FieldName) (is : IsField q) where
-  same-series : (f h : List ℕ) → Same q f h → series (arithmetic q is .M) f ≡ series (arithmetic q is .M) h
-  same-series f h e = fun-ext (λ i. reading-same q is _ _ (e i))
+module _ (f : FieldName) (is : IsField f) where
+  same-series : (l h : List ℕ) → Same f l h → series (arithmetic f is .M) l ≡ series (arithmetic f is .M) h
+  same-series l h e = fun-ext (λ i. reading-same f is _ _ (e i))
 
-  same-size : (f h : List ℕ) → Same q f h → size (ops q) f ≡ size (ops q) h
+  same-size : (l h : List ℕ) → Same f l h → size (ops f) l ≡ size (ops f) h
   unfolding size
-  same-size f h e = size-series (arithmetic q is .M) f h (same-series f h e)
+  same-size l h e = size-series (arithmetic f is .M) l h (same-series l h e)
 
-  same-mul : (f h : List ℕ) → Same q f h → mul (ops q) f f ≡ mul (ops q) h h
-  same-mul f h e = mul-cong (arithmetic q is .M) f h f h (same-series f h e) (same-series f h e)
+  same-mul : (l h : List ℕ) → Same f l h → mul (ops f) l l ≡ mul (ops f) h h
+  same-mul l h e = mul-cong (arithmetic f is .M) l h l h (same-series l h e) (same-series l h e)
 
-  same-norm : (D : List ℕ) (u v : UnitPair ℕ) → Same q (u .p) (v .p) → Same q (u .s) (v .s) → norm q D (u .p) (u .s) ≡ norm q D (v .p) (v .s)
-  same-norm D u v e f = ap₂ (sub (ops q)) (same-mul (u .p) (v .p) e) (ap (mul (ops q) D) (same-mul (u .s) (v .s) f))
+  same-norm : (D : List ℕ) (u v : UnitPair ℕ) → Same f (u .p) (v .p) → Same f (u .s) (v .s) → norm f D (u .p) (u .s) ≡ norm f D (v .p) (v .s)
+  same-norm D u v e l = ap₂ (sub (ops f)) (same-mul (u .p) (v .p) e) (ap (mul (ops f) D) (same-mul (u .s) (v .s) l))
 
-  same-scale : (k : ℕ) (f h g : List ℕ) → Same q f h → Same q g (scale (ops q) k f) → Same q g (scale (ops q) k h)
-  same-scale k f h g e t = subst (Same q g) (scale-cong (arithmetic q is .M) k k f h refl (same-series f h e)) t
+  same-scale : (k : ℕ) (l h g : List ℕ) → Same f l h → Same f g (scale (ops f) k l) → Same f g (scale (ops f) k h)
+  same-scale k l h g e t = subst (Same f g) (scale-cong (arithmetic f is .M) k k l h refl (same-series l h e)) t
 
-  pub least-same : (D : List ℕ) (u v : UnitPair ℕ) (R c : ℕ) → Same q (u .p) (v .p) → Same q (u .s) (v .s) → LeastFound q D u R c → LeastFound q D v R c
+  pub least-same : (D : List ℕ) (u v : UnitPair ℕ) (R c : ℕ) → Same f (u .p) (v .p) → Same f (u .s) (v .s) → LeastFound f D u R c → LeastFound f D v R c
   unfolding deg
-  least-same D u v R c e f t = record {
+  least-same D u v R c e l t = record {
     lower = t .lower;
-    unit-solves = record { some = λ z. t .unit-solves .some (same-size (u .s) (v .s) f ∙ z); constant = ap (size (ops q)) (sym (same-norm D u v e f)) ∙ t .unit-solves .constant };
+    unit-solves = record { some = λ z. t .unit-solves .some (same-size (u .s) (v .s) l ∙ z); constant = ap (size (ops f)) (sym (same-norm D u v e l)) ∙ t .unit-solves .constant };
     unit-degree = ap (λ (n : ℕ). n - 1) (sym (same-size (u .p) (v .p) e)) ∙ t .unit-degree;
-    unit-norm = sym (same-norm D u v e f) ∙ t .unit-norm;
+    unit-norm = sym (same-norm D u v e l) ∙ t .unit-norm;
     only = λ p s x y. only (t .only p s x y);
   }
     where
-      only : {p s : List ℕ} → Multiple q u p s → Multiple q v p s
-      only {p} {s} x = record { k = x .k; positive = x .positive; below = x .below; p-is = same-scale (x .k) (u .p) (v .p) p e (x .p-is); s-is = ⊎-elim (λ y. inl (same-scale (x .k) (u .s) (v .s) s f y)) (λ y. inr (same-scale (ops q .sub 0 (x .k)) (u .s) (v .s) s f y)) (x .s-is) }
+      only : {p s : List ℕ} → Multiple f u p s → Multiple f v p s
+      only {p} {s} x = record { k = x .k; positive = x .positive; below = x .below; p-is = same-scale (x .k) (u .p) (v .p) p e (x .p-is); s-is = ⊎-elim (λ y. inl (same-scale (x .k) (u .s) (v .s) s l y)) (λ y. inr (same-scale (ops f .sub 0 (x .k)) (u .s) (v .s) s l y)) (x .s-is) }
 
 -- the first k places of what is written are the polynomial
-take-written : (q : FieldName) (k : ℕ) (l r : List ℕ) → length l ≤ k → Same q l (take k (pad (ops q) k l ++ r))
+take-written : (f : FieldName) (k : ℕ) (l r : List ℕ) → length l ≤ k → Same f l (take k (pad (ops f) k l ++ r))
 unfolding pad
-take-written q zero [] r h i = refl
-take-written q zero (x ∷ l) r h i = absurd (omega arith)
-take-written q (suc k) [] r h zero = refl
-take-written q (suc k) [] r h (suc i) = take-written q k [] r (omega arith) i
-take-written q (suc k) (x ∷ l) r h zero = refl
-take-written q (suc k) (x ∷ l) r h (suc i) = take-written q k l r (omega arith) i
+take-written f zero [] r h i = refl
+take-written f zero (x ∷ l) r h i = absurd (omega arith)
+take-written f (suc k) [] r h zero = refl
+take-written f (suc k) [] r h (suc i) = take-written f k [] r (omega arith) i
+take-written f (suc k) (x ∷ l) r h zero = refl
+take-written f (suc k) (x ∷ l) r h (suc i) = take-written f k l r (omega arith) i
 
 -- s has at most as many coefficients as p
-pub s-fits : {q : FieldName} {g : ℕ} {D : List ℕ} → Admitted q g D → (m : ℕ) → length (sBefore (ops q) D (root (ops q) D (suc g)) m) ≤ suc (degreeBefore (ops q) D (root (ops q) D (suc g)) m)
-s-fits {q} {g} {D} h zero = let e : length (sBefore (ops q) D (root (ops q) D (suc g)) 0) ≡ 0 = ap length (s-zero (surd-of h)) in omega arith
+pub s-fits : {f : FieldName} {g : ℕ} {D : List ℕ} → Admitted f g D → (m : ℕ) → length (sBefore (ops f) D (root (ops f) D (suc g)) m) ≤ suc (degreeBefore (ops f) D (root (ops f) D (suc g)) m)
+s-fits {f} {g} {D} h zero = let e : length (sBefore (ops f) D (root (ops f) D (suc g)) 0) ≡ 0 = ap length (s-zero (surd-of h)) in omega arith
 s-fits h (suc m) = let e = s-length (surd-of h) m in omega arith
 
 -- ---- the call's answer

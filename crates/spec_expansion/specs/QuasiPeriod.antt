@@ -51,37 +51,37 @@ QuasiPeriodUnique = (t : Ticket) (m k : ℕ) → IsQuasiPeriod t m → IsQuasiPe
 pub quasi-period-unique : QuasiPeriodUnique
 quasi-period-unique t m k h i = ⊎-elim (λ u. ⊎-elim (λ v. omega arith) (λ v. absurd (h .least k (i .positive) v (i .constant))) (le-or-lt m k)) (λ u. absurd (i .least m (h .positive) u (h .constant))) (le-or-lt k m)
 
-module _ {q : FieldName} {g : ℕ} {D : List ℕ} (h : Admitted q g D) where
-  abbrev A : Arithmetic q
-  A = arithmetic q (is-field h)
+module _ {f : FieldName} {g : ℕ} {D : List ℕ} (h : Admitted f g D) where
+  abbrev A : Arithmetic f
+  A = arithmetic f (is-field h)
 
   abbrev K : Field (A .Elements)
   K = A .K
 
-  abbrev M : Model (ops q) (F K)
+  abbrev M : Model (ops f) (F K)
   M = A .M
 
   abbrev d : List ℕ
-  d = root (ops q) D (suc g)
+  d = root (ops f) D (suc g)
 
   abbrev z : Surd K M g D d
   z = surd-of h
 
   abbrev Q : ℕ → List ℕ
-  Q = walk.Q (ops q) D d
+  Q = walk.Q (ops f) D d
 
   abbrev P : ℕ → List ℕ
-  P = walk.P (ops q) D d
+  P = walk.P (ops f) D d
 
   -- ---- the pair (Q_i, P_i) as a number below B²: neither has more than g + 2 coefficients, and each of them fits into a word
   abbrev B : ℕ
   B = values ^ suc (suc g)
 
   Q-digits : (i : ℕ) → Digits values (Q i)
-  Q-digits i n = ok-small q (is-field h) _ (A .ok-is _ (Q-oks z i n))
+  Q-digits i n = ok-small f (is-field h) _ (A .ok-is _ (Q-oks z i n))
 
   P-digits : (i : ℕ) → Digits values (P i)
-  P-digits i n = ok-small q (is-field h) _ (A .ok-is _ (P-oks z i n))
+  P-digits i n = ok-small f (is-field h) _ (A .ok-is _ (P-oks z i n))
 
   pair-number : ℕ → ℕ
   pair-number i = number values (Q i) + B * number values (P i)
@@ -123,10 +123,10 @@ module _ {q : FieldName} {g : ℕ} {D : List ℕ} (h : Admitted q g D) where
       constant : fraction z .κ k ≡ 0
       constant = sym (same-κ K (fraction z) 0 k (same-first (r .first) k (subst (Same K (fraction z) (r .first)) (omega (arith, r .rises)) (pair-same (r .first) (r .second) (r .same))) .ratio)) ∙ κ-first K (fraction z)
 
-  size-constant : (i : ℕ) → fraction z .κ i ≡ 0 → size (ops q) (Q i) ≡ 1
+  size-constant : (i : ℕ) → fraction z .κ i ≡ 0 → size (ops f) (Q i) ≡ 1
   size-constant i e = let k = Q-some z i in let l = size-length z i in omega arith
 
-  constant-size : (i : ℕ) → size (ops q) (Q i) ≡ 1 → fraction z .κ i ≡ 0
+  constant-size : (i : ℕ) → size (ops f) (Q i) ≡ 1 → fraction z .κ i ≡ 0
   constant-size i e = let l = size-length z i in omega arith
 
 pub t2-exists : T2Exists

@@ -14,7 +14,7 @@ use Rattle.math_algebra.specs.Field.{Field}
 use Rattle.math_algebra.specs.Polynomial.{Px, Monic}
 use Rattle.math_algebra.specs.Squarefree.{SquareFactor}
 use Rattle.math_algebra.specs.Fermat.{perfect-residues}
-use Rattle.spec_definitions.specs.Field.{modulo, prime}
+use Rattle.spec_definitions.specs.Field.{prime, ops}
 use Rattle.spec_definitions.specs.Ticket.{notSquarefree}
 use Rattle.spec_bridge.specs.Model.{Model, series}
 use Rattle.spec_bridge.specs.Trim.{below-length}
@@ -40,7 +40,7 @@ SquareCount = (q n : ℕ) → Prime q → 2 < q → 2 ≤ n → count (notSquare
 
 -- ---- the proof
 module _ (q : ℕ) (p : Prime q) (more : 2 < q) where
-  abbrev M : Model (modulo q) (FqRing q (pos q p))
+  abbrev M : Model (ops (prime q)) (FqRing q (pos q p))
   M = model q (pos q p)
 
   abbrev K : Field (Fq q)

@@ -34,24 +34,24 @@ use Rattle.spec_uniqueness.specs.Division.{deg-series}
 use Rattle.spec_uniqueness.specs.Walk.{IsWalk, SameWalk, one-walk}
 
 -- for the Q_i and p_{i−1} of a walk of n steps
-module _ (q : FieldName) (n : ℕ) (Q p : ℕ → List ℕ) where
+module _ (f : FieldName) (n : ℕ) (Q p : ℕ → List ℕ) where
   -- "The walk stops at the first index from 1 up whose Q is a nonzero constant", "m is the quasi-period, R = deg p_{m−1} the regulator, .. c = (−1)^m·Q_m the constant"
   pub record FoundAt (b R m c : ℕ) : Type 0 where
     pub walked : m ≤ n
     pub positive : 0 < m
     pub within : m ≤ b
-    pub constant : size (ops q) (Q m) ≡ 1
-    pub least : (j : ℕ) → 0 < j → j < m → size (ops q) (Q j) ≢ 1
-    pub regulator : R ≡ deg (ops q) (p m)
-    pub below : Ok q c
-    pub value : Same q (c ∷ []) (signed (ops q) m (Q m))
+    pub constant : size (ops f) (Q m) ≡ 1
+    pub least : (j : ℕ) → 0 < j → j < m → size (ops f) (Q j) ≢ 1
+    pub regulator : R ≡ deg (ops f) (p m)
+    pub below : Ok f c
+    pub value : Same f (c ∷ []) (signed (ops f) m (Q m))
 
   -- "spent; the quasi-period m is above b. Carries the steps made, b, and the degree reached"; "The degree reached when spent is deg p_{b−1}."
   pub record SpentAt (b k e : ℕ) : Type 0 where
     pub walked : b ≤ n
     pub all : k ≡ b
-    pub none-constant : (j : ℕ) → 0 < j → j ≤ b → size (ops q) (Q j) ≢ 1
-    pub reached : e ≡ deg (ops q) (p b)
+    pub none-constant : (j : ℕ) → 0 < j → j ≤ b → size (ops f) (Q j) ≢ 1
+    pub reached : e ≡ deg (ops f) (p b)
 
   abbrev pub EndsAs : ℕ → Outcome → Type 0
   EndsAs b (found R m c) = FoundAt b R m c

@@ -16,7 +16,7 @@ use Rattle.math_algebra.specs.Field.{Field}
 use Rattle.math_algebra.specs.Polynomial.{F, Px, Monic, low-sub, monic-deg}
 use Rattle.math_algebra.specs.Divides.{Divides as DividesK, divides-sub, divides-path, rigid}
 use Rattle.math_algebra.specs.Associate.{Associate, associate-sym, associate-trans, associate-monic-equal}
-use Rattle.spec_definitions.specs.Field.{FieldName, ops, reading}
+use Rattle.spec_definitions.specs.Field.{FieldName, ops}
 use Rattle.spec_definitions.specs.Polynomials.{trim, size, lead, sub, scale, mul}
 use Rattle.spec_definitions.specs.Words.{kind, value, joined}
 use Rattle.spec_definitions.specs.Ticket.{Ticket, genus, ticketOf, refusalOf}
@@ -62,45 +62,45 @@ unfolding joined
 joined-parts a b c d h k e = (omega arith, omega arith)
 
 -- ---- Q and P, for a D that is admitted
-module _ {q : FieldName} {g : ℕ} {D : List ℕ} (h : Admitted q g D) where
-  abbrev K : Field (arithmetic q (is-field h) .Elements)
-  K = arithmetic q (is-field h) .K
+module _ {f : FieldName} {g : ℕ} {D : List ℕ} (h : Admitted f g D) where
+  abbrev K : Field (arithmetic f (is-field h) .Elements)
+  K = arithmetic f (is-field h) .K
 
-  abbrev M : Model (ops q) (F K)
-  M = arithmetic q (is-field h) .M
+  abbrev M : Model (ops f) (F K)
+  M = arithmetic f (is-field h) .M
 
-  lead-monic : (f : List ℕ) → lead (ops q) f ≡ 1 → Monic K (series M f) (length (trim (ops q) f) - 1)
-  lead-monic f e = series-monic-of K M f _ (omega arith) (ap (M .φ) (sym (lead-is M f) ∙ e) ∙ φ-first q (is-field h))
+  lead-monic : (l : List ℕ) → lead (ops f) l ≡ 1 → Monic K (series M l) (length (trim (ops f) l) - 1)
+  lead-monic l e = series-monic-of K M l _ (omega arith) (ap (M .φ) (sym (lead-is M l) ∙ e) ∙ φ-first f (is-field h))
 
-  multiple-associate : (k : ℕ) (f u : List ℕ) → 0 < k → Ok q k → Same q f (scale (ops q) k u) → Associate K (series M f) (series M u)
-  multiple-associate k f u low high e = record {
+  multiple-associate : (k : ℕ) (l u : List ℕ) → 0 < k → Ok f k → Same f l (scale (ops f) k u) → Associate K (series M l) (series M u)
+  multiple-associate k l u low high e = record {
     factor = M .φ k;
-    some = λ z. absurd (let y : k ≡ 0 = sym (reading-ok q (is-field h) k high) ∙ same-reading q (is-field h) k 0 (z ∙ sym (M .φ-zer)) ∙ reading-zero q in omega arith);
-    is = same-series q (is-field h) f (scale (ops q) k u) e ∙ series-scale M k u;
+    some = λ z. absurd (let y : k ≡ 0 = sym (reading-ok f (is-field h) k high) ∙ same-reading f (is-field h) k 0 (z ∙ sym (M .φ-zer)) ∙ reading-zero f in omega arith);
+    is = same-series f (is-field h) l (scale (ops f) k u) e ∙ series-scale M k u;
   }
 
   -- lists of admissible coefficients with the same polynomial
-  below-unique : (f u : List ℕ) → ((i : ℕ) → Ok q (getD f i 0)) → ((i : ℕ) → Ok q (getD u i 0)) → series M f ≡ series M u → (i : ℕ) → getD f i 0 ≡ getD u i 0
-  below-unique f u low low′ e i = M .inj (getD f i 0) (getD u i 0) (arithmetic q (is-field h) .ok-of _ (low i)) (arithmetic q (is-field h) .ok-of _ (low′ i)) (ap (λ (s : Px K). s i) e)
+  below-unique : (l u : List ℕ) → ((i : ℕ) → Ok f (getD l i 0)) → ((i : ℕ) → Ok f (getD u i 0)) → series M l ≡ series M u → (i : ℕ) → getD l i 0 ≡ getD u i 0
+  below-unique l u low low′ e i = M .inj (getD l i 0) (getD u i 0) (arithmetic f (is-field h) .ok-of _ (low i)) (arithmetic f (is-field h) .ok-of _ (low′ i)) (ap (λ (s : Px K). s i) e)
 
-  divides-series : (f u : List ℕ) → Divides q f u → DividesK K (series M f) (series M u)
-  divides-series f u (e, s) = record { by = series M e; size = length e; low = below-length M e; is = same-series q (is-field h) u (mul (ops q) f e) s ∙ series-mul M f e }
+  divides-series : (l u : List ℕ) → Divides f l u → DividesK K (series M l) (series M u)
+  divides-series l u (e, s) = record { by = series M e; size = length e; low = below-length M e; is = same-series f (is-field h) u (mul (ops f) l e) s ∙ series-mul M l e }
 
   -- a monic multiple is one
-  monic-unique : (u x y : List ℕ) → lead (ops q) x ≡ 1 → lead (ops q) y ≡ 1 → ((k : ℕ) × (0 < k) × Ok q k × Same q x (scale (ops q) k u)) → ((k : ℕ) × (0 < k) × Ok q k × Same q y (scale (ops q) k u)) → series M x ≡ series M y
+  monic-unique : (u x y : List ℕ) → lead (ops f) x ≡ 1 → lead (ops f) y ≡ 1 → ((k : ℕ) × (0 < k) × Ok f k × Same f x (scale (ops f) k u)) → ((k : ℕ) × (0 < k) × Ok f k × Same f y (scale (ops f) k u)) → series M x ≡ series M y
   monic-unique u x y lx ly rx ry = associate-monic-equal K (lead-monic x lx) (lead-monic y ly) (associate-trans K (multiple-associate (rx .0) x u (rx .1) (rx .2) (rx .3)) (associate-sym K (multiple-associate (ry .0) y u (ry .1) (ry .2) (ry .3))))
 
   -- what is congruent to u modulo a monic x and has a lower degree is one
-  rest-unique : (u x y a b : List ℕ) → lead (ops q) x ≡ 1 → series M x ≡ series M y → Divides q x (sub (ops q) u a) → Divides q y (sub (ops q) u b) → size (ops q) a < size (ops q) x → size (ops q) b < size (ops q) y → series M b ≡ series M a
-  rest-unique u x y a b lx same da db la lb = rigid K (length (trim (ops q) x) - 1) (monic-deg K (lead-monic x lx)) gap (low-sub K (series M b) (series M a) _ (λ i p. below-size M b i (omega (arith, size-is M b, size-is M x, size-is M y, sizes))) (λ i p. below-size M a i (omega (arith, size-is M a, size-is M x))))
+  rest-unique : (u x y a b : List ℕ) → lead (ops f) x ≡ 1 → series M x ≡ series M y → Divides f x (sub (ops f) u a) → Divides f y (sub (ops f) u b) → size (ops f) a < size (ops f) x → size (ops f) b < size (ops f) y → series M b ≡ series M a
+  rest-unique u x y a b lx same da db la lb = rigid K (length (trim (ops f) x) - 1) (monic-deg K (lead-monic x lx)) gap (low-sub K (series M b) (series M a) _ (λ i p. below-size M b i (omega (arith, size-is M b, size-is M x, size-is M y, sizes))) (λ i p. below-size M a i (omega (arith, size-is M a, size-is M x))))
     where
-      sizes : length (trim (ops q) x) ≡ length (trim (ops q) y)
+      sizes : length (trim (ops f) x) ≡ length (trim (ops f) y)
       sizes = size-series M x y same
 
       gap : DividesK K (series M x) (addS (F K) (series M b) (negS (F K) (series M a)))
       gap = divides-path K
           (ap₂ (λ (s t : Px K). addS (F K) s (negS (F K) t)) (series-sub M u a) (series-sub M u b) ∙ ring (Series (F K)) (series M u ∷ series M a ∷ series M b ∷ []) (search quote depth 40 fits 9999) tt)
-          (divides-sub K (divides-series x (sub (ops q) u a) da) (subst (λ (s : Px K). DividesK K s (series M (sub (ops q) u b))) (sym same) (divides-series y (sub (ops q) u b) db)))
+          (divides-sub K (divides-series x (sub (ops f) u a) da) (subst (λ (s : Px K). DividesK K s (series M (sub (ops f) u b))) (sym same) (divides-series y (sub (ops f) u b) db)))
 
 -- ---- the words of the coefficients
 module _ (n j : ℕ) (l : List ℕ) where
