@@ -1,6 +1,6 @@
 -- Words of 32 bits, and tests on lists of numbers.
 use Prim.Native.Nat.{ℕ, _+_, _*_, _/_, _%_}
-use mathlib.Core.Bool.{Bool, true, false, _||_}
+use mathlib.Core.Bool.{Bool, true, false}
 use mathlib.Core.List.{List, [], _∷_}
 use lib.Dec.{eqb}
 
@@ -44,4 +44,4 @@ someNot t (x ∷ xs) = elim (t x) [ true ↦ someNot t xs | false ↦ true ]
 -- a number is in a list
 unfoldable pub oneOf : List ℕ → ℕ → Bool
 oneOf [] x = false
-oneOf (y ∷ ys) x = oneOf ys x || eqb x y
+oneOf (y ∷ ys) x = elim (eqb x y) [ true ↦ true | false ↦ oneOf ys x ]

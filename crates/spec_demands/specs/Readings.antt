@@ -12,8 +12,9 @@ use Rattle.math_ring.specs.Order.{le-or-lt}
 use lib.Dec.{eqb}
 use borrow.Author.Tests.{ltb-false}
 use Rattle.spec_definitions.specs.Field.{FieldName, fits}
-use Rattle.spec_definitions.specs.Words.{kind, value, same, oneOf}
+use Rattle.spec_definitions.specs.Words.{kind, value, same}
 use Rattle.spec_definitions.specs.Ticket.{wrongHead, wrongPrime, wrongDegree, laterKinds, wrongLayout, wrongCoefficient, wrongLead}
+use Rattle.spec_lists.specs.Same.{one-of-one}
 use Rattle.spec_lists.specs.Layout.{length-later, later-coefficient, later-budget, later-end}
 use Rattle.spec_bridge.specs.Prime.{OddPrime, odd-prime-true, prime-odd-prime, odd-prime-more, prime-divisor, prime-of-divisors}
 use Rattle.spec_fields.specs.Named.{IsField}
@@ -36,8 +37,8 @@ fits-large f x = (ltb-false x (f .q), λ h. tests-none (tests-lt x (f .q)) (λ l
 
 module _ (w : List ℕ) where
   pub tests-head : Tests (wrongHead (1 ∷ []) w) (WrongHead w)
-  unfolding wrongHead oneOf
-  tests-head = tests-or (tests-lt (length w) 7) (λ _. tests-not (tests-eq (kindAt w 0) 1)) (tests-not (tests-eq (kindAt w 1) 2))
+  unfolding wrongHead
+  tests-head = tests-or (tests-lt (length w) 7) (λ _. tests-not (subst (λ b. Tests b (kindAt w 0 ≡ 1)) (sym (one-of-one (kindAt w 0) 1)) (tests-eq (kindAt w 0) 1))) (tests-not (tests-eq (kindAt w 1) 2))
 
   pub tests-prime : Tests (wrongPrime (q w)) (WrongPrime w)
   unfolding wrongPrime

@@ -1,4 +1,4 @@
--- `same` is equality of lists.
+-- `same` is equality of lists; a number is in a list of one number where it is that number.
 use Prim.Native.Nat.{ℕ}
 use native.Mathlib.Omega.{arith}
 use mathlib.Core.Path.{_≡_, refl, ap₂}
@@ -6,7 +6,7 @@ use mathlib.Core.Bool.{Bool, true, false}
 use mathlib.Core.List.{List, [], _∷_}
 use lib.Dec.{eqb}
 use borrow.Author.Tests.{eqb-true, eq-eqb}
-use Rattle.spec_definitions.specs.Words.{same}
+use Rattle.spec_definitions.specs.Words.{same, oneOf}
 
 pub same-refl : (l : List ℕ) → same l l ≡ true
 unfolding same
@@ -30,3 +30,11 @@ same-not l m h = go (same l m) refl
     go : (t : Bool) → same l m ≡ t → same l m ≡ false
     go true e = absurd (h (same-equal l m e))
     go false e = e
+
+pub one-of-one : (x y : ℕ) → oneOf (y ∷ []) x ≡ eqb x y
+unfolding oneOf
+one-of-one x y = go (eqb x y)
+  where
+    go : (t : Bool) → (elim t [ true ↦ true | false ↦ false ]) ≡ t
+    go true = refl
+    go false = refl
