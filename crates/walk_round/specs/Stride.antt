@@ -25,6 +25,10 @@ use Rattle.walk_round.specs.Progress.{Taken, On}
 abbrev pub NoneTo : ℕ → ℕ → List ℕ → Progress → Type 0
 NoneTo q g D at = NoQuasi (modulo q) D (rootD q g D) (at .index)
 
+-- what a step asks for, in the order of its contract
+abbrev pub Asked : (q top : ℕ) (table s c b r : List ℕ) (at : Progress) (v : ℕ) → Type 0
+Asked q top table s c b r at v = (Prime q × (q < 4096) × (v ≡ 4294967295 / q)) × (((0 < at .size) × (at .size ≤ top) × (top ≤ 128)) × (((a : ℕ) → a < q → getD table a 0 ≡ inverse q a) × (Ready q top (at .size) s c b r × ((at .index < 268435456) × (at .degree ≤ 8589934592)))))
+
 -- D, 1 and d in their places
 pub on-first : {q g : ℕ} (c : List ℕ) (l : ℕ) {table d s : List ℕ} → Admitted q g (poly c l) → Held q c l → Prepared q g (poly c l) table d s → On q g (poly c l) c (set zeros 0 1) d (record { index = 0; degree = 0; size = 1; last = 1 })
 on-first c l h k p =
@@ -32,8 +36,7 @@ on-first c l h k p =
 
 module _ {q g top : ℕ} {D table d s : List ℕ} (h : Admitted q g D) (e : top ≡ suc (suc g)) (p : Prepared q g D table d s) {c b r : List ℕ} {at : Progress} (t : On q g D c b r at) where
   -- what a step asks for
-  pub stride-asks : (v : ℕ) → v ≡ 4294967295 / q → at .index < 268435456
-      → (Prime q × (q < 4096) × (v ≡ 4294967295 / q)) × (((0 < at .size) × (at .size ≤ top) × (top ≤ 128)) × (((a : ℕ) → a < q → getD table a 0 ≡ inverse q a) × (Ready q top (at .size) s c b r × ((at .index < 268435456) × (at .degree ≤ 8589934592)))))
+  pub stride-asks : (v : ℕ) → v ≡ 4294967295 / q → at .index < 268435456 → Asked q top table s c b r at v
   stride-asks v is l =
       let k = t .walked .state .size-is in
       let m = Q-some (surd-of h) (at .index) in

@@ -5,7 +5,7 @@ ghost use lib.ListN.{getD};
 ghost use Rattle.spec_definitions.specs.Field.{inverse};
 ghost use Rattle.spec_bridge.specs.Prime.{Prime};
 ghost use Rattle.walk_step.specs.Step.{Ready};
-ghost use Rattle.walk_round.specs.Progress.{Taken, Going, Rounded};
+ghost use Rattle.walk_round.specs.Progress.{Taken};
 use base_field::Field;
 use walk_step::step::step;
 
@@ -45,42 +45,4 @@ pub fn stride(
         size: size,
         last: w[0],
     }
-}
-
-// One to three steps, to the budget or to a Q of size `stop`. The arrays take their turns: Q stands in b, c, a and b again, the Q before in a, b, c, a, the remainder in x, y, z, x.
-pub fn round(
-    f: Field,
-    reciprocal: u32,
-    table: &[u32; 4096],
-    s: &[u32; 129],
-    top: usize,
-    a: &mut [u32; 129],
-    b: &mut [u32; 129],
-    c: &mut [u32; 129],
-    x: &mut [u32; 129],
-    y: &mut [u32; 129],
-    z: &mut [u32; 129],
-    at: Progress,
-    stop: usize,
-    budget: u64,
-) -> Progress
-    requires { ⌜ (reciprocal ≡ 4294967295 / f .q) × (at .index < budget) × (budget < 268435456) ⌝ }
-    requires { ⌜ Going (f .q) top (now table) (now s) (now a) (now b) (now x) at ⌝ }
-    ensures { λ k. ⌜ Rounded (f .q) top (now (s .entry)) stop budget (now (a .entry)) (now (b .entry)) (now (x .entry)) at (now (a .exit)) (now (b .exit)) (now (x .exit)) k ⌝ }
-{
-    let first = stride(f, reciprocal, table, s, top, a, b, x, y, c, at);
-    if first.size == stop {
-        return first;
-    }
-    if first.index == budget {
-        return first;
-    }
-    let second = stride(f, reciprocal, table, s, top, b, c, y, z, a, first);
-    if second.size == stop {
-        return second;
-    }
-    if second.index == budget {
-        return second;
-    }
-    stride(f, reciprocal, table, s, top, c, a, z, x, b, second)
 }

@@ -12,9 +12,9 @@ use base_counters::Distance;
 use base_counters::Index;
 use base_field::Field;
 use base_polynomial::Poly;
-use walk_state::start::prepare;
 use walk_round::Progress;
-use walk_round::round;
+use walk_round::stride;
+use walk_state::start::prepare;
 
 // Found with R, m and c; spent with the steps made and the degree reached; refused with its number.
 pub enum Outcome {
@@ -28,10 +28,15 @@ fn constant(f: Field, m: Index, c: u32) -> u32
     requires { ⌜ (f .q < 4096) × (c < f .q) ⌝ }
     ensures { λ r. ⌜ r ≡ signed (f .q) (m .0) c ⌝ }
 {
-    if m.0 % 2 == 0 { c } else { base_field::neg(f, c) }
+    if m.0 % 2 == 0 {
+        c
+    } else {
+        base_field::neg(f, c)
+    }
 }
 
 // The steps from index 0 on, against the budget; D is the first `length` places of `radicand`. The loop leaves with the first index from 1 on whose Q is constant.
+// The arrays take turns, so that nothing is copied: Q stands in b, c, a and b again, the Q before it in a, b, c, a, the remainder in x, y, z, x.
 fn seek(
     f: Field,
     n: usize,
@@ -63,26 +68,25 @@ fn seek(
         last: 1,
     };
     let m = loop {
-        if at.index == budget {
+        if at.index == budget { // Q in b
             return Outcome::Spent(Index(at.index), Distance(at.degree));
         }
-        at = round(
-            f,
-            reciprocal,
-            table,
-            s,
-            top,
-            &mut a,
-            &mut b,
-            &mut c,
-            &mut x,
-            &mut y,
-            &mut z,
-            at,
-            1,
-            budget,
-        );
-        if at.size == 1 {
+        at = stride(f, reciprocal, table, s, top, &a, &b, &x, &mut y, &mut c, at);
+        if at.size == 1 { // Q in c
+            break at.index;
+        }
+        if at.index == budget { // Q in c
+            return Outcome::Spent(Index(at.index), Distance(at.degree));
+        }
+        at = stride(f, reciprocal, table, s, top, &b, &c, &y, &mut z, &mut a, at);
+        if at.size == 1 { // Q in a
+            break at.index;
+        }
+        if at.index == budget { // Q in a
+            return Outcome::Spent(Index(at.index), Distance(at.degree));
+        }
+        at = stride(f, reciprocal, table, s, top, &c, &a, &z, &mut x, &mut b, at);
+        if at.size == 1 { // Q in b
             break at.index;
         }
     };
