@@ -13,10 +13,10 @@ use base_counters::Distance;
 use base_field::Field;
 use base_polynomial::Poly;
 use walk_round::Progress;
-use walk_round::round;
+use walk_round::stride;
 use walk_state::start::prepare;
 
-// The degree of p_{steps − 1}: so many steps, past every constant Q. D is the first `length` places of `radicand`.
+// The degree of p_{steps − 1}: so many steps, past every constant Q. D is the first `length` places of `radicand`. The arrays take turns as in a run.
 fn advance(
     f: Field,
     n: usize,
@@ -47,25 +47,20 @@ fn advance(
         size: 1,
         last: 1,
     };
-    while at.index < steps {
-        at = round(
-            f,
-            reciprocal,
-            table,
-            s,
-            top,
-            &mut a,
-            &mut b,
-            &mut c,
-            &mut x,
-            &mut y,
-            &mut z,
-            at,
-            0,
-            steps,
-        );
+    loop {
+        if at.index == steps {
+            return Distance(at.degree);
+        }
+        at = stride(f, reciprocal, table, s, top, &a, &b, &x, &mut y, &mut c, at);
+        if at.index == steps {
+            return Distance(at.degree);
+        }
+        at = stride(f, reciprocal, table, s, top, &b, &c, &y, &mut z, &mut a, at);
+        if at.index == steps {
+            return Distance(at.degree);
+        }
+        at = stride(f, reciprocal, table, s, top, &c, &a, &z, &mut x, &mut b, at);
     }
-    Distance(at.degree)
 }
 
 // The degree that so many steps reach, whether a Q is constant or not: for measuring the time of a step.

@@ -1,10 +1,11 @@
--- The steps of a run: where the walk stands between them, that no Q on the way is constant, and the outcome where the budget is spent or a constant Q is met.
-use Prim.Native.Nat.{ℕ, suc, _/_, _≤_, _<_}
+-- The steps of a run: where the walk stands between them, that no Q on the way is constant, and the outcome where the budget is spent
+-- or a constant Q is met.
+use Prim.Native.Nat.{ℕ, suc, _≤_, _<_}
 use native.Mathlib.Omega.{arith}
 use mathlib.Core.Path.{_≡_, sym, ap, ap₂, _∙_, subst}
 use mathlib.Core.List.{List}
-use lib.ListN.{getD, set}
-use Rattle.spec_definitions.specs.Field.{modulo}
+use lib.ListN.{getD}
+use Rattle.spec_definitions.specs.Field.{FieldName, prime, ops}
 use Rattle.spec_definitions.specs.Ticket.{genus}
 use Rattle.spec_definitions.specs.Walk.{Q, degreeBefore}
 use Rattle.spec_definitions.specs.Answers.{found, spent, outcomeOf}
@@ -12,55 +13,55 @@ use Rattle.spec_laws.specs.Admitted.{Admitted, surd-of}
 use Rattle.spec_laws.specs.Surd.{Q-oks}
 use Rattle.spec_laws.specs.QuasiPeriod.{Quasi}
 use Rattle.base_polynomial.specs.Record.{poly, Held}
-use Rattle.base_polynomial.specs.Places.{zeros}
-use Rattle.walk_round.specs.declared.Progress.{Progress}
 use Rattle.walk_state.specs.State.{rootD}
 use Rattle.walk_state.specs.Start.{Prepared}
-use Rattle.walk_round.specs.Progress.{On, Taken}
-use Rattle.walk_round.specs.Stride.{NoneTo, Asked, on-first, stride-asks, stride-on, stride-last, stride-none, stride-found}
+use Rattle.walk_stride.specs.declared.Progress.{Progress}
+use Rattle.walk_stride.specs.Progress.{Begun, Going, Taken}
+use Rattle.walk_stride.specs.Walked.{Walked, NoneTo, walked-first, none-first, going}
+use Rattle.walk_stride.specs.Stride.{stride-walked, stride-last, stride-none, stride-found}
 use Rattle.walk_run.specs.Outcome.{ticket, signed, found-is, spent-is}
 
 -- the walk stands at an index within the budget, and no Q of an index from 1 on was constant
-pub record Seeking (q g : ℕ) (D : List ℕ) (budget : ℕ) (c b r : List ℕ) (at : Progress) : Type 0 where
-  pub on : On q g D c b r at
-  pub none : NoneTo q g D at
-  pub reached : at .index ≤ budget
+pub record Seeking (f : FieldName) (g : ℕ) (D : List ℕ) (budget : ℕ) (before current rest : List ℕ) (at : Progress) : Type 0 where
+  pub walked : Walked f g D before current rest at
+  pub none : NoneTo f g D at
+  pub reached : at .index .0 ≤ budget
 
 -- the walk stands at the first index from 1 on whose Q is constant
-pub record Met (q g : ℕ) (D : List ℕ) (budget : ℕ) (at : Progress) : Type 0 where
-  pub quasi : Quasi (modulo q) D (rootD q g D) budget (at .index)
-  pub degree-is : at .degree ≡ degreeBefore (modulo q) D (rootD q g D) (at .index)
-  pub last-is : at .last ≡ getD (Q (modulo q) D (rootD q g D) (at .index)) 0 0
+pub record Met (f : FieldName) (g : ℕ) (D : List ℕ) (budget : ℕ) (at : Progress) : Type 0 where
+  pub quasi : Quasi (ops f) D (rootD (f .q) g D) budget (at .index .0)
+  pub degree-is : at .degree .0 ≡ degreeBefore (ops f) D (rootD (f .q) g D) (at .index .0)
+  pub last-is : at .last ≡ getD (Q (ops f) D (rootD (f .q) g D) (at .index .0)) 0 0
 
-pub seeking-first : {q g : ℕ} (c : List ℕ) (l : ℕ) {table d s : List ℕ} (budget : ℕ) → Admitted q g (poly c l) → Held q c l → Prepared q g (poly c l) table d s → Seeking q g (poly c l) budget c (set zeros 0 1) d (record { index = 0; degree = 0; size = 1; last = 1 })
-seeking-first c l budget h k p = record { on = on-first c l h k p; none = λ j i m. absurd (omega arith); reached = omega arith }
+pub seeking-first : {q g : ℕ} (c : List ℕ) (l : ℕ) {table d twice before current rest : List ℕ} {at : Progress} (budget : ℕ) → Admitted q g (poly c l) → Held q c l → Prepared (prime q) g (poly c l) table d twice → Begun c d before current rest at → Seeking (prime q) g (poly c l) budget before current rest at
+seeking-first {q} {g} c l budget h k p b = record { walked = walked-first c l h k p b; none = none-first q g (poly c l) b; reached = (let e = b .index-is in omega arith) }
 
-module _ {q g top : ℕ} {D table d s : List ℕ} (h : Admitted q g D) (e : top ≡ suc (suc g)) (p : Prepared q g D table d s) {budget : ℕ} {c b r : List ℕ} {at : Progress} (t : Seeking q g D budget c b r at) (left : at .index ≡ budget → ⊥) where
-  less : at .index < budget
+module _ {q g top : ℕ} {D table d twice : List ℕ} (h : Admitted q g D) (e : top ≡ suc (suc g)) (p : Prepared (prime q) g D table d twice) {budget : ℕ} {before current rest : List ℕ} {at : Progress} (t : Seeking (prime q) g D budget before current rest at) (left : at .index .0 ≡ budget → ⊥) where
+  less : at .index .0 < budget
   less = omega (arith, t .reached, left)
 
   -- what the next step asks for
-  pub seeking-asks : (v : ℕ) → v ≡ 4294967295 / q → budget < 268435456 → Asked q top table s c b r at v
-  seeking-asks v is l = stride-asks h e p (t .on) v is (let k = less in omega arith)
+  pub seeking-going : budget < 268435456 → Going (prime q) top table twice before current rest at
+  seeking-going l = going h e p (t .walked) (let k = less in omega arith)
 
-  module _ {z w : List ℕ} {k : Progress} (u : Taken q top s c b r z w at k) where
-    pub seeking-next : (k .size ≡ 1 → ⊥) → Seeking q g D budget b w z k
-    seeking-next f = record { on = stride-on h e p (t .on) u; none = stride-none h e p (t .on) u (t .none) f; reached = (let i = u .index-is in let l = less in omega arith) }
+  module _ {remains after : List ℕ} {to : Progress} (u : Taken (prime q) top twice before current rest remains after at to) where
+    pub seeking-next : (to .size ≡ 1 → ⊥) → Seeking (prime q) g D budget current after remains to
+    seeking-next f = record { walked = stride-walked h e p (t .walked) u; none = stride-none h e p (t .walked) u (t .none) f; reached = (let i = u .index-is in let l = less in omega arith) }
 
-    pub seeking-met : k .size ≡ 1 → Met q g D budget k
-    seeking-met f = record { quasi = stride-found h e p (t .on) u budget (t .none) less f; degree-is = stride-on h e p (t .on) u .walked .degree-is; last-is = stride-last h e p (t .on) u }
+    pub seeking-met : to .size ≡ 1 → Met (prime q) g D budget to
+    seeking-met f = record { quasi = stride-found h e p (t .walked) u budget (t .none) less f; degree-is = stride-walked h e p (t .walked) u .degree-is; last-is = stride-last h e p (t .walked) u }
 
-pub met-at : {q g : ℕ} {D : List ℕ} {budget m : ℕ} {at k : Progress} → at ≡ k → m ≡ k .index → Met q g D budget k → Met q g D budget at × (m ≡ at .index)
-met-at {q} {g} {D} {budget} e f t = (subst (Met q g D budget) (sym e) t, f ∙ ap (λ (p : Progress). p .index) (sym e))
+pub met-at : {f : FieldName} {g : ℕ} {D : List ℕ} {budget m : ℕ} {at to : Progress} → at ≡ to → m ≡ to .index .0 → Met f g D budget to → Met f g D budget at × (m ≡ at .index .0)
+met-at {f} {g} {D} {budget} e i t = (subst (Met f g D budget) (sym e) t, i ∙ ap (λ (p : Progress). p .index .0) (sym e))
 
-pub last-reduced : {q g : ℕ} {D : List ℕ} {budget : ℕ} {at : Progress} → Admitted q g D → Met q g D budget at → at .last < q
-last-reduced {q} {at = at} h m = subst (λ (v : ℕ). v < q) (sym (m .last-is)) (Q-oks (surd-of h) (at .index) 0)
+pub last-reduced : {q g : ℕ} {D : List ℕ} {budget : ℕ} {at : Progress} → Admitted q g D → Met (prime q) g D budget at → at .last < q
+last-reduced {q} {at = at} h m = subst (λ (v : ℕ). v < q) (sym (m .last-is)) (Q-oks (surd-of h) (at .index .0) 0)
 
 -- a constant Q is met
-pub outcome-found : {q : ℕ} (n : ℕ) {D : List ℕ} {budget : ℕ} {at : Progress} → Admitted q (genus n) D → Met q (genus n) D budget at → found (at .degree) (at .index) (signed q (at .index) (at .last)) ≡ outcomeOf (ticket q n D budget)
+pub outcome-found : {q : ℕ} (n : ℕ) {D : List ℕ} {budget : ℕ} {at : Progress} → Admitted q (genus n) D → Met (prime q) (genus n) D budget at → found (at .degree .0) (at .index .0) (signed (prime q) (at .index .0) (at .last)) ≡ outcomeOf (ticket q n D budget)
 outcome-found {q} n {D} {budget} {at} h m =
-    ap₂ (λ (i j : ℕ). found i (at .index) (signed q (at .index) j)) (m .degree-is) (m .last-is) ∙ sym (found-is q n D h budget (at .index) (m .quasi))
+    ap₂ (λ (i j : ℕ). found i (at .index .0) (signed (prime q) (at .index .0) j)) (m .degree-is) (m .last-is) ∙ sym (found-is q n D h budget (at .index .0) (m .quasi))
 
 -- the budget is spent
-pub outcome-spent : {q : ℕ} (n : ℕ) {D : List ℕ} {budget : ℕ} {c b r : List ℕ} {at : Progress} → Admitted q (genus n) D → Seeking q (genus n) D budget c b r at → at .index ≡ budget → spent (at .index) (at .degree) ≡ outcomeOf (ticket q n D budget)
-outcome-spent {q} n {D} {at = at} h t e = subst (λ (j : ℕ). spent (at .index) (at .degree) ≡ outcomeOf (ticket q n D j)) e (ap (spent (at .index)) (t .on .walked .degree-is) ∙ sym (spent-is q n D h (at .index) (t .none)))
+pub outcome-spent : {q : ℕ} (n : ℕ) {D : List ℕ} {budget : ℕ} {before current rest : List ℕ} {at : Progress} → Admitted q (genus n) D → Seeking (prime q) (genus n) D budget before current rest at → at .index .0 ≡ budget → spent (at .index .0) (at .degree .0) ≡ outcomeOf (ticket q n D budget)
+outcome-spent {q} n {D} {at = at} h t e = subst (λ (j : ℕ). spent (at .index .0) (at .degree .0) ≡ outcomeOf (ticket q n D j)) e (ap (spent (at .index .0)) (t .walked .degree-is) ∙ sym (spent-is q n D h (at .index .0) (t .none)))

@@ -7,7 +7,7 @@ use mathlib.Core.Path.{_≡_, sym, ap, _∙_, subst}
 use mathlib.Core.List.{List, [], _∷_}
 use lib.ListN.{length, getD, set}
 use lib.Seq.{ext-getD}
-use Rattle.spec_definitions.specs.Field.{modulo, inverse}
+use Rattle.spec_definitions.specs.Field.{FieldName, ops, modulo}
 use Rattle.spec_definitions.specs.Polynomials.{trim, pad, add, root}
 use Rattle.spec_definitions.specs.Ticket.{Ticket, genus}
 use Rattle.spec_bridge.specs.Arithmetic.{at-add}
@@ -19,6 +19,7 @@ use Rattle.base_polynomial.specs.Record.{poly, Held}
 use Rattle.base_polynomial.specs.Held.{at-poly}
 use Rattle.base_polynomial.specs.Pad.{length-pad, at-pad}
 use Rattle.base_polynomial.specs.Places.{Places, Within, zeros}
+use Rattle.walk_step.specs.Step.{Inverses}
 use Rattle.walk_state.specs.Root.{root-cong}
 use Rattle.walk_state.specs.State.{rootD, pad-within}
 
@@ -26,11 +27,11 @@ use Rattle.walk_state.specs.State.{rootD, pad-within}
 abbrev pub ticket : ℕ → ℕ → List ℕ → ℕ → Ticket
 ticket q n D b = record { q = q; n = n; D = D; b = b }
 
--- the table of inverses, d and s = 2d
-pub record Prepared (q g : ℕ) (D table d s : List ℕ) : Type 0 where
-  pub inverses : (a : ℕ) → a < q → getD table a 0 ≡ inverse q a
-  pub root-is : d ≡ pad (modulo q) 129 (rootD q g D)
-  pub twice-is : s ≡ pad (modulo q) 129 (add (modulo q) (rootD q g D) (rootD q g D))
+-- the table of inverses, d and twice = 2d
+pub record Prepared (f : FieldName) (g : ℕ) (D table d twice : List ℕ) : Type 0 where
+  pub inverses : Inverses f table
+  pub root-is : d ≡ pad (ops f) 129 (rootD (f .q) g D)
+  pub twice-is : twice ≡ pad (ops f) 129 (add (ops f) (rootD (f .q) g D) (rootD (f .q) g D))
 
 -- n/2 = g + 1
 pub half-degree : (n : ℕ) → 2 ≤ n → n / 2 ≡ suc (genus n)
