@@ -1,3 +1,4 @@
 pub mod Primes
 pub mod Residue
 pub mod Named
+pub mod Reciprocal

@@ -6,15 +6,15 @@ use mathlib.Core.Path.{_≡_, refl, sym, ap, _∙_, subst}
 use mathlib.Core.Bool.{Bool, true, false}
 use mathlib.Core.List.{List, [], _∷_}
 use lib.ListN.{getD, drop, List·getD-append}
-use Rattle.spec_definitions.specs.Field.{modulo}
+use Rattle.spec_definitions.specs.Field.{FieldName, ops}
 use Rattle.spec_definitions.specs.Polynomials.{size, deg, pad}
 use Rattle.spec_definitions.specs.Ticket.{Ticket, genus, ticketOf}
 use Rattle.spec_definitions.specs.Walk.{unitOf, pBefore, sBefore, degreeBefore}
 use Rattle.spec_definitions.specs.Answers.{Outcome, found, refused, said, said-injective, opsOf, rootOf, wordsOutcome}
 use Rattle.spec_definitions.specs.Units.{Lists, UnitAnswer, longEnough, written, unitLists, unitFrom, unitAnswer}
 use Rattle.spec_bridge.specs.Trim.{size-is, length-trim}
-use Rattle.spec_bridge.specs.Residues.{pos, model}
-use Rattle.spec_laws.specs.Admitted.{Admitted, admitted}
+use Rattle.spec_fields.specs.Named.{arithmetic}
+use Rattle.spec_laws.specs.Admitted.{Admitted, is-field, admitted}
 use Rattle.spec_demands.specs.Records.{length-pad}
 use Rattle.spec_demands.specs.Continued.{StopsAt, Walks, t2}
 use Rattle.spec_demands.specs.Written.{s-fits}
@@ -42,17 +42,17 @@ T2UnitLists = (w : List ℕ) (l : Lists) (R m c : ℕ) → unitAnswer w l .says 
 
 -- ---- the proof
 -- each of the k places of a padded list holds its coefficient, 0 above the degree
-pub pad-at : (q k : ℕ) (l : List ℕ) (i : ℕ) → i < k → getD (pad (modulo q) k l) i 0 ≡ getD l i 0
+pub pad-at : (f : FieldName) (k : ℕ) (l : List ℕ) (i : ℕ) → i < k → getD (pad (ops f) k l) i 0 ≡ getD l i 0
 unfolding pad
-pad-at q zero l i h = absurd (omega arith)
-pad-at q (suc k) [] zero h = refl
-pad-at q (suc k) [] (suc i) h = pad-at q k [] i (omega arith)
-pad-at q (suc k) (a ∷ l) zero h = refl
-pad-at q (suc k) (a ∷ l) (suc i) h = pad-at q k l i (omega arith)
+pad-at f zero l i h = absurd (omega arith)
+pad-at f (suc k) [] zero h = refl
+pad-at f (suc k) [] (suc i) h = pad-at f k [] i (omega arith)
+pad-at f (suc k) (a ∷ l) zero h = refl
+pad-at f (suc k) (a ∷ l) (suc i) h = pad-at f k l i (omega arith)
 
 written-at : (t : Ticket) (k : ℕ) (f old : List ℕ) (i : ℕ) → i < k → getD (written t k f old) i 0 ≡ getD f i 0
 unfolding written
-written-at t k f old i h = List·getD-append (pad (opsOf t) k f) (drop k old) 0 i (let e = length-pad (opsOf t) k f in omega arith) ∙ pad-at (t .q) k f i h
+written-at t k f old i h = List·getD-append (pad (opsOf t) k f) (drop k old) 0 i (let e = length-pad (opsOf t) k f in omega arith) ∙ pad-at (t .field) k f i h
 
 -- what is written where the answer is found
 lists-written : (t : Ticket) (x : Outcome) (l : Lists) (R m c : ℕ) → x ≡ found R m c → unitFrom t x l .says ≡ said (found R m c) → unitFrom t x l .lists ≡ unitLists t R m l
@@ -66,12 +66,12 @@ lists-written t x l R m c f e = ap (λ (y : Outcome). unitFrom t y l .lists) f �
     go true k = refl
     go false k = absurd (refused-not 12 R m c (said-injective _ _ k))
 
-s-most : (t : Ticket) → Admitted (t .q) (genus (t .n)) (t .D) → (R m : ℕ) → R ≡ deg (opsOf t) (pBefore (opsOf t) (t .D) (rootOf t) m) → size (opsOf t) (sBefore (opsOf t) (t .D) (rootOf t) m) ≤ suc R
+s-most : (t : Ticket) → Admitted (t .field) (genus (t .n)) (t .D) → (R m : ℕ) → R ≡ deg (opsOf t) (pBefore (opsOf t) (t .D) (rootOf t) m) → size (opsOf t) (sBefore (opsOf t) (t .D) (rootOf t) m) ≤ suc R
 unfolding rootOf degreeBefore
 s-most t h R m is =
     let a = s-fits h m in
-    let b = length-trim (model (t .q) (pos (t .q) (h .prime))) (sBefore (opsOf t) (t .D) (rootOf t) m) in
-    let c = size-is (model (t .q) (pos (t .q) (h .prime))) (sBefore (opsOf t) (t .D) (rootOf t) m) in
+    let b = length-trim (arithmetic (t .field) (is-field h) .M) (sBefore (opsOf t) (t .D) (rootOf t) m) in
+    let c = size-is (arithmetic (t .field) (is-field h) .M) (sBefore (opsOf t) (t .D) (rootOf t) m) in
     omega arith
 
 module _ (t : Ticket) (R m : ℕ) (old new : Lists) (at-exit : new ≡ unitLists t R m old) where
@@ -96,7 +96,7 @@ unfolding unitAnswer
 t2-unit-lists w l R m c e =
     let f = unit-found w l R m c e in
     let z = found-passes w R m c f in
-    let s : StopsAt (ticketOf w .q) (ticketOf w .D) (rootOf (ticketOf w)) (ticketOf w .b) R m c = subst (Walks (ticketOf w)) f (t2 w z) .ends in
+    let s : StopsAt (ticketOf w .field) (ticketOf w .D) (rootOf (ticketOf w)) (ticketOf w .b) R m c = subst (Walks (ticketOf w)) f (t2 w z) .ends in
     let new = unitAnswer w l .lists in
     let at-exit : unitAnswer w l .lists ≡ unitLists (ticketOf w) R m l = lists-written (ticketOf w) (wordsOutcome w) l R m c f e in
     let kept = t1-lists .0 w l .later R m c e in

@@ -4,28 +4,39 @@ use native.Mathlib.Nat.{mod-lt, eq-or-lt-of-le}
 use native.Mathlib.Omega.{arith}
 use mathlib.Core.Path.{_≡_, refl, sym, ap, _∙_, subst}
 use mathlib.Core.Logic.{_↔_, _≢_, _⊎_, inl, inr, ⊎-elim, Iff·trans}
-use mathlib.Core.Bool.{not}
+use mathlib.Core.Bool.{false, not}
 use mathlib.Core.List.{List, [], _∷_, _++_, map}
 use lib.ListN.{length, getD, take, drop, replicate, length-append, length-take, length-drop, length-map, length-replicate, getD-replicate, List·getD-append, List·getD-map}
 use lib.Seq.{getD-take, getD-drop, getD-append-add}
 use Rattle.math_ring.specs.Order.{le-or-lt}
 use lib.Dec.{eqb}
+use borrow.Author.Tests.{ltb-false}
+use Rattle.spec_definitions.specs.Field.{FieldName, fits}
 use Rattle.spec_definitions.specs.Words.{kind, value, same}
 use Rattle.spec_definitions.specs.Ticket.{wrongHead, wrongPrime, wrongDegree, laterKinds, wrongLayout, wrongCoefficient, wrongLead}
-use Rattle.spec_bridge.specs.Prime.{OddPrime, odd-prime-true, prime-odd-prime, prime-divisor, prime-of-divisors}
-use Rattle.spec_demands.specs.Sentences.{kindAt, valueAt, q, n, coefficient, D, AllowedPrime, WrongHead, WrongPrime, WrongDegree, WrongKind, WrongLayout, WrongCoefficient, WrongLead}
-use Rattle.spec_demands.specs.Tests.{Tests, tests-lt, tests-eq, tests-not, tests-stable, tests-or, tests-some, tests-differ}
+use Rattle.spec_bridge.specs.Prime.{OddPrime, odd-prime-true, prime-odd-prime, odd-prime-more, prime-divisor, prime-of-divisors}
+use Rattle.spec_fields.specs.Named.{IsField}
+use Rattle.spec_demands.specs.Sentences.{kindAt, valueAt, q, field, n, TooLarge, coefficient, D, AllowedPrime, AllowedField, WrongHead, WrongPrime, WrongDegree, WrongKind, WrongLayout, WrongCoefficient, WrongLead}
+use Rattle.spec_demands.specs.Tests.{Tests, tests-lt, tests-eq, tests-not, tests-none, tests-stable, tests-one, tests-or, tests-some, tests-differ}
 
 pub prime-allowed : (p : ℕ) → OddPrime p ↔ AllowedPrime p
 prime-allowed p = (λ r. record { odd = r .odd; below = r .small; more = r .prime .two; divisors = prime-divisor p (r .prime) }, λ r. record { prime = prime-of-divisors p (r .more) (r .divisors); odd = r .odd; small = r .below })
 
+pub named-field : (f : FieldName) → AllowedField f → IsField f
+named-field f h = let r = prime-allowed (f .q) .1 h in record { prime = r .prime; odd = odd-prime-more (f .q) r; small = r .small }
+
 pub tests-odd : (m : ℕ) → (m % 2 ≢ 0) ↔ (m % 2 ≡ 1)
 tests-odd m = let low : m % 2 < 2 = mod-lt m (omega arith) in (λ h. ⊎-elim (λ l. omega arith) (λ l. absurd (h (omega arith))) (le-or-lt 1 (m % 2)), λ e z. omega arith)
 
+-- a coefficient is not admitted exactly where it is too large
+pub fits-large : (f : FieldName) (x : ℕ) → (fits f x ≡ false) ↔ TooLarge f x
+unfolding fits
+fits-large f x = (ltb-false x (f .q), λ h. tests-none (tests-lt x (f .q)) (λ l. omega arith))
+
 module _ (w : List ℕ) where
-  pub tests-head : Tests (wrongHead w) (WrongHead w)
+  pub tests-head : Tests (wrongHead (1 ∷ []) w) (WrongHead w)
   unfolding wrongHead
-  tests-head = tests-or (tests-lt (length w) 7) (λ _. tests-not (tests-eq (kindAt w 0) 1)) (tests-not (tests-eq (kindAt w 1) 2))
+  tests-head = tests-or (tests-lt (length w) 7) (λ _. tests-not (tests-one (kindAt w 0) 1)) (tests-not (tests-eq (kindAt w 1) 2))
 
   pub tests-prime : Tests (wrongPrime (q w)) (WrongPrime w)
   unfolding wrongPrime
@@ -100,9 +111,9 @@ module _ (w : List ℕ) where
   unfolding wrongLayout
   tests-layout = tests-or (tests-not (tests-eq (length w) (n w + 5))) (λ h. tests-kind (tests-stable (tests-eq (length w) (n w + 5)) h)) (tests-not (tests-eq (valueAt w (n w + 4)) (n w + 4)))
 
-  pub tests-coefficient : length w ≡ n w + 5 → Tests (wrongCoefficient (q w) (D w)) (WrongCoefficient w)
+  pub tests-coefficient : length w ≡ n w + 5 → Tests (wrongCoefficient (field w) (D w)) (WrongCoefficient w)
   unfolding wrongCoefficient
-  tests-coefficient e = Iff·trans (tests-some (q w) (D w)) (λ r. let l : r .0 ≤ n w = omega (arith, length-D w e) in (r .0, l, subst (λ c. q w ≤ c) (coefficient-at w (r .0) l) (r .2)), λ r. (r .0, omega (arith, length-D w e), subst (λ c. q w ≤ c) (sym (coefficient-at w (r .0) (r .1))) (r .2)))
+  tests-coefficient e = Iff·trans (tests-some (fits (field w)) (D w)) (λ r. let l : r .0 ≤ n w = omega (arith, length-D w e) in (r .0, l, fits-large (field w) _ .0 (subst (λ c. fits (field w) c ≡ false) (coefficient-at w (r .0) l) (r .2))), λ r. (r .0, omega (arith, length-D w e), subst (λ c. fits (field w) c ≡ false) (sym (coefficient-at w (r .0) (r .1))) (fits-large (field w) _ .1 (r .2))))
 
   pub tests-lead : Tests (wrongLead (n w) (D w)) (WrongLead w)
   unfolding wrongLead

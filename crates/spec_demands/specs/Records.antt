@@ -1,5 +1,5 @@
 -- The words of a listing, read back: where each record stands, its kinds and its distance, for records whose numbers fit into their words.
-use Prim.Native.Nat.{ℕ, zero, suc, _+_, _*_, _-_, _/_, _%_, _≤_, _<_}
+use Prim.Native.Nat.{ℕ, zero, suc, _+_, _*_, _/_, _%_, _≤_, _<_}
 use native.Mathlib.Nat.{mod-lt, zero-mul, suc-mul, add-comm, add-zero, add-suc, suc-add, mod-eq-of-lt, div-eq-of-lt, div-add-mod', mul-div-cancel, mul-mod-left, mul-add-div-right, mul-add-mod-self-right}
 use native.Mathlib.Omega.{arith}
 use mathlib.Core.Path.{_≡_, refl, sym, ap, ap₂, _∙_}
@@ -8,7 +8,7 @@ use mathlib.Core.List.{List, [], _∷_, _++_, map}
 use lib.ListN.{length, getD, take, drop, replicate, length-append, length-map}
 use lib.Seq.{take-at, drop-at, drop-drop, getD-take, getD-drop}
 use borrow.Author.Tests.{eq-eqb, lt-ltb}
-use Rattle.spec_definitions.specs.Field.{Ops, modulo}
+use Rattle.spec_definitions.specs.Field.{FieldName, Ops, ops}
 use Rattle.spec_definitions.specs.Polynomials.{pad}
 use Rattle.spec_definitions.specs.Words.{kind, value, word, high, low, joined, same}
 use Rattle.spec_definitions.specs.Ticket.{Ticket, genus}
@@ -50,11 +50,11 @@ same-refl [] = refl
 same-refl (x ∷ l) = rw (same, eq-eqb x x refl) (same-refl l)
 
 -- the kinds of coefficients that fit
-kinds-pad : (q c k : ℕ) (l : List ℕ) → ((i : ℕ) → getD l i 0 < 268435456) → map kind (map (word c) (pad (modulo q) k l)) ≡ replicate k c
+kinds-pad : (f : FieldName) (c k : ℕ) (l : List ℕ) → ((i : ℕ) → getD l i 0 < 268435456) → map kind (map (word c) (pad (ops f) k l)) ≡ replicate k c
 unfolding pad
-kinds-pad q c zero l h = refl
-kinds-pad q c (suc k) [] h = ap₂ (λ (x : ℕ) (t : List ℕ). x ∷ t) (kind-word c 0 (omega arith)) (kinds-pad q c k [] (λ i. omega arith))
-kinds-pad q c (suc k) (a ∷ l) h = ap₂ (λ (x : ℕ) (t : List ℕ). x ∷ t) (kind-word c a (h 0)) (kinds-pad q c k l (λ i. h (suc i)))
+kinds-pad f c zero l h = refl
+kinds-pad f c (suc k) [] h = ap₂ (λ (x : ℕ) (t : List ℕ). x ∷ t) (kind-word c 0 (omega arith)) (kinds-pad f c k [] (λ i. omega arith))
+kinds-pad f c (suc k) (a ∷ l) h = ap₂ (λ (x : ℕ) (t : List ℕ). x ∷ t) (kind-word c a (h 0)) (kinds-pad f c k l (λ i. h (suc i)))
 
 -- ---- one record
 length-record : (o : Ops ℕ) (n mirror : ℕ) (e : Entry) → suc (genus n) + suc (genus n) ≡ n → length (recordWords o n mirror e) ≡ n + 4
@@ -67,12 +67,12 @@ length-record o n mirror e even =
     let l : length y ≡ genus n = length-map (pad o (genus n) (e .ideal .p)) (word 9) ∙ length-pad o (genus n) (e .ideal .p) in
     omega arith
 
-pub kinds-record : (q n mirror : ℕ) (e : Entry) → e .index < 268435456 → high (e .distance) < 268435456 → high mirror < 268435456 → ((i : ℕ) → getD (e .ideal .q) i 0 < 268435456) → ((i : ℕ) → getD (e .ideal .p) i 0 < 268435456) → map kind (recordWords (modulo q) n mirror e) ≡ recordKinds n
+pub kinds-record : (f : FieldName) (n mirror : ℕ) (e : Entry) → e .index < 268435456 → high (e .distance) < 268435456 → high mirror < 268435456 → ((i : ℕ) → getD (e .ideal .q) i 0 < 268435456) → ((i : ℕ) → getD (e .ideal .p) i 0 < 268435456) → map kind (recordWords (ops f) n mirror e) ≡ recordKinds n
 unfolding recordWords recordKinds
-kinds-record q n mirror e i d m hq hp = λ j. kind-word 5 (e .index) i j ∷ kind-word 6 (high (e .distance)) d j ∷ kind-word 7 (low (e .distance)) (low-less (e .distance)) j ∷ kind-word 10 (high mirror) m j ∷ kind-word 11 (low mirror) (low-less mirror) j ∷ rest j
+kinds-record f n mirror e i d m hq hp = λ j. kind-word 5 (e .index) i j ∷ kind-word 6 (high (e .distance)) d j ∷ kind-word 7 (low (e .distance)) (low-less (e .distance)) j ∷ kind-word 10 (high mirror) m j ∷ kind-word 11 (low mirror) (low-less mirror) j ∷ rest j
   where
-    rest : map kind (map (word 8) (pad (modulo q) (suc (genus n)) (e .ideal .q)) ++ map (word 9) (pad (modulo q) (genus n) (e .ideal .p))) ≡ replicate (suc (genus n)) 8 ++ replicate (genus n) 9
-    rest = map-append kind (map (word 8) (pad (modulo q) (suc (genus n)) (e .ideal .q))) (map (word 9) (pad (modulo q) (genus n) (e .ideal .p))) ∙ ap₂ (λ (x y : List ℕ). x ++ y) (kinds-pad q 8 (suc (genus n)) (e .ideal .q) hq) (kinds-pad q 9 (genus n) (e .ideal .p) hp)
+    rest : map kind (map (word 8) (pad (ops f) (suc (genus n)) (e .ideal .q)) ++ map (word 9) (pad (ops f) (genus n) (e .ideal .p))) ≡ replicate (suc (genus n)) 8 ++ replicate (genus n) 9
+    rest = map-append kind (map (word 8) (pad (ops f) (suc (genus n)) (e .ideal .q))) (map (word 9) (pad (ops f) (genus n) (e .ideal .p))) ∙ ap₂ (λ (x y : List ℕ). x ++ y) (kinds-pad f 8 (suc (genus n)) (e .ideal .q) hq) (kinds-pad f 9 (genus n) (e .ideal .p) hp)
 
 distance-record : (o : Ops ℕ) (n mirror : ℕ) (e : Entry) → high (e .distance) < 268435456 → joined (value (getD (recordWords o n mirror e) 1 0)) (value (getD (recordWords o n mirror e) 2 0)) ≡ e .distance
 unfolding recordWords

@@ -2,4 +2,3 @@
 pub mod head;
 pub mod layout;
 pub mod radicand;
-pub mod words;
