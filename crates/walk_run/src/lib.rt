@@ -61,10 +61,10 @@ pub fn seek(
     budget: u64,
 ) -> Outcome
     requires { ⌜ IsField f ⌝ }
-    requires { ⌜ Admitted (f .q) (genus n) (polyAt (now radicand) size) ⌝ }
-    requires { ⌜ HeldAt (f .q) (now radicand) size × (2 ≤ n) × (budget < 268435456) ⌝ }
+    requires { ⌜ Admitted (name f) (genus n) (polyAt (now radicand) size) ⌝ }
+    requires { ⌜ HeldAt (name f) (now radicand) size × (2 ≤ n) × (budget < 268435456) ⌝ }
     requires { ⌜ Prepared (name f) (genus n) (polyAt (now radicand) size) (now inverses) (now d) (now twice) ⌝ }
-    ensures { λ r. ⌜ meaning r ≡ outcomeOf (ticket (f .q) n (polyAt (now (radicand .entry)) size) budget) ⌝ }
+    ensures { λ r. ⌜ meaning r ≡ outcomeOf (ticket (name f) n (polyAt (now (radicand .entry)) size) budget) ⌝ }
 {
     let top = n / 2 + 1;
     let mut a = [0u32; 129];
@@ -105,9 +105,9 @@ pub fn seek(
 // The outcome of the walk of √D within the budget. D is the radicand, of degree n.
 pub fn run(f: Field, n: usize, radicand: Poly, budget: u64) -> Outcome
     requires { ⌜ IsField f ⌝ }
-    requires { ⌜ Admitted (f .q) (genus n) (poly radicand) ⌝ }
+    requires { ⌜ Admitted (name f) (genus n) (poly radicand) ⌝ }
     requires { ⌜ Held f radicand × (2 ≤ n) × (budget < 268435456) ⌝ }
-    ensures { λ r. ⌜ meaning r ≡ outcomeOf (ticket (f .q) n (poly radicand) budget) ⌝ }
+    ensures { λ r. ⌜ meaning r ≡ outcomeOf (ticket (name f) n (poly radicand) budget) ⌝ }
 {
     let mut inverses = [0u32; 4096];
     let mut d = [0u32; 129];

@@ -24,7 +24,7 @@ use Rattle.base_polynomial.specs.Places.{Within}
 use Rattle.walk_step.specs.Step.{stepQuo, nextRem, nextQ, Ready, Stepped}
 
 -- ---- padded lists
-pub pad-within : (q : ℕ) (l : List ℕ) (n : ℕ) → length l ≤ n → n ≤ 129 → ((i : ℕ) → getD l i 0 < q) → Within q (pad (modulo q) 129 l) n
+pub pad-within : (q : ℕ) (l : List ℕ) (n : ℕ) → length l ≤ n → n ≤ 129 → ((i : ℕ) → getD l i 0 < q) → Within (prime q) (pad (modulo q) 129 l) n
 pad-within q l n h k b =
     record {
       reduced = λ i. subst (λ (x : ℕ). x < q) (sym (at-pad (modulo q) 129 l (omega arith) i)) (b i);
@@ -35,19 +35,19 @@ pub pad-series : (q : ℕ) (z : 0 < q) (l : List ℕ) → length l ≤ 129 → s
 pad-series q z l h = fun-ext (λ i. ap (model q z .φ) (at-pad (modulo q) 129 l h i))
 
 -- the root d of D
-abbrev pub rootD : ℕ → ℕ → List ℕ → List ℕ
-rootD q g D = root (modulo q) D (suc g)
+abbrev pub rootD : FieldName → ℕ → List ℕ → List ℕ
+rootD f g D = root (ops f) D (suc g)
 
 -- the Q before, Q, of so many coefficients, and the remainder, each in its array
 pub record State (f : FieldName) (g : ℕ) (D : List ℕ) (i : ℕ) (before-array current rest : List ℕ) (size : ℕ) : Type 0 where
-  pub before-is : before-array ≡ pad (ops f) 129 (before (ops f) D (rootD (f .q) g D) i)
-  pub q-is : current ≡ pad (ops f) 129 (Q (ops f) D (rootD (f .q) g D) i)
-  pub left-is : rest ≡ pad (ops f) 129 (left (ops f) D (rootD (f .q) g D) i)
-  pub size-is : size ≡ length (Q (ops f) D (rootD (f .q) g D) i)
+  pub before-is : before-array ≡ pad (ops f) 129 (before (ops f) D (rootD f g D) i)
+  pub q-is : current ≡ pad (ops f) 129 (Q (ops f) D (rootD f g D) i)
+  pub left-is : rest ≡ pad (ops f) 129 (left (ops f) D (rootD f g D) i)
+  pub size-is : size ≡ length (Q (ops f) D (rootD f g D) i)
 
-module _ (q g : ℕ) (D : List ℕ) (h : Admitted q g D) where
+module _ (q g : ℕ) (D : List ℕ) (h : Admitted (prime q) g D) where
   abbrev d : List ℕ
-  d = rootD q g D
+  d = rootD (prime q) g D
 
   abbrev twice : List ℕ
   twice = add (modulo q) d d
@@ -112,9 +112,9 @@ module _ (q g : ℕ) (D : List ℕ) (h : Admitted q g D) where
     pub state-ready : Ready (prime q) (suc (suc g)) size s c b r
     state-ready =
         record {
-          twice-within = subst (λ (x : List ℕ). Within q x (suc (suc g))) (sym twice-is) (pad-within q twice (suc (suc g)) twice-length (let l = h .genus-most in omega arith) (oks-add M d d));
-          rest-within = subst (λ (x : List ℕ). Within q x (suc (suc g))) (sym (t .left-is)) (pad-within q _ (suc (suc g)) (left-length (surd-of h) i) (let l = h .genus-most in omega arith) (left-oks (surd-of h) i));
-          current-within = subst₂ (Within q) (sym (t .q-is)) (sym (t .size-is)) (pad-within q _ _ (omega arith) (let l = h .genus-most in let k = Q-length (surd-of h) i in omega arith) (Q-oks (surd-of h) i));
+          twice-within = subst (λ (x : List ℕ). Within (prime q) x (suc (suc g))) (sym twice-is) (pad-within q twice (suc (suc g)) twice-length (let l = h .genus-most in omega arith) (oks-add M d d));
+          rest-within = subst (λ (x : List ℕ). Within (prime q) x (suc (suc g))) (sym (t .left-is)) (pad-within q _ (suc (suc g)) (left-length (surd-of h) i) (let l = h .genus-most in omega arith) (left-oks (surd-of h) i));
+          current-within = subst₂ (Within (prime q)) (sym (t .q-is)) (sym (t .size-is)) (pad-within q _ _ (omega arith) (let l = h .genus-most in let k = Q-length (surd-of h) i in omega arith) (Q-oks (surd-of h) i));
           lead-some = λ e. Q-deg (surd-of h) i .top (ap (M .φ) (sym (at-pad (modulo q) 129 _ (let l = h .genus-most in let k = Q-length (surd-of h) i in omega arith) _) ∙ sym (ap₂ (λ (l : List ℕ) (n : ℕ). getD l (n - 1) 0) (t .q-is) (t .size-is)) ∙ e));
           before-reduced = λ j. subst (λ (x : List ℕ). getD x j 0 < q) (sym (t .before-is)) (pad-within q _ 129 (let e = h .size-D in let l = h .genus-most in before-length (surd-of h) 129 (omega arith) (omega arith) i) (omega arith) (before-oks (surd-of h) (h .below) i) .reduced j);
           short = subst (λ (l : List ℕ). length l ≤ suc (suc g)) (sym q-next) (let k = Q-length (surd-of h) (suc i) in omega arith);

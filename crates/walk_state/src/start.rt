@@ -35,7 +35,7 @@ fn coefficient(f: Field, h: usize, e: usize, radicand: &[u32; 129], d: &[u32; 12
     requires { ⌜ IsField f ⌝ }
     requires { ⌜ (e < h) × (h ≤ 64) ⌝ }
     requires { ⌜ ((i : ℕ) → getD (now radicand) i 0 < f .q) ⌝ }
-    requires { ⌜ Within (f .q) (now d) (h + 1) ⌝ }
+    requires { ⌜ Within (name f) (now d) (h + 1) ⌝ }
     ensures { λ r. ⌜ r ≡ ops f .mul (ops f .sub (getD (now (radicand .entry)) (e + h) 0) (getD (mulOf (ops f) (now (d .entry)) (now (d .entry))) (e + h) 0)) (ops f .inv 2) ⌝ }
 {
     let square = dot(f, d, d, e + h, h + 1, h + 1);
@@ -69,7 +69,7 @@ pub fn prepare(
     twice: &mut [u32; 129],
 )
     requires { ⌜ IsField f ⌝ }
-    requires { ⌜ Admitted (f .q) (genus n) (poly radicand) ⌝ }
+    requires { ⌜ Admitted (name f) (genus n) (poly radicand) ⌝ }
     requires { ⌜ Held f radicand × (2 ≤ n) ⌝ }
     ensures { λ _. ⌜ Prepared (name f) (genus n) (poly radicand) (now (inverses .exit)) (now (d .exit)) (now (twice .exit)) ⌝ }
 {

@@ -46,10 +46,10 @@ module _ {q m n : ℕ} {s before b r : List ℕ} (p : Prime q) (g : Ready (prime
   next-trim = trim-add (model q pos) before _
 
   module _ {z w : List ℕ} (n-fits : n ≤ 129) (h : Moved (prime q) s before b r z w) where
-    next-result : (k : ℕ) → Top w k → Is q w k (nextQ (prime q) s before b r)
+    next-result : (k : ℕ) → Top w k → Is (prime q) w k (nextQ (prime q) s before b r)
     next-result k t = is-result q pos w k (nextQ (prime q) s before b r) next-trim (h .q-places) t
 
-    rem-result : Is q z (length (nextRem (prime q) s b r)) (nextRem (prime q) s b r)
+    rem-result : Is (prime q) z (length (nextRem (prime q) s b r)) (nextRem (prime q) s b r)
     rem-result = is-of q z (length (nextRem (prime q) s b r)) (nextRem (prime q) s b r) (h .rem-places .long) refl (let l = rem-short p (division g) in omega arith) (h .rem-places .at)
 
     pub stepped : {k : ℕ} → Top w k → Stepped (prime q) s before b r z w k

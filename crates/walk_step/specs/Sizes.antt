@@ -20,7 +20,7 @@ use Rattle.walk_step.specs.Step.{stepQuo, nextRem, Division}
 use Rattle.walk_step.specs.Down.{Down}
 
 -- the coefficient before n is the leading one
-size-top : (q : ℕ) → 0 < q → (b : List ℕ) (n : ℕ) → Within q b n → (getD b (n - 1) 0 ≡ 0 → ⊥) → length (trim (modulo q) b) ≡ n
+size-top : (q : ℕ) → 0 < q → (b : List ℕ) (n : ℕ) → Within (prime q) b n → (getD b (n - 1) 0 ≡ 0 → ⊥) → length (trim (modulo q) b) ≡ n
 size-top q pos b n w t =
     let low : length (trim (modulo q) b) ≤ n = trim-le (model q pos) b n (w .past) in
     ⊎-elim (λ (h : n ≤ length (trim (modulo q) b)). (omega arith)) (λ (h : length (trim (modulo q) b) < n). absurd (t (trim-past (model q pos) b (w .reduced) (n - 1) (omega arith)))) (le-or-lt n (length (trim (modulo q) b)))
@@ -73,15 +73,15 @@ module _ {q m n : ℕ} {s b r : List ℕ} (p : Prime q) (d : Division (prime q) 
   rem-reduced i = oks-rem (model q positive) (sub (modulo q) s r) b i
 
   -- arrays that hold them: the quotient so far, the quotient, the remainder
-  pub quo-within-down : (z : List ℕ) (k : ℕ) → k ≤ m + 1 - n → Down z (λ i. getD (stepQuo (prime q) s b r) i 0) k → Within q z (m + 1 - n)
+  pub quo-within-down : (z : List ℕ) (k : ℕ) → k ≤ m + 1 - n → Down z (λ i. getD (stepQuo (prime q) s b r) i 0) k → Within (prime q) z (m + 1 - n)
   quo-within-down z k h w =
       record {
         reduced = λ i. ⊎-elim (λ l. subst (λ (x : ℕ). x < q) (sym (w .done i l)) (quo-reduced i)) (λ l. subst (λ (x : ℕ). x < q) (sym (w .rest i l)) positive) (le-or-lt k i);
         past = λ i l. w .done i (omega arith) ∙ quo-past i l;
       }
 
-  pub quo-within : {a : List ℕ} → Places a (λ i. getD (stepQuo (prime q) s b r) i 0) → Within q a (m + 1 - n)
+  pub quo-within : {a : List ℕ} → Places a (λ i. getD (stepQuo (prime q) s b r) i 0) → Within (prime q) a (m + 1 - n)
   quo-within h = record { reduced = λ i. subst (λ (x : ℕ). x < q) (sym (h .at i)) (quo-reduced i); past = λ i l. h .at i ∙ quo-past i l }
 
-  pub rem-within : n ≤ m → {z : List ℕ} → Places z (λ i. getD (nextRem (prime q) s b r) i 0) → Within q z m
+  pub rem-within : n ≤ m → {z : List ℕ} → Places z (λ i. getD (nextRem (prime q) s b r) i 0) → Within (prime q) z m
   rem-within le h = record { reduced = λ i. subst (λ (x : ℕ). x < q) (sym (h .at i)) (rem-reduced i); past = λ i l. h .at i ∙ rem-past i (omega arith) }

@@ -27,16 +27,16 @@ module _ (f : FieldName) where
 
   -- twice − rest, of at most top coefficients, by Q of size, the coefficient before it not 0
   pub record Division (top size : ℕ) (twice current rest : List ℕ) : Type 0 where
-    pub twice-within : Within (f .q) twice top
-    pub rest-within : Within (f .q) rest top
-    pub current-within : Within (f .q) current size
+    pub twice-within : Within f twice top
+    pub rest-within : Within f rest top
+    pub current-within : Within f current size
     pub lead-some : getD current (size - 1) 0 ≡ 0 → ⊥
 
   -- the same, with the Q before, and a next Q of at most top coefficients
   pub record Ready (top size : ℕ) (twice before current rest : List ℕ) : Type 0 where
-    pub twice-within : Within (f .q) twice top
-    pub rest-within : Within (f .q) rest top
-    pub current-within : Within (f .q) current size
+    pub twice-within : Within f twice top
+    pub rest-within : Within f rest top
+    pub current-within : Within f current size
     pub lead-some : getD current (size - 1) 0 ≡ 0 → ⊥
     pub before-reduced : (i : ℕ) → getD before i 0 < f .q
     pub short : length (nextQ twice before current rest) ≤ top

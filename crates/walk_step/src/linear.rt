@@ -7,8 +7,8 @@ ghost use Rattle.spec_bridge.specs.Product.{shifted};
 ghost use Rattle.base_field.specs.Named.{IsField, Ok, name, ops};
 ghost use Rattle.base_polynomial.specs.Places.{Places};
 ghost use Rattle.walk_step.specs.Step.{stepQuo, nextRem, nextQ, Division, Ready, Moved};
-use crate::reduce::reduce;
 use base_field::Field;
+use base_field::reduce;
 
 // One coefficient of the remainder: x is that of Q, y the one before.
 fn rest_of(f: Field, twice: u32, rest: u32, a0: u32, a1: u32, x: u32, y: u32) -> u32

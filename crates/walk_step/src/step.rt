@@ -11,8 +11,8 @@ ghost use Rattle.base_polynomial.specs.Places.{Places, Within};
 ghost use Rattle.base_polynomial.specs.Row.{Bounded};
 ghost use Rattle.walk_step.specs.Step.{stepQuo, nextRem, Inverses, Division, Ready, Moved, Stepped};
 use crate::linear::linear;
-use crate::reduce::reduce;
 use base_field::Field;
+use base_field::reduce;
 use base_polynomial::product::excess;
 
 // The coefficient at k of twice − rest − x·Q, where x has l places and zeros before `from`. q − a stands for −a, so that no sum goes
@@ -30,7 +30,7 @@ fn rest_at(
     requires { ⌜ IsField f ⌝ }
     requires { ⌜ (k < 128) × (from ≤ k + 1) ⌝ }
     requires { ⌜ Bounded (f .q) (now twice) × Bounded (f .q) (now rest) × Bounded (f .q) (now current) ⌝ }
-    requires { ⌜ Within (f .q) (now x) l × ((i : ℕ) → i < from → getD (now x) i 0 ≡ 0) ⌝ }
+    requires { ⌜ Within (name f) (now x) l × ((i : ℕ) → i < from → getD (now x) i 0 ≡ 0) ⌝ }
     ensures { λ v. ⌜ v ≡ getD (sub (ops f) (sub (ops f) (now (twice .entry)) (now (rest .entry))) (mul (ops f) (now (x .entry)) (now (current .entry)))) k 0 ⌝ }
 {
     let q = f.q;
@@ -57,7 +57,7 @@ fn next_at(
     requires { ⌜ IsField f ⌝ }
     requires { ⌜ k < 128 ⌝ }
     requires { ⌜ Bounded (f .q) (now before) × Bounded (f .q) (now remains) × Bounded (f .q) (now rest) ⌝ }
-    requires { ⌜ Within (f .q) (now a) l ⌝ }
+    requires { ⌜ Within (name f) (now a) l ⌝ }
     ensures { λ v. ⌜ v ≡ getD (add (ops f) (now (before .entry)) (mul (ops f) (now (a .entry)) (sub (ops f) (now (remains .entry)) (now (rest .entry))))) k 0 ⌝ }
 {
     let q = f.q;
@@ -139,7 +139,7 @@ fn next(
     requires { ⌜ IsField f ⌝ }
     requires { ⌜ top ≤ 128 ⌝ }
     requires { ⌜ Bounded (f .q) (now before) × Bounded (f .q) (now remains) × Bounded (f .q) (now rest) ⌝ }
-    requires { ⌜ Within (f .q) (now a) l ⌝ }
+    requires { ⌜ Within (name f) (now a) l ⌝ }
     requires { ⌜ length (add (ops f) (now before) (mul (ops f) (now a) (sub (ops f) (now remains) (now rest)))) ≤ top ⌝ }
     ensures { λ _. ⌜ Places (now (after .exit)) (λ i. getD (add (ops f) (now (before .entry)) (mul (ops f) (now (a .entry)) (sub (ops f) (now (remains .entry)) (now (rest .entry))))) i 0) ⌝ }
 {

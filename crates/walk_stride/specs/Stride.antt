@@ -19,9 +19,9 @@ use Rattle.walk_stride.specs.declared.Progress.{Progress}
 use Rattle.walk_stride.specs.Progress.{Taken, Turned}
 use Rattle.walk_stride.specs.Walked.{Walked, NoneTo, degree-next}
 
-module _ {q g top : ℕ} {D table d twice : List ℕ} (h : Admitted q g D) (e : top ≡ suc (suc g)) (p : Prepared (prime q) g D table d twice) {before current rest : List ℕ} {at : Progress} (t : Walked (prime q) g D before current rest at) where
+module _ {q g top : ℕ} {D table d twice : List ℕ} (h : Admitted (prime q) g D) (e : top ≡ suc (suc g)) (p : Prepared (prime q) g D table d twice) {before current rest : List ℕ} {at : Progress} (t : Walked (prime q) g D before current rest at) where
   abbrev root : List ℕ
-  root = rootD q g D
+  root = rootD (prime q) g D
 
   module _ {remains after : List ℕ} {to : Progress} (u : Taken (prime q) top twice before current rest remains after at to) where
     index-suc : to .index .0 ≡ suc (at .index .0)
@@ -35,11 +35,11 @@ module _ {q g top : ℕ} {D table d twice : List ℕ} (h : Admitted q g D) (e : 
     stride-walked =
         record {
           state = next;
-          degree-is = u .degree-is ∙ ap (λ (m : ℕ). at .degree .0 + (m - at .size)) e ∙ degree-next h e p t ∙ ap (degreeBefore (modulo q) D (rootD q g D)) (sym index-suc);
+          degree-is = u .degree-is ∙ ap (λ (m : ℕ). at .degree .0 + (m - at .size)) e ∙ degree-next h e p t ∙ ap (degreeBefore (modulo q) D (rootD (prime q) g D)) (sym index-suc);
         }
 
     -- the constant coefficient of Q
-    pub stride-last : to .last ≡ getD (Q (modulo q) D (rootD q g D) (to .index .0)) 0 0
+    pub stride-last : to .last ≡ getD (Q (modulo q) D (rootD (prime q) g D) (to .index .0)) 0 0
     stride-last =
         u .last-is ∙ ap (λ (l : List ℕ). getD l 0 0) (next .q-is) ∙ at-pad (modulo q) 129 _ (let m = Q-length (surd-of h) (to .index .0) in let n = h .genus-most in omega arith) 0
 
@@ -47,10 +47,10 @@ module _ {q g top : ℕ} {D table d twice : List ℕ} (h : Admitted q g D) (e : 
     pub stride-none : NoneTo (prime q) g D at → (to .size ≡ 1 → ⊥) → NoneTo (prime q) g D to
     stride-none none f j k l =
         let i = index-suc in
-        ⊎-elim (λ s. λ o. f (next .size-is ∙ ap (λ (m : ℕ). length (Q (modulo q) D (rootD q g D) m)) (sym s) ∙ o)) (λ s. none j k (omega arith)) (eq-or-lt-of-le l)
+        ⊎-elim (λ s. λ o. f (next .size-is ∙ ap (λ (m : ℕ). length (Q (modulo q) D (rootD (prime q) g D) m)) (sym s) ∙ o)) (λ s. none j k (omega arith)) (eq-or-lt-of-le l)
 
     -- it is constant
-    pub stride-found : (m : ℕ) → NoneTo (prime q) g D at → at .index .0 < m → to .size ≡ 1 → Quasi (modulo q) D (rootD q g D) m (to .index .0)
+    pub stride-found : (m : ℕ) → NoneTo (prime q) g D at → at .index .0 < m → to .size ≡ 1 → Quasi (modulo q) D (rootD (prime q) g D) m (to .index .0)
     stride-found m none l f =
         let i = index-suc in
         record { positive = omega arith; within = omega arith; constant = sym (next .size-is) ∙ f; least = λ j k o. none j k (omega arith) }

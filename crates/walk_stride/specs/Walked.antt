@@ -23,27 +23,27 @@ use Rattle.walk_stride.specs.Progress.{Begun, Going, Taken, Turned}
 
 pub record Walked (f : FieldName) (g : ℕ) (D before current rest : List ℕ) (at : Progress) : Type 0 where
   pub state : State f g D (at .index .0) before current rest (at .size)
-  pub degree-is : at .degree .0 ≡ degreeBefore (ops f) D (rootD (f .q) g D) (at .index .0)
+  pub degree-is : at .degree .0 ≡ degreeBefore (ops f) D (rootD f g D) (at .index .0)
 
 -- no Q of an index from 1 to that of the walk is constant
 abbrev pub NoneTo : FieldName → ℕ → List ℕ → Progress → Type 0
-NoneTo f g D at = NoQuasi (ops f) D (rootD (f .q) g D) (at .index .0)
+NoneTo f g D at = NoQuasi (ops f) D (rootD f g D) (at .index .0)
 
 -- D, 1 and d in their places
-pub walked-first : {q g : ℕ} (c : List ℕ) (l : ℕ) {table d twice before current rest : List ℕ} {at : Progress} → Admitted q g (poly c l) → Held q c l → Prepared (prime q) g (poly c l) table d twice → Begun c d before current rest at → Walked (prime q) g (poly c l) before current rest at
+pub walked-first : {q g : ℕ} (c : List ℕ) (l : ℕ) {table d twice before current rest : List ℕ} {at : Progress} → Admitted (prime q) g (poly c l) → Held (prime q) c l → Prepared (prime q) g (poly c l) table d twice → Begun c d before current rest at → Walked (prime q) g (poly c l) before current rest at
 walked-first {q} {g} c l {d = d} {before = x} {current = y} {rest = z} {at = at} h k p b =
     let t = state-first q g (poly c l) h in
     record {
       state =
           subst₂ (λ (i j : ℕ). State (prime q) g (poly c l) i x y z j) (sym (b .index-is)) (sym (b .size-is))
           (record { before-is = b .before-is ∙ k .places ∙ t .before-is; q-is = b .current-is ∙ one-is q (h .prime .two) ∙ t .q-is; left-is = b .rest-is ∙ p .root-is ∙ t .left-is; size-is = t .size-is });
-      degree-is = b .degree-is ∙ sym (degree-zero (surd-of h)) ∙ ap (degreeBefore (modulo q) (poly c l) (rootD q g (poly c l))) (sym (b .index-is));
+      degree-is = b .degree-is ∙ sym (degree-zero (surd-of h)) ∙ ap (degreeBefore (modulo q) (poly c l) (rootD (prime q) g (poly c l))) (sym (b .index-is));
     }
 
 pub none-first : (q g : ℕ) (D : List ℕ) {radicand d before current rest : List ℕ} {at : Progress} → Begun radicand d before current rest at → NoneTo (prime q) g D at
 none-first q g D b j k l = let e = b .index-is in absurd (omega arith)
 
-module _ {q g top : ℕ} {D table d twice : List ℕ} (h : Admitted q g D) (e : top ≡ suc (suc g)) (p : Prepared (prime q) g D table d twice) {before current rest : List ℕ} {at : Progress} (t : Walked (prime q) g D before current rest at) where
+module _ {q g top : ℕ} {D table d twice : List ℕ} (h : Admitted (prime q) g D) (e : top ≡ suc (suc g)) (p : Prepared (prime q) g D table d twice) {before current rest : List ℕ} {at : Progress} (t : Walked (prime q) g D before current rest at) where
   pub size-some : 0 < at .size
   size-some = let k = t .state .size-is in let m = Q-some (surd-of h) (at .index .0) in omega arith
 
@@ -51,7 +51,7 @@ module _ {q g top : ℕ} {D table d twice : List ℕ} (h : Admitted q g D) (e : 
   size-most = let k = t .state .size-is in let m = Q-length (surd-of h) (at .index .0) in omega arith
 
   -- the degree after one step more, and that it fits
-  pub degree-next : at .degree .0 + (suc (suc g) - at .size) ≡ degreeBefore (modulo q) D (rootD q g D) (suc (at .index .0))
+  pub degree-next : at .degree .0 + (suc (suc g) - at .size) ≡ degreeBefore (modulo q) D (rootD (prime q) g D) (suc (at .index .0))
   degree-next = sym (degree-suc (surd-of h) (at .index .0) ∙ ap₂ (λ (i k : ℕ). i + (suc (suc g) - k)) (sym (t .degree-is)) (sym (t .state .size-is)))
 
   degree-fits : at .index .0 < 268435456 → at .degree .0 ≤ 8589934592

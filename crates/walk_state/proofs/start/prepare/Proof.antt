@@ -3,6 +3,7 @@ use Prim.Native.Nat.{suc, _+_, _/_, _≤_}
 use native.Mathlib.Omega.{arith}
 use mathlib.Core.Path.{_≡_, subst}
 use borrow.Author.Needs.{needs}
+use Rattle.spec_definitions.specs.Field.{prime}
 use Rattle.spec_definitions.specs.Ticket.{genus}
 use Rattle.base_polynomial.specs.Places.{Within}
 use Rattle.walk_state.specs.Start.{half-degree, root-places, root-within, twice-places}
@@ -28,8 +29,8 @@ add-places-requires c κs =
     let h : s .args .n / 2 ≡ suc (genus (s .args .n)) = half-degree (s .args .n) (s .pre .1 .1 .1) in
     let g : genus (s .args .n) ≤ 31 = s .pre .1 .0 .genus-most in
     let d = c .before .before .root .last .1 .1 .1 .0 in
-    let w : Within (s .args .f .q) d (s .args .n / 2 + 1) = subst (Within (s .args .f .q) d) (let v : suc (suc (genus (s .args .n))) ≡ s .args .n / 2 + 1 = omega arith in v) (root-within (s .args .f .q) (s .args .n) (s .args .t3 .c) (s .args .t3 .size) (s .pre .1 .0) (s .pre .1 .1 .0) (s .pre .1 .1 .1) d (root-places (s .args .f .q) (s .args .n) (s .args .t3 .c) (s .args .t3 .size) (s .pre .1 .0) (s .pre .1 .1 .0) (s .pre .1 .1 .1) d (c .before .before .root .ensures))) in
-    ((s .pre .0 .2, omega arith), (w, w))
+    let w : Within (prime (s .args .f .q)) d (s .args .n / 2 + 1) = subst (Within (prime (s .args .f .q)) d) (let v : suc (suc (genus (s .args .n))) ≡ s .args .n / 2 + 1 = omega arith in v) (root-within (s .args .f .q) (s .args .n) (s .args .t3 .c) (s .args .t3 .size) (s .pre .1 .0) (s .pre .1 .1 .0) (s .pre .1 .1 .1) d (root-places (s .args .f .q) (s .args .n) (s .args .t3 .c) (s .args .t3 .size) (s .pre .1 .0) (s .pre .1 .1 .0) (s .pre .1 .1 .1) d (c .before .before .root .ensures))) in
+    ((s .pre .0, omega arith), (w, w))
 
 returns : tie.Need-returns
 returns c =
