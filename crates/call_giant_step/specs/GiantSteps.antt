@@ -125,12 +125,9 @@ number-zero : (t : Ticket) (x : Ideal ℕ) (d : ℕ) (y : Ideal ℕ) (e : ℕ) �
 unfolding giantDone
 number-zero t x d y e = refl
 
-pub giant-done-says : {f : FieldName} {n : ℕ} {D : List ℕ} {b : ℕ} {x : Ideal ℕ} {d : ℕ} {y : Ideal ℕ} {e : ℕ} {r : Giant} → wrongDistance d e ≡ false → Stepped f n D x d y e r → {words : ℕ} {u v : ℤ} → u ≡ r .f → v ≡ r .distance
+pub giant-done-says : {f : FieldName} {n : ℕ} {D : List ℕ} (b : ℕ) {x : Ideal ℕ} {d : ℕ} {y : Ideal ℕ} {e : ℕ} {r : Giant} → wrongDistance d e ≡ false → Stepped f n D x d y e r → {words : ℕ} {u v : ℤ} → u ≡ r .f → v ≡ r .distance
     → GiantStepSays (record { words = words; number = 0; q = r .q; p = r .p; f = u; distance = v }) (giantNear (ticket f n D b) x d y e)
-giant-done-says {f} {n} {D} {b} {x} {d} {y} {e} h s i j = says-path (near-done (ticket f n D b) x d y e h) (done s i j)
+giant-done-says {f} {n} {D} b {x} {d} {y} {e} h s i j = says-path (near-done (ticket f n D b) x d y e h) (done s i j)
   where
     done : {r : Giant} → Stepped f n D x d y e r → {words : ℕ} {u v : ℤ} → u ≡ r .f → v ≡ r .distance → GiantStepSays (record { words = words; number = 0; q = r .q; p = r .p; f = u; distance = v }) (giantDone (ticket f n D b) x d y e)
-    done s i j = record { number-is = number-done; q-is = holds (s .q-is b); p-is = holds (s .p-is b); f-is = i ∙ s .f-is b; distance-is = j ∙ s .distance-is b }
-
-    number-done : 0 ≡ giantDone (ticket f n D b) x d y e .number
-    number-done = number-zero (ticket f n D b) x d y e
+    done s i j = record { number-is = number-zero (ticket f n D b) x d y e; q-is = holds (s .q-is b); p-is = holds (s .p-is b); f-is = i ∙ s .f-is b; distance-is = j ∙ s .distance-is b }

@@ -30,9 +30,9 @@ unfolding productRefused
 product-zeros h = record { number-is = refl; s-is = h; q-is = h; p-is = h }
 
 -- S, Q and P of the product
-pub product-done-says : {f : FieldName} {n : ℕ} {D : List ℕ} {b : ℕ} {x y : Ideal ℕ} {m : Product} → Multiplied f D x y m → {words : ℕ} → ProductSays (record { words = words; number = 0; s = m .s; q = m .q; p = m .p }) (productDone (ticket f n D b) x y)
+pub product-done-says : {f : FieldName} (n : ℕ) {D : List ℕ} (b : ℕ) {x y : Ideal ℕ} {m : Product} → Multiplied f D x y m → {words : ℕ} → ProductSays (record { words = words; number = 0; s = m .s; q = m .q; p = m .p }) (productDone (ticket f n D b) x y)
 unfolding productDone
-product-done-says m = record { number-is = refl; s-is = holds (m .s-is); q-is = holds (m .q-is); p-is = holds (m .p-is) }
+product-done-says n b m = record { number-is = refl; s-is = holds (m .s-is); q-is = holds (m .q-is); p-is = holds (m .p-is) }
 
 -- ---- the answers
 module _ (w : List ℕ) (x y : Ideal ℕ) where

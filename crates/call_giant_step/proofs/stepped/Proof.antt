@@ -32,7 +32,7 @@ returns-2 c =
     let r = c .before .before .before .giant .ensures in
     let f = toZ-ofZ {w = w64} {z = c .before .before .before .giant .result .f} (record { sfits = c .struct-told .given .1 .1 .0 .1 }) in
     let e = toZ-ofZ {w = w64} {z = c .before .before .before .giant .result .distance} (record { sfits = c .struct-told .given .1 .1 .1 .0 .1 }) in
-    (refl, giant-done-says (sym (c .before .before .before .before .before .before .far .ensures) ∙ c .before .before .before .before .before .if1 .left) r f e)
+    (refl, giant-done-says _ (sym (c .before .before .before .before .before .before .far .ensures) ∙ c .before .before .before .before .before .if1 .left) r f e)
 
 pub stepped-spec : {M : Type 1} → statement M
 stepped-spec =

@@ -59,7 +59,7 @@ returns-3 c =
     let f = both-true _ _ e in
     let x = d .before .before .before .pair .ensures in
     let y = d .before .before .pair2 .ensures in
-    (refl, says-path (product-done _ _ _ _ (a .passes) (a .ticket-is) (pairs-right x y _ e)) (product-done-says (multiplied-words x y (a .radicand) (f .0) (f .1) (c .before .before .before .product .ensures))))
+    (refl, says-path (product-done _ _ _ _ (a .passes) (a .ticket-is) (pairs-right x y _ e)) (product-done-says _ _ (multiplied-words x y (a .radicand) (f .0) (f .1) (c .before .before .before .product .ensures))))
 
 pub product-spec : {M : Type 1} → statement M
 product-spec =
