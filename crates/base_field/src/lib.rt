@@ -2,27 +2,16 @@
 pub mod primes;
 
 ghost use mathlib.Core.Path.{_≡_};
-ghost use Prim.Native.Nat.{_/_, _<_};
-ghost use Rattle.base_field.specs.Named.{ops, largest};
+ghost use Prim.Native.Nat.{_<_};
+ghost use Rattle.base_field.specs.Named.{ops};
 
 // The largest number of 32 bits.
-const LARGEST: u32 = 4294967295;
+pub const LARGEST: u32 = 4294967295;
 
 // The field of q elements, for q an odd prime below 4,096, with what takes the place of a division by q: the reciprocal is (2³² − 1) div q.
 pub struct Field {
     pub q: u32,
     pub reciprocal: u32,
-}
-
-// The field of q elements.
-pub fn field_of(q: u32) -> Field
-    requires { ⌜ 0 < q ⌝ }
-    ensures { λ f. ⌜ (f .q ≡ q) × (f .reciprocal ≡ largest / q) ⌝ }
-{
-    Field {
-        q,
-        reciprocal: LARGEST / q,
-    }
 }
 
 // a + b.

@@ -12,9 +12,9 @@ ghost use Rattle.base_field.specs.Named.{ops};
 use base_counters::Distance;
 use base_field::Field;
 use base_polynomial::Poly;
-use walk_state::start::prepare;
 use walk_round::Progress;
 use walk_round::round;
+use walk_state::start::prepare;
 
 // The degree of p_{steps − 1}: so many steps, past every constant Q. D is the first `length` places of `radicand`.
 fn advance(

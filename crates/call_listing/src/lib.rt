@@ -10,12 +10,12 @@ ghost use Rattle.call_regulator.specs.Found.{Found};
 ghost use Rattle.call_listing.specs.Listing.{Answers};
 use base_counters::Distance;
 use base_counters::Index;
-use listing_records::listing::write_listing;
 use call_regulator::Answer;
-use walk_run::Outcome;
-use walk_run::run;
+use listing_records::listing::write_listing;
 use ticket_read::Ticket;
 use ticket_read::read_ticket;
+use walk_run::Outcome;
+use walk_run::run;
 
 // The records of a walk that is found with r, m, c, where the list has room for them.
 fn list_found(t: Ticket, r: Distance, m: Index, c: u32, out: &mut [u32]) -> Outcome

@@ -8,9 +8,9 @@ ghost use Rattle.spec_definitions.specs.Ticket.{ticketOf};
 ghost use Rattle.spec_definitions.specs.Products.{productAnswer};
 ghost use Rattle.base_polynomial.specs.Record.{Is as IsAt};
 ghost use Rattle.call_product.specs.Products.{ProductSays, pairOf};
-use ideal_pair::operand::pair;
 use base_polynomial::Poly;
 use base_polynomial::linear::zero;
+use ideal_pair::operand::pair;
 use ticket_read::read_ticket;
 
 // The number of words handed in, the number of a refusal or 0, and S, Q, P: zero in a refusal.

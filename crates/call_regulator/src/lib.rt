@@ -4,9 +4,9 @@ ghost use lib.ListN.{length};
 ghost use Rattle.spec_definitions.specs.Answers.{said, regulatorOf};
 ghost use Rattle.spec_demands.specs.LeastDegree.{Least};
 ghost use Rattle.walk_run.specs.Outcome.{meaning};
+use ticket_read::read_ticket;
 use walk_run::Outcome;
 use walk_run::run;
-use ticket_read::read_ticket;
 
 // The number of words handed in, and one of three outcomes.
 pub struct Answer {

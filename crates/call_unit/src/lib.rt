@@ -12,14 +12,14 @@ ghost use Rattle.call_regulator.specs.Found.{Found};
 ghost use Rattle.unit_lists.specs.Lists.{lists};
 ghost use Rattle.spec_demands.specs.LeastAnswers.{LeastWritten};
 ghost use Rattle.call_unit.specs.Unit.{Answers};
-use unit_lists::unit::write_unit;
 use base_counters::Distance;
 use base_counters::Index;
 use call_regulator::Answer;
-use walk_run::Outcome;
-use walk_run::run;
 use ticket_read::Ticket;
 use ticket_read::read_ticket;
+use unit_lists::unit::write_unit;
+use walk_run::Outcome;
+use walk_run::run;
 
 // Each of four lists of these lengths has places 0 to r.
 fn room(r: u64, p: usize, s: usize, x: usize, y: usize) -> bool

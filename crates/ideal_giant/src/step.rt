@@ -11,10 +11,10 @@ ghost use Rattle.ideal_giant.specs.Stepped.{Stepped};
 use crate::Giant;
 use base_counters::Distance;
 use base_field::Field;
-use ideal_product::multiply::product;
 use base_polynomial::Poly;
 use base_polynomial::division::div_rem;
 use base_polynomial::linear::monic;
+use ideal_product::multiply::product;
 use ideal_reduce::reduce::reduce;
 
 // total − lower.

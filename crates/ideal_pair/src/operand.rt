@@ -15,11 +15,11 @@ ghost use Rattle.ideal_product.specs.Operand.{heldPair};
 ghost use Rattle.ideal_pair.specs.Pair.{wordsFit, isIdeal, Paired};
 use crate::Pair;
 use base_field::Field;
-use ideal_product::multiply::cofactor;
 use base_polynomial::Poly;
 use base_polynomial::linear::lead;
 use base_polynomial::linear::top;
 use base_polynomial::linear::zero;
+use ideal_product::multiply::cofactor;
 
 // Some word is q or more.
 fn some_from(f: Field, words: &[u32]) -> bool

@@ -14,12 +14,12 @@ ghost use Rattle.base_field.specs.Named.{ops};
 use crate::Reduced;
 use crate::Stage;
 use base_field::Field;
-use ideal_product::multiply::cofactor;
 use base_polynomial::Poly;
 use base_polynomial::division::div_rem;
 use base_polynomial::linear::add;
 use base_polynomial::linear::sub;
 use base_polynomial::product::mul;
+use ideal_product::multiply::cofactor;
 
 // a = (P + d) div Q.
 fn stage(f: Field, d: Poly, q: Poly, p: Poly) -> Stage

@@ -11,9 +11,9 @@ ghost use Rattle.walk_state.specs.Start.{Prepared, ticket};
 ghost use Rattle.listing_records.specs.Listed.{Listable};
 use base_counters::Distance;
 use base_counters::Index;
-use listing_record::write_record;
 use base_field::Field;
 use base_polynomial::Poly;
+use listing_record::write_record;
 use walk_state::start::prepare;
 use walk_state::turn::turn;
 

@@ -1,12 +1,12 @@
 -- What any list of words is read as: the number of the first refusal with the ticket, whose values are all zero where it is refused.
-use Prim.Native.Nat.{ℕ, zero, suc, _+_, _≤_}
+use Prim.Native.Nat.{ℕ, zero, suc, _+_, _≤_, _<_}
 use native.Mathlib.Omega.{arith}
 use mathlib.Core.Path.{_≡_, refl, sym, ap, _∙_, subst}
 use mathlib.Core.List.{List, []}
 use lib.ListN.{length, getD}
 use Rattle.spec_definitions.specs.Words.{value}
-use Rattle.spec_definitions.specs.Ticket.{Ticket, ticketOf, wrongDegree, wrongLayout, refusalOf}
-use Rattle.spec_laws.specs.Admitted.{passed}
+use Rattle.spec_definitions.specs.Ticket.{Ticket, ticketOf, wrongPrime, wrongDegree, wrongLayout, refusalOf}
+use Rattle.spec_laws.specs.Admitted.{passed, prime-of}
 use Rattle.base_polynomial.specs.Record.{Is}
 use Rattle.ticket_tests.specs.Radicand.{coefficients}
 use Rattle.ticket_tests.specs.Refusal.{head-long, degree-most, layout-length}
@@ -72,6 +72,11 @@ module _ (w : List ℕ) where
     -- the words that are read are there
     pub long : k ≡ 0 → 7 ≤ length w
     long none = head-long w (passed w (sym k-is ∙ none) .head)
+
+    -- q is not 0
+    pub some-q : k ≡ 0 → (q : ℕ) → q ≡ value (getD w 0 0) → 0 < q
+    unfolding ticketOf
+    some-q none q q-is = let p = prime-of q (ap wrongPrime q-is ∙ passed w (sym k-is ∙ none) .prime) in let two = p .prime .two in omega arith
 
     module _ (none : k ≡ 0) (n : ℕ) (n-is : n ≡ value (getD w 1 0)) where
       pub most : n ≤ 64

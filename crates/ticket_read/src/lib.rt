@@ -4,7 +4,7 @@ ghost use mathlib.Core.Path.{_≡_};
 ghost use Rattle.spec_definitions.specs.Ticket.{refusalOf};
 ghost use Rattle.ticket_read.specs.Read.{readOf, Stands};
 use base_field::Field;
-use base_field::field_of;
+use base_field::LARGEST;
 use base_field::primes::is_odd_prime;
 use base_polynomial::Poly;
 use base_polynomial::linear::zero;
@@ -43,7 +43,11 @@ fn refusal(words: &[u32]) -> u32
         return 4;
     }
     let d = radicand(n, words);
-    radicand_refusal(field_of(q), n, d)
+    let field = Field {
+        q,
+        reciprocal: LARGEST / q,
+    };
+    radicand_refusal(field, n, d)
 }
 
 // The ticket that words of any number and any values say.
@@ -67,9 +71,13 @@ pub fn read_ticket(words: &[u32]) -> Ticket
     let n = value(words[1]) as usize;
     let radicand = radicand(n, words);
     let budget = value(words[n + 3]) as u64;
+    let field = Field {
+        q,
+        reciprocal: LARGEST / q,
+    };
     Ticket {
         number,
-        field: field_of(q),
+        field,
         n,
         radicand,
         budget,

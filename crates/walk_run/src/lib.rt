@@ -12,9 +12,9 @@ use base_counters::Distance;
 use base_counters::Index;
 use base_field::Field;
 use base_polynomial::Poly;
-use walk_state::start::prepare;
 use walk_round::Progress;
 use walk_round::round;
+use walk_state::start::prepare;
 
 // Found with R, m and c; spent with the steps made and the degree reached; refused with its number.
 pub enum Outcome {
@@ -28,7 +28,11 @@ fn constant(f: Field, m: Index, c: u32) -> u32
     requires { ⌜ (f .q < 4096) × (c < f .q) ⌝ }
     ensures { λ r. ⌜ r ≡ signed (f .q) (m .0) c ⌝ }
 {
-    if m.0 % 2 == 0 { c } else { base_field::neg(f, c) }
+    if m.0 % 2 == 0 {
+        c
+    } else {
+        base_field::neg(f, c)
+    }
 }
 
 // The steps from index 0 on, against the budget; D is the first `length` places of `radicand`. The loop leaves with the first index from 1 on whose Q is constant.

@@ -6,7 +6,7 @@ use mathlib.Core.List.{List}
 use lib.ListN.{length}
 use denote.Ref.{now}
 use borrow.Author.Needs.{needs}
-use Rattle.ticket_read.specs.Read.{long, most, full, stands-refused, stands-accepted}
+use Rattle.ticket_read.specs.Read.{long, some-q, most, full, stands-refused, stands-accepted}
 use Rattle.ticket_read.proofs.read_ticket.Statement.{statement}
 use Rattle.ticket_read.proofs.read_ticket.Tie as tie
 
@@ -63,6 +63,12 @@ value-requires-3 c κs = search needs
 cast-budget : tie.Need-cast-budget
 cast-budget c = search needs
 
+div-t12 : tie.Need-div-t12
+div-t12 c =
+    let v = c .before .before .before in
+    let p = some-q (ws v) _ (v .before .before .before .before .before .refusal .ensures) (v .before .before .before .before .if1 .left) _ (v .before .before .value .ensures) in
+    omega arith
+
 returns-2 : tie.Need-returns-2
 returns-2 c =
     let v = c .before .before .before in
@@ -86,4 +92,5 @@ read-ticket-spec =
     shared-slice-read-value-3
     value-requires-3
     cast-budget
+    div-t12
     returns-2)

@@ -95,6 +95,9 @@ returns-4 c =
 radicand-requires : tie.Need-radicand-requires
 radicand-requires c κs = (most (c .before .before), full c)
 
+div-t8 : tie.Need-div-t8
+div-t8 c = let p = odd-prime-true _ (prime-passed (primes (c .before .before .before))) in let w = p .prime .two in omega arith
+
 radicand-refusal-requires : tie.Need-radicand-refusal-requires
 radicand-refusal-requires c κs =
     let d = c .before .before .before in
@@ -132,5 +135,6 @@ refusal-spec =
     wrong-layout-requires
     returns-4
     radicand-requires
+    div-t8
     radicand-refusal-requires
     returns-5)
