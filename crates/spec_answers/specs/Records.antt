@@ -1,21 +1,19 @@
 -- T2, the part on listings, from the words at exit: where the call `listing` answers found, each of the records 1 to m is read from the words of the lent list,
 -- and what is read is that of the walk at its own index: kinds, index, distance, mirror, Q and P.
-use Prim.Native.Nat.{ℕ, suc, _+_, _*_, _-_, _%_, _≤_, _<_}
+use Prim.Native.Nat.{ℕ, suc, _+_, _*_, _-_, _≤_, _<_}
 use native.Mathlib.Nat.{suc-mul, mul-le-mul-right, eq-zero-or-pos}
 use native.Mathlib.Omega.{arith}
 use mathlib.Core.Path.{_≡_, refl, sym, ap, ap₂, _∙_, fun-ext, subst}
 use mathlib.Core.Logic.{⊎-elim}
 use mathlib.Core.List.{List, [], _∷_, _++_, map, append-assoc}
-use lib.ListN.{length, getD, take, drop, length-map, length-drop, take-append-drop, List·getD-map, List·getD-eq-default}
+use lib.ListN.{length, getD, take, drop, length-map, length-drop, take-append-drop, List·getD-map}
 use lib.Seq.{take-at, drop-at, drop-drop, take-append-le, drop-append-le, getD-take, getD-drop}
 use Rattle.math_ring.specs.Ring.{zer-mul}
 use Rattle.math_ring.specs.Identity.{ring-from, times, quote}
-use Rattle.math_ring.specs.Order.{le-or-lt}
 use Rattle.math_ring.specs.Series.{Series, addS, negS, conv, con}
-use Rattle.math_ring.specs.Residues.{Fq}
 use Rattle.math_algebra.specs.Field.{Field}
 use Rattle.math_algebra.specs.Polynomial.{F, Px}
-use Rattle.spec_definitions.specs.Field.{modulo, inverse}
+use Rattle.spec_definitions.specs.Field.{FieldName, ops, reading}
 use Rattle.spec_definitions.specs.Polynomials.{size, deg, lead, pad, sub, scale, mul, quo, rem, monic, root}
 use Rattle.spec_definitions.specs.Words.{kind, value, word, high, low, joined}
 use Rattle.spec_definitions.specs.Ticket.{Ticket, genus, ticketOf}
@@ -24,21 +22,22 @@ use Rattle.spec_definitions.specs.Walk as walk
 use Rattle.spec_definitions.specs.Answers.{found, said, opsOf, rootOf}
 use Rattle.spec_definitions.specs.Listing.{idealOf, entryOf, mirrorOf, recordWords, recordOf, listingOf, listingAnswer}
 use Rattle.spec_definitions.specs.Lookup.{recordKinds, recordAt}
+use Rattle.spec_lists.specs.Words.{value-word, low-less, joined-back}
+use Rattle.spec_lists.specs.Pad.{length-pad, at-pad}
 use Rattle.spec_bridge.specs.Model.{Model, Inverts, series}
 use Rattle.spec_bridge.specs.Trim.{size-is, trim-ext, lead-some}
 use Rattle.spec_bridge.specs.Arithmetic.{series-sub, series-mul}
 use Rattle.spec_bridge.specs.Division.{series-quo-rem}
-use Rattle.spec_bridge.specs.Residues.{pos, model, field, inverts}
+use Rattle.spec_fields.specs.Named.{IsField, Ok, Arithmetic, arithmetic, ok-small}
 use Rattle.spec_laws.specs.Surd.{Surd, Q-trim}
 use Rattle.spec_laws.specs.Fraction.{Q-some}
-use Rattle.spec_laws.specs.Admitted.{Admitted, surd-of, admitted, passed, degree-of}
+use Rattle.spec_laws.specs.Admitted.{Admitted, is-field, surd-of, admitted, passed, degree-of}
 use Rattle.spec_demands.specs.Sentences.{Same}
 use Rattle.spec_demands.specs.Arithmetic.{Divides, series-same}
-use Rattle.spec_demands.specs.Records.{value-word, low-less, joined-back, length-pad, length-listing, record-listing, kinds-record}
+use Rattle.spec_demands.specs.Records.{length-listing, record-listing, kinds-record}
 use Rattle.spec_demands.specs.Listings.{RecordHolds, t2-listings}
 use Rattle.spec_demands.specs.LentLists.{t1-lists, found-passes}
 use Rattle.spec_answers.specs.Refusals.{listing-found}
-use Rattle.spec_answers.specs.Units.{pad-at}
 
 -- record j + 1 in a list l of records of n + 4 words
 module _ (n j : ℕ) (l : List ℕ) where
@@ -71,28 +70,24 @@ pub record RecordRead (t : Ticket) (R j : ℕ) (l : List ℕ) : Type 0 where
   pub distance : distanceRead (t .n) j l ≡ deg (opsOf t) (pBefore (opsOf t) (t .D) (rootOf t) j)
   pub mirror : mirrorRead (t .n) j l + distanceRead (t .n) j l ≡ R
   pub Q-monic : lead (opsOf t) (QRead (t .n) j l) ≡ 1
-  pub Q-ratio : (k : ℕ) × (0 < k) × (k < t .q) × Same (t .q) (QRead (t .n) j l) (scale (opsOf t) k (walk.Q (opsOf t) (t .D) (rootOf t) j))
-  pub P-congruent : Divides (t .q) (QRead (t .n) j l) (sub (opsOf t) (walk.P (opsOf t) (t .D) (rootOf t) j) (PRead (t .n) j l))
+  pub Q-ratio : (k : ℕ) × (0 < k) × Ok (t .field) k × Same (t .field) (QRead (t .n) j l) (scale (opsOf t) k (walk.Q (opsOf t) (t .D) (rootOf t) j))
+  pub P-congruent : Divides (t .field) (QRead (t .n) j l) (sub (opsOf t) (walk.P (opsOf t) (t .D) (rootOf t) j) (PRead (t .n) j l))
   pub P-less : size (opsOf t) (PRead (t .n) j l) < size (opsOf t) (QRead (t .n) j l)
-  pub Q-below : (i : ℕ) → getD (QRead (t .n) j l) i 0 < t .q
-  pub P-below : (i : ℕ) → getD (PRead (t .n) j l) i 0 < t .q
+  pub Q-below : (i : ℕ) → Ok (t .field) (getD (QRead (t .n) j l) i 0)
+  pub P-below : (i : ℕ) → Ok (t .field) (getD (PRead (t .n) j l) i 0)
 
 abbrev pub T2Records : Type 0
 T2Records = (w old : List ℕ) (R m c : ℕ) → listingAnswer w old .says ≡ said (found R m c) → (j : ℕ) → j < m → RecordRead (ticketOf w) R j (listingAnswer w old .list)
 
 -- ---- the proof
 -- lists with the same coefficients, one of which may have zeros at its end
-module _ (q : ℕ) (some : 0 < q) (f h : List ℕ) (e : (i : ℕ) → getD f i 0 ≡ getD h i 0) where
-  pub size-same : size (modulo q) f ≡ size (modulo q) h
-  size-same = size-is (model q some) f ∙ ap length (trim-ext (model q some) f h e) ∙ sym (size-is (model q some) h)
+module _ (f : FieldName) (named : IsField f) (l h : List ℕ) (e : (i : ℕ) → getD l i 0 ≡ getD h i 0) where
+  pub size-same : size (ops f) l ≡ size (ops f) h
+  size-same = size-is (arithmetic f named .M) l ∙ ap length (trim-ext (arithmetic f named .M) l h e) ∙ sym (size-is (arithmetic f named .M) h)
 
-  pub lead-same : lead (modulo q) f ≡ lead (modulo q) h
+  pub lead-same : lead (ops f) l ≡ lead (ops f) h
   unfolding lead
-  lead-same = e (size (modulo q) f - 1) ∙ ap (λ (k : ℕ). getD h (k - 1) 0) size-same
-
--- what is padded to its length or more has the same coefficients
-pub pad-same : (q k : ℕ) (l : List ℕ) → length l ≤ k → (i : ℕ) → getD (pad (modulo q) k l) i 0 ≡ getD l i 0
-pad-same q k l h i = ⊎-elim (λ past. List·getD-eq-default (pad (modulo q) k l) 0 (let e = length-pad (modulo q) k l in omega arith) ∙ sym (List·getD-eq-default l 0 (omega arith))) (λ low. pad-at q k l i low) (le-or-lt k i)
+  lead-same = e (size (ops f) l - 1) ∙ ap (λ (k : ℕ). getD h (k - 1) 0) size-same
 
 -- the values of words of one kind
 values-words : (c : ℕ) (l : List ℕ) → ((i : ℕ) → getD l i 0 < 268435456) → map value (map (word c) l) ≡ l
@@ -100,57 +95,60 @@ values-words c [] h = refl
 values-words c (x ∷ l) h = ap₂ (λ (a : ℕ) (t : List ℕ). a ∷ t) (value-word c x (h 0)) (values-words c l (λ i. h (suc i)))
 
 -- ---- the ideal of index i of the walk, for a D that is admitted
-module _ {q g : ℕ} {D : List ℕ} (h : Admitted q g D) where
-  abbrev K : Field (Fq q)
-  K = field q (h .prime) (h .odd)
+module _ {f : FieldName} {g : ℕ} {D : List ℕ} (h : Admitted f g D) where
+  abbrev A : Arithmetic f
+  A = arithmetic f (is-field h)
 
-  abbrev M : Model (modulo q) (F K)
-  M = model q (pos q (h .prime))
+  abbrev K : Field (A .Elements)
+  K = A .K
+
+  abbrev M : Model (ops f) (F K)
+  M = A .M
 
   abbrev I : Inverts M
-  I = inverts q (pos q (h .prime)) (h .prime)
+  I = A .I
 
   abbrev d : List ℕ
-  d = root (modulo q) D (suc g)
+  d = root (ops f) D (suc g)
 
   abbrev z : Surd K M g D d
   z = surd-of h
 
   abbrev Q : ℕ → List ℕ
-  Q = walk.Q (modulo q) D d
+  Q = walk.Q (ops f) D d
 
   abbrev P : ℕ → List ℕ
-  P = walk.P (modulo q) D d
+  P = walk.P (ops f) D d
 
   -- the constant that makes Q monic is not 0
-  lead-inverse : (i : ℕ) → 0 < inverse q (lead (modulo q) (Q i))
-  lead-inverse i = ⊎-elim (λ e. absurd (K .one-not-zero (sym (I .inv-mul (lead (modulo q) (Q i)) not-zero) ∙ ap (λ (c : ℕ). F K .mul (M .φ c) (M .φ (lead (modulo q) (Q i)))) e ∙ zer-mul (F K) (M .φ (lead (modulo q) (Q i)))))) (λ l. l) (eq-zero-or-pos (inverse q (lead (modulo q) (Q i))))
+  lead-inverse : (i : ℕ) → 0 < ops f .inv (lead (ops f) (Q i))
+  lead-inverse i = ⊎-elim (λ e. absurd (K .one-not-zero (sym (I .inv-mul (lead (ops f) (Q i)) not-zero) ∙ ap (λ (c : ℕ). F K .mul (M .φ c) (M .φ (lead (ops f) (Q i)))) e ∙ zer-mul (F K) (M .φ (lead (ops f) (Q i)))))) (λ l. l) (eq-zero-or-pos (ops f .inv (lead (ops f) (Q i))))
     where
-      not-zero : M .φ (lead (modulo q) (Q i)) ≡ F K .zer → ⊥
+      not-zero : M .φ (lead (ops f) (Q i)) ≡ F K .zer → ⊥
       not-zero = lead-some M (Q i) (let e = ap length (Q-trim z i) in let k = Q-some z i in omega arith)
 
-  monic-is : (i : ℕ) → monic (modulo q) (Q i) ≡ scale (modulo q) (inverse q (lead (modulo q) (Q i))) (Q i)
+  monic-is : (i : ℕ) → monic (ops f) (Q i) ≡ scale (ops f) (ops f .inv (lead (ops f) (Q i))) (Q i)
   unfolding monic
   monic-is i = refl
 
   -- P less its remainder is a multiple of the divisor, whatever zeros stand at the end
-  rem-congruent : (a b f r : List ℕ) → ((i : ℕ) → getD f i 0 ≡ getD b i 0) → ((i : ℕ) → getD r i 0 ≡ getD (rem (modulo q) a b) i 0) → Divides q f (sub (modulo q) a r)
-  rem-congruent a b f r e k = (c, series-same q (h .prime) (h .odd) (sub (modulo q) a r) (mul (modulo q) f c) (series-sub M a r ∙ ap (λ (u : Px K). addS (F K) (series M a) (negS (F K) u)) r-is ∙ whole ∙ ap (λ (u : Px K). conv (F K) u (series M c)) (sym f-is) ∙ sym (series-mul M f c)))
+  rem-congruent : (a b l r : List ℕ) → ((i : ℕ) → getD l i 0 ≡ getD b i 0) → ((i : ℕ) → getD r i 0 ≡ getD (rem (ops f) a b) i 0) → Divides f l (sub (ops f) a r)
+  rem-congruent a b l r e k = (c, series-same f (is-field h) (sub (ops f) a r) (mul (ops f) l c) (series-sub M a r ∙ ap (λ (u : Px K). addS (F K) (series M a) (negS (F K) u)) r-is ∙ whole ∙ ap (λ (u : Px K). conv (F K) u (series M c)) (sym f-is) ∙ sym (series-mul M l c)))
     where
       c : List ℕ
-      c = quo (modulo q) a b
+      c = quo (ops f) a b
 
-      f-is : series M f ≡ series M b
+      f-is : series M l ≡ series M b
       f-is = fun-ext (λ i. ap (M .φ) (e i))
 
-      r-is : series M r ≡ series M (rem (modulo q) a b)
+      r-is : series M r ≡ series M (rem (ops f) a b)
       r-is = fun-ext (λ i. ap (M .φ) (k i))
 
-      whole : addS (F K) (series M a) (negS (F K) (series M (rem (modulo q) a b))) ≡ conv (F K) (series M b) (series M c)
-      whole = ring-from (Series (F K)) (series M a ∷ series M b ∷ series M c ∷ series M (rem (modulo q) a b) ∷ []) (times (Series (F K)) (con (F K) (F K .one)) (series-quo-rem M a b)) (search quote depth 40 fits 9999) tt
+      whole : addS (F K) (series M a) (negS (F K) (series M (rem (ops f) a b))) ≡ conv (F K) (series M b) (series M c)
+      whole = ring-from (Series (F K)) (series M a ∷ series M b ∷ series M c ∷ series M (rem (ops f) a b) ∷ []) (times (Series (F K)) (con (F K) (F K .one)) (series-quo-rem M a b)) (search quote depth 40 fits 9999) tt
 
 -- ---- a list in which record j + 1 stands at its place
-module _ (t : Ticket) (h : Admitted (t .q) (genus (t .n)) (t .D)) (even : suc (genus (t .n)) + suc (genus (t .n)) ≡ t .n) (R j : ℕ) (r : RecordHolds t R j) (l : List ℕ) (stands : recordAt l (t .n) j ≡ recordOf t R j) where
+module _ (t : Ticket) (h : Admitted (t .field) (genus (t .n)) (t .D)) (even : suc (genus (t .n)) + suc (genus (t .n)) ≡ t .n) (R j : ℕ) (r : RecordHolds t R j) (l : List ℕ) (stands : recordAt l (t .n) j ≡ recordOf t R j) where
   word-is : (i : ℕ) → i < t .n + 4 → wordAt (t .n) j l i ≡ getD (recordOf t R j) i 0
   unfolding recordAt
   word-is i low = sym (getD-take (t .n + 4) (drop (j * (t .n + 4)) l) i 0 low ∙ getD-drop (j * (t .n + 4)) l i 0) ∙ ap (λ (x : List ℕ). getD x i 0) stands
@@ -181,22 +179,22 @@ module _ (t : Ticket) (h : Admitted (t .q) (genus (t .n)) (t .D)) (even : suc (g
   length-P = length-map Ps (word 9) ∙ length-pad (opsOf t) (genus (t .n)) (entryOf t j .ideal .p)
 
   Q-same : (i : ℕ) → getD Qs i 0 ≡ getD (entryOf t j .ideal .q) i 0
-  Q-same = pad-same (t .q) (suc (genus (t .n))) (entryOf t j .ideal .q) (r .Q-whole)
+  Q-same = at-pad (opsOf t) (suc (genus (t .n))) (entryOf t j .ideal .q) (r .Q-whole)
 
   P-same : (i : ℕ) → getD Ps i 0 ≡ getD (entryOf t j .ideal .p) i 0
-  P-same = pad-same (t .q) (genus (t .n)) (entryOf t j .ideal .p) (r .P-whole)
+  P-same = at-pad (opsOf t) (genus (t .n)) (entryOf t j .ideal .p) (r .P-whole)
 
   Q-is : QRead (t .n) j l ≡ Qs
   Q-is =
       ap (λ (x : List ℕ). map value (take (suc (genus (t .n))) x)) after-is
       ∙ ap (map value) (take-at (map (word 8) Qs) (map (word 9) Ps ++ rest) (suc (genus (t .n))) length-Q)
-      ∙ values-words 8 Qs (λ i. let e = Q-same i in let k = r .Q-below i in let s = h .small in omega arith)
+      ∙ values-words 8 Qs (λ i. let e = Q-same i in let k = ok-small (t .field) (is-field h) _ (r .Q-below i) in omega arith)
 
   P-is : PRead (t .n) j l ≡ Ps
   P-is =
       ap (λ (x : List ℕ). map value (take (genus (t .n)) x)) (ap (λ (k : ℕ). drop k l) (let e : j * (t .n + 4) + (genus (t .n) + 6) ≡ j * (t .n + 4) + 5 + suc (genus (t .n)) = omega arith in e) ∙ sym (drop-drop (suc (genus (t .n))) (j * (t .n + 4) + 5) l) ∙ ap (drop (suc (genus (t .n)))) after-is ∙ drop-at (map (word 8) Qs) (map (word 9) Ps ++ rest) (suc (genus (t .n))) length-Q)
       ∙ ap (map value) (take-at (map (word 9) Ps) rest (genus (t .n)) length-P)
-      ∙ values-words 9 Ps (λ i. let e = P-same i in let k = r .P-below i in let s = h .small in omega arith)
+      ∙ values-words 9 Ps (λ i. let e = P-same i in let k = ok-small (t .field) (is-field h) _ (r .P-below i) in omega arith)
 
   Q-read : (i : ℕ) → getD (QRead (t .n) j l) i 0 ≡ getD (entryOf t j .ideal .q) i 0
   Q-read i = ap (λ (x : List ℕ). getD x i 0) Q-is ∙ Q-same i
@@ -209,7 +207,7 @@ module _ (t : Ticket) (h : Admitted (t .q) (genus (t .n)) (t .D)) (even : suc (g
   kind-read i low =
       ap kind (word-is i low)
       ∙ sym (List·getD-map kind (recordOf t R j) i 0)
-      ∙ ap (λ (x : List ℕ). getD x i 0) (kinds-record (t .q) (t .n) (mirrorOf R (entryOf t j)) (entryOf t j) (r .index-fits) (r .distance-fits) (r .mirror-fits) (λ i. let a = r .Q-below i in let b = h .small in omega arith) (λ i. let a = r .P-below i in let b = h .small in omega arith))
+      ∙ ap (λ (x : List ℕ). getD x i 0) (kinds-record (t .field) (t .n) (mirrorOf R (entryOf t j)) (entryOf t j) (r .index-fits) (r .distance-fits) (r .mirror-fits) (λ i. ok-small (t .field) (is-field h) _ (r .Q-below i)) (λ i. ok-small (t .field) (is-field h) _ (r .P-below i)))
 
   -- the value of a word of the record that is known
   value-read : (i c v : ℕ) → i < t .n + 4 → getD (recordOf t R j) i 0 ≡ word c v → v < 268435456 → value (wordAt (t .n) j l i) ≡ v
@@ -234,16 +232,13 @@ module _ (t : Ticket) (h : Admitted (t .q) (genus (t .n)) (t .D)) (even : suc (g
     index = index-read;
     distance = distance-read;
     mirror = ap₂ _+_ mirror-read distance-read ∙ r .mirror-is;
-    Q-monic = lead-same (t .q) some _ _ Q-read ∙ r .ideal .monic;
-    Q-ratio = (inverse (t .q) (lead (opsOf t) (Q h j)), lead-inverse h j, I h .ok-inv (lead (opsOf t) (Q h j)), λ i. ap (λ (a : ℕ). a % t .q) (Q-read i ∙ ap (λ (x : List ℕ). getD x i 0) (monic-is h j)));
+    Q-monic = lead-same (t .field) (is-field h) _ _ Q-read ∙ r .ideal .monic;
+    Q-ratio = (opsOf t .inv (lead (opsOf t) (Q h j)), lead-inverse h j, A h .ok-is _ (I h .ok-inv (lead (opsOf t) (Q h j))), λ i. ap (reading (t .field)) (Q-read i ∙ ap (λ (x : List ℕ). getD x i 0) (monic-is h j)));
     P-congruent = rem-congruent h (P h j) (monic (opsOf t) (Q h j)) (QRead (t .n) j l) (PRead (t .n) j l) Q-read P-read;
-    P-less = let a = size-same (t .q) some (PRead (t .n) j l) (entryOf t j .ideal .p) P-read in let b = size-same (t .q) some (QRead (t .n) j l) (entryOf t j .ideal .q) Q-read in let c = r .ideal .less in omega arith;
-    Q-below = λ i. let a = Q-read i in let b = r .Q-below i in omega arith;
-    P-below = λ i. let a = P-read i in let b = r .P-below i in omega arith;
+    P-less = let a = size-same (t .field) (is-field h) (PRead (t .n) j l) (entryOf t j .ideal .p) P-read in let b = size-same (t .field) (is-field h) (QRead (t .n) j l) (entryOf t j .ideal .q) Q-read in let c = r .ideal .less in omega arith;
+    Q-below = λ i. subst (Ok (t .field)) (sym (Q-read i)) (r .Q-below i);
+    P-below = λ i. subst (Ok (t .field)) (sym (P-read i)) (r .P-below i);
   }
-    where
-      some : 0 < t .q
-      some = pos (t .q) (h .prime)
 
 -- ---- the list at exit: its first m·(n + 4) words are the records, one after the other
 record-stands : (t : Ticket) (R m : ℕ) (l : List ℕ) → suc (genus (t .n)) + suc (genus (t .n)) ≡ t .n → take (m * (t .n + 4)) l ≡ listingOf t R m → (j : ℕ) → j < m → recordAt l (t .n) j ≡ recordOf t R j

@@ -10,6 +10,7 @@ use mathlib.Core.List.{List, [], _∷_}
 use lib.ListN.{length, take, drop, length-drop}
 use lib.Seq.{length-take-le}
 use Rattle.math_ring.specs.Order.{le-or-lt}
+use Rattle.spec_definitions.specs.Field.{FieldName}
 use Rattle.spec_definitions.specs.Ticket.{ticketOf, refusalOf}
 use Rattle.spec_definitions.specs.Walk.{Ideal}
 use Rattle.spec_definitions.specs.Answers.{Outcome, found, spent, refused, Said, said, said-injective, rootOf, outcomeOf, wordsOutcome, regulatorOf}
@@ -36,10 +37,10 @@ None w = (j : ℕ) → 1 ≤ j → j ≤ 7 → ¬ Applies j w
 
 -- the walk of the words' ticket stops within the budget, with R, m and c; it is spent after k steps, at the degree e
 abbrev pub Stops : List ℕ → ℕ → ℕ → ℕ → Type 0
-Stops w R m c = StopsAt (ticketOf w .q) (ticketOf w .D) (rootOf (ticketOf w)) (ticketOf w .b) R m c
+Stops w R m c = StopsAt (ticketOf w .field) (ticketOf w .D) (rootOf (ticketOf w)) (ticketOf w .b) R m c
 
 abbrev pub Spent : List ℕ → ℕ → ℕ → Type 0
-Spent w k e = Spends (ticketOf w .q) (ticketOf w .D) (rootOf (ticketOf w)) (ticketOf w .b) k e
+Spent w k e = Spends (ticketOf w .field) (ticketOf w .D) (rootOf (ticketOf w)) (ticketOf w .b) k e
 
 -- "12: the unit is wanted and one of its four lists has fewer than R+1 places"
 abbrev pub TwelveApplies : List ℕ → Lists → Type 0
@@ -114,36 +115,36 @@ module _ (w : List ℕ) where
       go (suc n) z = let f : refused (suc n) ≡ refused k = sym (outcome-by (suc n) z) ∙ e in let g : suc n ≡ k = cc in number-first k (λ h. omega arith) (z ∙ g)
 
 -- ---- an outcome is told by the walk
-module _ (q : ℕ) (D d : List ℕ) (b : ℕ) where
-  stops-unique : {R m c R′ m′ c′ : ℕ} → StopsAt q D d b R m c → StopsAt q D d b R′ m′ c′ → found R m c ≡ found R′ m′ c′
+module _ (f : FieldName) (D d : List ℕ) (b : ℕ) where
+  stops-unique : {R m c R′ m′ c′ : ℕ} → StopsAt f D d b R m c → StopsAt f D d b R′ m′ c′ → found R m c ≡ found R′ m′ c′
   stops-unique {R} {m} {c} {R′} {m′} {c′} s u = ⊎-elim (λ h. ⊎-elim (λ e. same (sym e)) (λ l. absurd (s .least m′ (u .positive) l (u .constant))) (eq-or-lt-of-le h)) (λ l. absurd (u .least m (s .positive) l (s .constant))) (le-or-lt m′ m)
     where
       same : m ≡ m′ → found R m c ≡ found R′ m′ c′
       same e =
-          let t : StopsAt q D d b R m′ c = subst (λ (i : ℕ). StopsAt q D d b R i c) e s in
+          let t : StopsAt f D d b R m′ c = subst (λ (i : ℕ). StopsAt f D d b R i c) e s in
           let x : R ≡ R′ = t .regulator ∙ sym (u .regulator) in
           let y : c ∷ [] ≡ c′ ∷ [] = t .value ∙ sym (u .value) in
           cc
 
-  stops-only : (x : Outcome) → Ends q D d b x → (R m c : ℕ) → StopsAt q D d b R m c → x ≡ found R m c
+  stops-only : (x : Outcome) → Ends f D d b x → (R m c : ℕ) → StopsAt f D d b R m c → x ≡ found R m c
   stops-only (found R′ m′ c′) h R m c s = stops-unique h s
   stops-only (spent k e) h R m c s = absurd (h .none-constant m (s .positive) (s .within) (s .constant))
   stops-only (refused j) h R m c s = absurd h
 
-  spends-only : (x : Outcome) → Ends q D d b x → (k e : ℕ) → Spends q D d b k e → x ≡ spent k e
+  spends-only : (x : Outcome) → Ends f D d b x → (k e : ℕ) → Spends f D d b k e → x ≡ spent k e
   spends-only (found R m c) h k e s = absurd (s .none-constant m (h .positive) (h .within) (h .constant))
   spends-only (spent k′ e′) h k e s = let x : k′ ≡ k = h .all ∙ sym (s .all) in let y : e′ ≡ e = h .reached ∙ sym (s .reached) in cc
   spends-only (refused j) h k e s = absurd h
 
 module _ (w : List ℕ) where
-  ends-of : refusalOf w ≡ 0 → Ends (ticketOf w .q) (ticketOf w .D) (rootOf (ticketOf w)) (ticketOf w .b) (wordsOutcome w)
+  ends-of : refusalOf w ≡ 0 → Ends (ticketOf w .field) (ticketOf w .D) (rootOf (ticketOf w)) (ticketOf w .b) (wordsOutcome w)
   ends-of z = t2 w z .ends
 
   stops-outcome : None w → (R m c : ℕ) → Stops w R m c → wordsOutcome w ≡ found R m c
-  stops-outcome none R m c s = stops-only (ticketOf w .q) (ticketOf w .D) (rootOf (ticketOf w)) (ticketOf w .b) (wordsOutcome w) (ends-of (passes w none)) R m c s
+  stops-outcome none R m c s = stops-only (ticketOf w .field) (ticketOf w .D) (rootOf (ticketOf w)) (ticketOf w .b) (wordsOutcome w) (ends-of (passes w none)) R m c s
 
   spent-outcome : None w → (k e : ℕ) → Spent w k e → wordsOutcome w ≡ spent k e
-  spent-outcome none k e s = spends-only (ticketOf w .q) (ticketOf w .D) (rootOf (ticketOf w)) (ticketOf w .b) (wordsOutcome w) (ends-of (passes w none)) k e s
+  spent-outcome none k e s = spends-only (ticketOf w .field) (ticketOf w .D) (rootOf (ticketOf w)) (ticketOf w .b) (wordsOutcome w) (ends-of (passes w none)) k e s
 
   -- what is spent is past the refusals
   outcome-spent : (k e : ℕ) → wordsOutcome w ≡ spent k e → None w × Spent w k e

@@ -1,21 +1,20 @@
 -- T2, the part on the unit's lists, place by place: where the call `unit` answers found, places 0 to R of the first list hold the coefficients of p_{m−1}, those of
 -- the second the coefficients of s_{m−1}, those of the other two are 0, and later places keep what they had.
-use Prim.Native.Nat.{ℕ, zero, suc, _≤_, _<_}
+use Prim.Native.Nat.{ℕ, suc, _≤_, _<_}
 use native.Mathlib.Omega.{arith}
 use mathlib.Core.Path.{_≡_, refl, sym, ap, _∙_, subst}
 use mathlib.Core.Bool.{Bool, true, false}
-use mathlib.Core.List.{List, [], _∷_}
+use mathlib.Core.List.{List, []}
 use lib.ListN.{getD, drop, List·getD-append}
-use Rattle.spec_definitions.specs.Field.{modulo}
 use Rattle.spec_definitions.specs.Polynomials.{size, deg, pad}
 use Rattle.spec_definitions.specs.Ticket.{Ticket, genus, ticketOf}
 use Rattle.spec_definitions.specs.Walk.{unitOf, pBefore, sBefore, degreeBefore}
 use Rattle.spec_definitions.specs.Answers.{Outcome, found, refused, said, said-injective, opsOf, rootOf, wordsOutcome}
 use Rattle.spec_definitions.specs.Units.{Lists, UnitAnswer, longEnough, written, unitLists, unitFrom, unitAnswer}
+use Rattle.spec_lists.specs.Pad.{length-pad, pad-at}
 use Rattle.spec_bridge.specs.Trim.{size-is, length-trim}
-use Rattle.spec_bridge.specs.Residues.{pos, model}
-use Rattle.spec_laws.specs.Admitted.{Admitted, admitted}
-use Rattle.spec_demands.specs.Records.{length-pad}
+use Rattle.spec_fields.specs.Named.{arithmetic}
+use Rattle.spec_laws.specs.Admitted.{Admitted, is-field, admitted}
 use Rattle.spec_demands.specs.Continued.{StopsAt, Walks, t2}
 use Rattle.spec_demands.specs.Written.{s-fits}
 use Rattle.spec_demands.specs.LentLists.{KeepsFrom, t1-lists, refused-not, found-passes}
@@ -41,18 +40,9 @@ abbrev pub T2UnitLists : Type 0
 T2UnitLists = (w : List ℕ) (l : Lists) (R m c : ℕ) → unitAnswer w l .says ≡ said (found R m c) → UnitWritten (ticketOf w) R m l (unitAnswer w l .lists)
 
 -- ---- the proof
--- each of the k places of a padded list holds its coefficient, 0 above the degree
-pub pad-at : (q k : ℕ) (l : List ℕ) (i : ℕ) → i < k → getD (pad (modulo q) k l) i 0 ≡ getD l i 0
-unfolding pad
-pad-at q zero l i h = absurd (omega arith)
-pad-at q (suc k) [] zero h = refl
-pad-at q (suc k) [] (suc i) h = pad-at q k [] i (omega arith)
-pad-at q (suc k) (a ∷ l) zero h = refl
-pad-at q (suc k) (a ∷ l) (suc i) h = pad-at q k l i (omega arith)
-
 written-at : (t : Ticket) (k : ℕ) (f old : List ℕ) (i : ℕ) → i < k → getD (written t k f old) i 0 ≡ getD f i 0
 unfolding written
-written-at t k f old i h = List·getD-append (pad (opsOf t) k f) (drop k old) 0 i (let e = length-pad (opsOf t) k f in omega arith) ∙ pad-at (t .q) k f i h
+written-at t k f old i h = List·getD-append (pad (opsOf t) k f) (drop k old) 0 i (let e = length-pad (opsOf t) k f in omega arith) ∙ pad-at (opsOf t) k f i h
 
 -- what is written where the answer is found
 lists-written : (t : Ticket) (x : Outcome) (l : Lists) (R m c : ℕ) → x ≡ found R m c → unitFrom t x l .says ≡ said (found R m c) → unitFrom t x l .lists ≡ unitLists t R m l
@@ -66,12 +56,12 @@ lists-written t x l R m c f e = ap (λ (y : Outcome). unitFrom t y l .lists) f �
     go true k = refl
     go false k = absurd (refused-not 12 R m c (said-injective _ _ k))
 
-s-most : (t : Ticket) → Admitted (t .q) (genus (t .n)) (t .D) → (R m : ℕ) → R ≡ deg (opsOf t) (pBefore (opsOf t) (t .D) (rootOf t) m) → size (opsOf t) (sBefore (opsOf t) (t .D) (rootOf t) m) ≤ suc R
+s-most : (t : Ticket) → Admitted (t .field) (genus (t .n)) (t .D) → (R m : ℕ) → R ≡ deg (opsOf t) (pBefore (opsOf t) (t .D) (rootOf t) m) → size (opsOf t) (sBefore (opsOf t) (t .D) (rootOf t) m) ≤ suc R
 unfolding rootOf degreeBefore
 s-most t h R m is =
     let a = s-fits h m in
-    let b = length-trim (model (t .q) (pos (t .q) (h .prime))) (sBefore (opsOf t) (t .D) (rootOf t) m) in
-    let c = size-is (model (t .q) (pos (t .q) (h .prime))) (sBefore (opsOf t) (t .D) (rootOf t) m) in
+    let b = length-trim (arithmetic (t .field) (is-field h) .M) (sBefore (opsOf t) (t .D) (rootOf t) m) in
+    let c = size-is (arithmetic (t .field) (is-field h) .M) (sBefore (opsOf t) (t .D) (rootOf t) m) in
     omega arith
 
 module _ (t : Ticket) (R m : ℕ) (old new : Lists) (at-exit : new ≡ unitLists t R m old) where
@@ -96,7 +86,7 @@ unfolding unitAnswer
 t2-unit-lists w l R m c e =
     let f = unit-found w l R m c e in
     let z = found-passes w R m c f in
-    let s : StopsAt (ticketOf w .q) (ticketOf w .D) (rootOf (ticketOf w)) (ticketOf w .b) R m c = subst (Walks (ticketOf w)) f (t2 w z) .ends in
+    let s : StopsAt (ticketOf w .field) (ticketOf w .D) (rootOf (ticketOf w)) (ticketOf w .b) R m c = subst (Walks (ticketOf w)) f (t2 w z) .ends in
     let new = unitAnswer w l .lists in
     let at-exit : unitAnswer w l .lists ≡ unitLists (ticketOf w) R m l = lists-written (ticketOf w) (wordsOutcome w) l R m c f e in
     let kept = t1-lists .0 w l .later R m c e in

@@ -3,7 +3,7 @@ use Prim.Native.Nat.{ℕ, zero, suc}
 use mathlib.Core.Path.{_≡_, ap}
 use mathlib.Core.List.{List, [], _∷_}
 use mathlib.Core.Option.{none, some}
-use Rattle.spec_definitions.specs.Field.{Ops, modulo}
+use Rattle.spec_definitions.specs.Field.{Ops, ops}
 use Rattle.spec_definitions.specs.Polynomials.{root}
 use Rattle.spec_definitions.specs.Ticket.{Ticket, genus, ticketOf, refusalOf}
 use Rattle.spec_definitions.specs.Walk.{quasiPeriod, degreeBefore, constantOf}
@@ -40,7 +40,7 @@ said-injective (refused j) (refused j′) h = ap (λ (s : Said). refused (s .num
 
 -- the field's operations and d of a ticket
 abbrev pub opsOf : Ticket → Ops ℕ
-opsOf t = modulo (t .q)
+opsOf t = ops (t .field)
 
 unfoldable pub rootOf : Ticket → List ℕ
 rootOf t = root (opsOf t) (t .D) (suc (genus (t .n)))

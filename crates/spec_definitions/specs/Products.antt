@@ -5,9 +5,9 @@ use mathlib.Core.List.{List, []}
 use lib.Dec.{leb, ltb, eqb}
 use lib.IntN.{ℤ, pos, _+ℤ_, _-ℤ_}
 use lib.ListN.{length}
-use Rattle.spec_definitions.specs.Field.{Ops}
+use Rattle.spec_definitions.specs.Field.{Ops, fits}
 use Rattle.spec_definitions.specs.Polynomials.{add, sub, mul, quo, rem, size, deg, lead, Bezout, bezout}
-use Rattle.spec_definitions.specs.Words.{someFrom}
+use Rattle.spec_definitions.specs.Words.{someNot}
 use Rattle.spec_definitions.specs.Ticket.{Ticket, genus, ticketOf, refusalOf}
 use Rattle.spec_definitions.specs.Walk.{Ideal, partial, steps}
 use Rattle.spec_definitions.specs.Answers.{opsOf, rootOf}
@@ -74,7 +74,7 @@ module _ (t : Ticket) where
   -- "A pair is g+1 and g coefficients below q, Q monic, deg P < deg Q, Q dividing D − P²."
   unfoldable pub isPair : Ideal ℕ → Bool
   isPair x =
-      eqb (length (x .q)) (suc (genus (t .n))) && eqb (length (x .p)) (genus (t .n)) && not (someFrom (t .q) (x .q)) && not (someFrom (t .q) (x .p))
+      eqb (length (x .q)) (suc (genus (t .n))) && eqb (length (x .p)) (genus (t .n)) && not (someNot (fits (t .field)) (x .q)) && not (someNot (fits (t .field)) (x .p))
       && eqb (lead (opsOf t) (x .q)) 1 && ltb (size (opsOf t) (x .p)) (size (opsOf t) (x .q))
       && eqb (size (opsOf t) (rem (opsOf t) (sub (opsOf t) (t .D) (mul (opsOf t) (x .p) (x .p))) (x .q))) 0
 

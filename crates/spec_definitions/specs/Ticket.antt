@@ -4,18 +4,22 @@ use mathlib.Core.Bool.{Bool, true, false, not, _||_}
 use mathlib.Core.List.{List, [], _∷_, _++_, map}
 use lib.Dec.{ltb, eqb}
 use lib.ListN.{length, getD, take, drop, replicate}
-use Rattle.spec_definitions.specs.Field.{modulo}
+use Rattle.spec_definitions.specs.Field.{FieldName, prime, ops, fits}
 use Rattle.spec_definitions.specs.Polynomials.{size, gcd, derivative}
 use Rattle.spec_definitions.specs.Primes.{oddPrime}
-use Rattle.spec_definitions.specs.Words.{kind, value, same, someFrom}
+use Rattle.spec_definitions.specs.Words.{kind, value, same, someNot, oneOf}
 
 -- the ticket is the job record: which field, which D, and how many steps at most
 -- "kind 1: q; kind 2: n; kind 3, n+1 words: the coefficients of D, constant term first; kind 4: the step budget b"
 pub record Ticket : Type 0 where
-  pub q : ℕ
+  pub field : FieldName
   pub n : ℕ
   pub D : List ℕ
   pub b : ℕ
+
+-- the ticket of the parts
+abbrev pub ticket : FieldName → ℕ → List ℕ → ℕ → Ticket
+ticket f n D b = record { field = f; n = n; D = D; b = b }
 
 -- "Here g = n/2 − 1."
 unfoldable pub genus : ℕ → ℕ
@@ -25,11 +29,11 @@ genus n = n / 2 - 1
 unfoldable pub ticketOf : List ℕ → Ticket
 ticketOf w =
     let n : ℕ = value (getD w 1 0) in
-    record { q = value (getD w 0 0); n = n; D = map value (take (n + 1) (drop 2 w)); b = value (getD w (n + 3) 0) }
+    ticket (prime (value (getD w 0 0))) n (map value (take (n + 1) (drop 2 w))) (value (getD w (n + 3) 0))
 
--- "1: fewer than 7 words, or word 0 isn't kind 1, or word 1 isn't kind 2"
-unfoldable pub wrongHead : List ℕ → Bool
-wrongHead w = ltb (length w) 7 || not (eqb (kind (getD w 0 0)) 1) || not (eqb (kind (getD w 1 0)) 2)
+-- "1: fewer than 7 words, or word 0 isn't kind 1, or word 1 isn't kind 2": the kinds that word 0 may have are given
+unfoldable pub wrongHead : List ℕ → List ℕ → Bool
+wrongHead kinds w = ltb (length w) 7 || not (oneOf kinds (kind (getD w 0 0))) || not (eqb (kind (getD w 1 0)) 2)
 
 -- "2: q isn't an odd prime below 4,096"
 unfoldable pub wrongPrime : ℕ → Bool
@@ -48,16 +52,16 @@ unfoldable pub wrongLayout : ℕ → List ℕ → Bool
 wrongLayout n w = not (eqb (length w) (n + 5)) || not (same (map kind (drop 2 w)) (laterKinds n)) || not (eqb (value (getD w (n + 4) 0)) (n + 4))
 
 -- "5: a coefficient is q or more"
-unfoldable pub wrongCoefficient : ℕ → List ℕ → Bool
-wrongCoefficient q D = someFrom q D
+unfoldable pub wrongCoefficient : FieldName → List ℕ → Bool
+wrongCoefficient f D = someNot (fits f) D
 
 -- "6: the coefficient of x^n isn't 1"
 unfoldable pub wrongLead : ℕ → List ℕ → Bool
 wrongLead n D = not (eqb (getD D n 0) 1)
 
 -- "7: the square of some polynomial of degree 1 or more divides D": that is so exactly where gcd(D, D′) is not constant
-unfoldable pub notSquarefree : ℕ → List ℕ → Bool
-notSquarefree q D = not (eqb (size (modulo q) (gcd (modulo q) D (derivative (modulo q) D))) 1)
+unfoldable pub notSquarefree : FieldName → List ℕ → Bool
+notSquarefree f D = not (eqb (size (ops f) (gcd (ops f) D (derivative (ops f) D))) 1)
 
 -- the number of the first test that applies, 0 where none does
 unfoldable pub firstOf : List (ℕ × Bool) → ℕ
@@ -67,13 +71,13 @@ firstOf (t ∷ l) = elim (t .1) [ true ↦ t .0 | false ↦ firstOf l ]
 -- "Tested in this order; the first that applies is returned."
 unfoldable pub testsOf : Ticket → List ℕ → List (ℕ × Bool)
 testsOf t w =
-    (1, wrongHead w)
-    ∷ (2, wrongPrime (t .q))
+    (1, wrongHead (1 ∷ []) w)
+    ∷ (2, wrongPrime (t .field .q))
     ∷ (3, wrongDegree (t .n))
     ∷ (4, wrongLayout (t .n) w)
-    ∷ (5, wrongCoefficient (t .q) (t .D))
+    ∷ (5, wrongCoefficient (t .field) (t .D))
     ∷ (6, wrongLead (t .n) (t .D))
-    ∷ (7, notSquarefree (t .q) (t .D))
+    ∷ (7, notSquarefree (t .field) (t .D))
     ∷ []
 
 unfoldable pub refusalOf : List ℕ → ℕ

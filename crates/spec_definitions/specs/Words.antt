@@ -2,7 +2,7 @@
 use Prim.Native.Nat.{ℕ, _+_, _*_, _/_, _%_}
 use mathlib.Core.Bool.{Bool, true, false}
 use mathlib.Core.List.{List, [], _∷_}
-use lib.Dec.{eqb, leb}
+use lib.Dec.{eqb}
 
 -- 2^28, the number of values of a word
 abbrev pub values : ℕ
@@ -36,7 +36,12 @@ same [] (y ∷ ys) = false
 same (x ∷ xs) [] = false
 same (x ∷ xs) (y ∷ ys) = elim (eqb x y) [ true ↦ same xs ys | false ↦ false ]
 
--- some number of the list is at least q
-unfoldable pub someFrom : ℕ → List ℕ → Bool
-someFrom q [] = false
-someFrom q (x ∷ xs) = elim (leb q x) [ true ↦ true | false ↦ someFrom q xs ]
+-- some number of the list does not pass a test
+unfoldable pub someNot : (ℕ → Bool) → List ℕ → Bool
+someNot t [] = false
+someNot t (x ∷ xs) = elim (t x) [ true ↦ someNot t xs | false ↦ true ]
+
+-- a number is in a list
+unfoldable pub oneOf : List ℕ → ℕ → Bool
+oneOf [] x = false
+oneOf (y ∷ ys) x = elim (eqb x y) [ true ↦ true | false ↦ oneOf ys x ]

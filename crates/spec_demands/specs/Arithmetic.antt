@@ -1,21 +1,19 @@
--- "Div and mod are division with remainder": for every allowed q and all lists, a = quo·b + rem with a remainder of lower degree than b; 1/a is the inverse of a;
+-- "Div and mod are division with remainder": for every allowed field and all lists, a = quo·b + rem with a remainder of lower degree than b; 1/a is the inverse of a;
 -- gcd has the paper's rule, divides both polynomials, and every polynomial that divides both divides it.
--- What it is to divide is said with a factor, not with a remainder; both say the same. Polynomials are lists of any numbers and any length, read modulo q.
-use Prim.Native.Nat.{ℕ, _*_, _%_, _<_}
-use native.Mathlib.Nat.{eq-zero-or-pos}
+-- What it is to divide is said with a factor, not with a remainder; both say the same. Polynomials are lists of any numbers and any length, read in the field.
+use Prim.Native.Nat.{ℕ, _<_}
 use native.Mathlib.Omega.{arith}
 use mathlib.Core.Path.{_≡_, sym, ap, _∙_, fun-ext, subst}
-use mathlib.Core.Logic.{_≢_, ⊎-elim}
+use mathlib.Core.Logic.{_≢_}
 use mathlib.Core.List.{List, [], _∷_}
 use lib.ListN.{length}
-use Rattle.math_ring.specs.Residues.{Fq}
 use Rattle.math_ring.specs.Identity.{ring, quote}
 use Rattle.math_ring.specs.Series.{Series, addS, conv}
 use Rattle.math_algebra.specs.Field.{Field}
 use Rattle.math_algebra.specs.Polynomial.{F, Px, Monic}
 use Rattle.math_algebra.specs.Divides.{Divides as DividesIn}
 use Rattle.math_algebra.specs.Gcd.{IsGcd, gcd-monic, gcd-greatest}
-use Rattle.spec_definitions.specs.Field.{modulo, inverse}
+use Rattle.spec_definitions.specs.Field.{FieldName, ops, reading}
 use Rattle.spec_definitions.specs.Polynomials.{size, lead, add, mul, quo, rem, monic, gcd}
 use Rattle.spec_bridge.specs.Model.{Model, Inverts, Oks, series, series-nil}
 use Rattle.spec_bridge.specs.Trim.{below-length, trim-nil, size-is, lead-is}
@@ -26,111 +24,113 @@ use Rattle.spec_bridge.specs.Degree.{zero-size, monic-size}
 use Rattle.spec_bridge.specs.Gcd.{gcd-zero, gcd-rule}
 use Rattle.spec_bridge.specs.Bezout.{trim-gcd, oks-gcd}
 use Rattle.spec_bridge.specs.Euclid.{divides-rem-none, gcd-is}
-use Rattle.spec_bridge.specs.Prime.{Prime, odd-prime-more}
-use Rattle.spec_bridge.specs.Residues.{pos, model, field, inverts, inverse-mul, to-path, to-val}
-use Rattle.spec_demands.specs.Sentences.{AllowedPrime, Same}
-use Rattle.spec_demands.specs.Readings.{prime-allowed}
+use Rattle.spec_fields.specs.Named.{IsField, arithmetic, same-reading, reading-same, φ-first, ok-first, reading-zero}
+use Rattle.spec_demands.specs.Sentences.{AllowedField, Same}
+use Rattle.spec_demands.specs.Readings.{named-field}
 
--- f divides h: f·e = h for some e
-abbrev pub Divides : ℕ → List ℕ → List ℕ → Type 0
-Divides q f h = (e : List ℕ) × Same q h (mul (modulo q) f e)
+-- l divides h: l·e = h for some e
+abbrev pub Divides : FieldName → List ℕ → List ℕ → Type 0
+Divides f l h = (e : List ℕ) × Same f h (mul (ops f) l e)
 
 -- a = quo·b + rem, and deg rem < deg b
-pub record Divided (q : ℕ) (a b : List ℕ) : Type 0 where
-  pub is : Same q a (add (modulo q) (mul (modulo q) (quo (modulo q) a b) b) (rem (modulo q) a b))
-  pub less : size (modulo q) (rem (modulo q) a b) < size (modulo q) b
+pub record Divided (f : FieldName) (a b : List ℕ) : Type 0 where
+  pub is : Same f a (add (ops f) (mul (ops f) (quo (ops f) a b) b) (rem (ops f) a b))
+  pub less : size (ops f) (rem (ops f) a b) < size (ops f) b
 
 abbrev pub Division : Type 0
-Division = (q : ℕ) → AllowedPrime q → (a b : List ℕ) → size (modulo q) b ≢ 0 → Divided q a b
+Division = (f : FieldName) → AllowedField f → (a b : List ℕ) → size (ops f) b ≢ 0 → Divided f a b
 
 abbrev pub Inverse : Type 0
-Inverse = (q : ℕ) → AllowedPrime q → (a : ℕ) → a % q ≢ 0 → (inverse q a * a) % q ≡ 1
+Inverse = (f : FieldName) → AllowedField f → (a : ℕ) → reading f a ≢ 0 → ops f .mul (ops f .inv a) a ≡ 1
 
 -- "The greatest common divisor of A and B is that of B and the remainder of A by B; it is A made monic where B is zero, and zero where both are. Greatest common divisors are monic."
-pub record GcdRule (q : ℕ) (a b : List ℕ) : Type 0 where
-  pub step : size (modulo q) b ≢ 0 → gcd (modulo q) a b ≡ gcd (modulo q) b (rem (modulo q) a b)
-  pub base : size (modulo q) b ≡ 0 → gcd (modulo q) a b ≡ monic (modulo q) a
-  pub none : size (modulo q) a ≡ 0 → size (modulo q) b ≡ 0 → gcd (modulo q) a b ≡ []
-  pub leads : gcd (modulo q) a b ≢ [] → lead (modulo q) (gcd (modulo q) a b) ≡ 1
-  pub divides-first : Divides q (gcd (modulo q) a b) a
-  pub divides-second : Divides q (gcd (modulo q) a b) b
-  pub greatest : (f : List ℕ) → Divides q f a → Divides q f b → Divides q f (gcd (modulo q) a b)
+pub record GcdRule (f : FieldName) (a b : List ℕ) : Type 0 where
+  pub step : size (ops f) b ≢ 0 → gcd (ops f) a b ≡ gcd (ops f) b (rem (ops f) a b)
+  pub base : size (ops f) b ≡ 0 → gcd (ops f) a b ≡ monic (ops f) a
+  pub none : size (ops f) a ≡ 0 → size (ops f) b ≡ 0 → gcd (ops f) a b ≡ []
+  pub leads : gcd (ops f) a b ≢ [] → lead (ops f) (gcd (ops f) a b) ≡ 1
+  pub divides-first : Divides f (gcd (ops f) a b) a
+  pub divides-second : Divides f (gcd (ops f) a b) b
+  pub greatest : (l : List ℕ) → Divides f l a → Divides f l b → Divides f l (gcd (ops f) a b)
 
 abbrev pub Euclid : Type 0
-Euclid = (q : ℕ) → AllowedPrime q → (a b : List ℕ) → GcdRule q a b
+Euclid = (f : FieldName) → AllowedField f → (a b : List ℕ) → GcdRule f a b
 
 -- ---- the proof
-module _ (q : ℕ) (p : Prime q) (more : 2 < q) where
-  abbrev K : Field (Fq q)
-  K = field q p more
+module _ (f : FieldName) (named : IsField f) where
+  abbrev K : Field (arithmetic f named .Elements)
+  K = arithmetic f named .K
 
-  abbrev M : Model (modulo q) (F K)
-  M = model q (pos q p)
+  abbrev M : Model (ops f) (F K)
+  M = arithmetic f named .M
 
-  -- the same polynomial modulo q and over the field
-  pub series-same : (f h : List ℕ) → series M f ≡ series M h → Same q f h
-  series-same f h e i = to-val q (pos q p) _ _ (ap (λ (u : Px K). u i) e)
+  -- the same polynomial by its coefficients and over the field
+  pub series-same : (l h : List ℕ) → series M l ≡ series M h → Same f l h
+  series-same l h e i = same-reading f named _ _ (ap (λ (u : Px K). u i) e)
 
-  pub same-series : (f h : List ℕ) → Same q f h → series M f ≡ series M h
-  same-series f h e = fun-ext (λ i. to-path q (pos q p) _ _ (e i))
+  pub same-series : (l h : List ℕ) → Same f l h → series M l ≡ series M h
+  same-series l h e = fun-ext (λ i. reading-same f named _ _ (e i))
 
   -- a factor where nothing remains, and back
-  pub rem-divides : (h f : List ℕ) → rem (modulo q) h f ≡ [] → Divides q f h
-  rem-divides h f e =
-      let c : List ℕ = quo (modulo q) h f in
-      (c, series-same h (mul (modulo q) f c) (series-quo-rem M h f ∙ ap (addS (F K) (conv (F K) (series M c) (series M f))) (ap (series M) e ∙ series-nil M) ∙ ring (Series (F K)) (series M c ∷ series M f ∷ []) (search quote depth 40 fits 9999) tt ∙ sym (series-mul M f c)))
+  pub rem-divides : (h l : List ℕ) → rem (ops f) h l ≡ [] → Divides f l h
+  rem-divides h l e =
+      let c : List ℕ = quo (ops f) h l in
+      (c, series-same h (mul (ops f) l c) (series-quo-rem M h l ∙ ap (addS (F K) (conv (F K) (series M c) (series M l))) (ap (series M) e ∙ series-nil M) ∙ ring (Series (F K)) (series M c ∷ series M l ∷ []) (search quote depth 40 fits 9999) tt ∙ sym (series-mul M l c)))
 
   -- over the field
-  pub divides-series : (h f : List ℕ) → Divides q f h → DividesIn K (series M f) (series M h)
-  divides-series h f (e, s) = record { by = series M e; size = length e; low = below-length M e; is = same-series h (mul (modulo q) f e) s ∙ series-mul M f e }
+  pub divides-series : (h l : List ℕ) → Divides f l h → DividesIn K (series M l) (series M h)
+  divides-series h l (e, s) = record { by = series M e; size = length e; low = below-length M e; is = same-series h (mul (ops f) l e) s ∙ series-mul M l e }
 
-  pub series-divides : (h f : List ℕ) → DividesIn K (series M f) (series M h) → Divides q f h
-  series-divides h f d = rem-divides h f (divides-rem-none K M (inverts q (pos q p) p) h f d)
+  pub series-divides : (h l : List ℕ) → DividesIn K (series M l) (series M h) → Divides f l h
+  series-divides h l d = rem-divides h l (divides-rem-none K M (arithmetic f named .I) h l d)
 
-  pub divides-rem : (h f : List ℕ) → Divides q f h → rem (modulo q) h f ≡ []
-  divides-rem h f d = divides-rem-none K M (inverts q (pos q p) p) h f (divides-series h f d)
+  pub divides-rem : (h l : List ℕ) → Divides f l h → rem (ops f) h l ≡ []
+  divides-rem h l d = divides-rem-none K M (arithmetic f named .I) h l (divides-series h l d)
 
-  divided : (a b : List ℕ) → size (modulo q) b ≢ 0 → Divided q a b
+  divided : (a b : List ℕ) → size (ops f) b ≢ 0 → Divided f a b
   divided a b some = record {
-    is = series-same a (add (modulo q) (mul (modulo q) c b) r) (series-quo-rem M a b ∙ sym (series-add M (mul (modulo q) c b) r ∙ ap (λ (u : Px K). addS (F K) u (series M r)) (series-mul M c b)));
-    less = let e = size-is M b in let k = rem-less M (inverts q (pos q p) p) a b (omega arith) in let l = size-is M r in let t = ap length (trim-rem M a b) in omega arith;
+    is = series-same a (add (ops f) (mul (ops f) c b) r) (series-quo-rem M a b ∙ sym (series-add M (mul (ops f) c b) r ∙ ap (λ (u : Px K). addS (F K) u (series M r)) (series-mul M c b)));
+    less = let e = size-is M b in let k = rem-less M (arithmetic f named .I) a b (omega arith) in let l = size-is M r in let t = ap length (trim-rem M a b) in omega arith;
   }
     where
       c : List ℕ
-      c = quo (modulo q) a b
+      c = quo (ops f) a b
 
       r : List ℕ
-      r = rem (modulo q) a b
+      r = rem (ops f) a b
 
   -- the leading coefficient of a monic list
-  pub lead-is-one : (l : List ℕ) {n : ℕ} → Oks M l → Monic K (series M l) n → lead (modulo q) l ≡ 1
-  lead-is-one l {n} k m = M .inj (lead (modulo q) l) 1 (subst (λ (a : ℕ). a < q) (sym (lead-is M l)) (k _)) (omega arith) (ap (M .φ) (lead-is M l) ∙ ap (series M l) (let e = monic-size K M l m in omega arith) ∙ m .top)
+  pub lead-is-one : (l : List ℕ) {n : ℕ} → Oks M l → Monic K (series M l) n → lead (ops f) l ≡ 1
+  lead-is-one l {n} k m = M .inj (lead (ops f) l) 1 (subst (M .Ok) (sym (lead-is M l)) (k _)) (ok-first f named) (ap (M .φ) (lead-is M l) ∙ ap (series M l) (let e = monic-size K M l m in omega arith) ∙ m .top ∙ sym (φ-first f named))
 
-  pub gcd-rules : (a b : List ℕ) → GcdRule q a b
+  pub gcd-rules : (a b : List ℕ) → GcdRule f a b
   gcd-rules a b = record {
     step = λ some. gcd-rule M I a b (let e = size-is M b in omega arith);
     base = zero;
-    none = λ e f. zero f ∙ sym (trim-monic M I a) ∙ trim-nil M (monic (modulo q) a) (let k = length-monic M I a in let l = size-is M a in let t = ap length (trim-monic M I a) in omega arith);
-    leads = λ some. lead-is-one (gcd (modulo q) a b) (oks-gcd M I a b) (gcd-monic K is (λ e. some (sym (trim-gcd M I a b) ∙ zero-size K M (gcd (modulo q) a b) e)) .1);
-    divides-first = series-divides a (gcd (modulo q) a b) (is .left);
-    divides-second = series-divides b (gcd (modulo q) a b) (is .right);
-    greatest = λ f u v. series-divides (gcd (modulo q) a b) f (gcd-greatest K is (divides-series a f u) (divides-series b f v));
+    none = λ e c. zero c ∙ sym (trim-monic M I a) ∙ trim-nil M (monic (ops f) a) (let k = length-monic M I a in let l = size-is M a in let t = ap length (trim-monic M I a) in omega arith);
+    leads = λ some. lead-is-one (gcd (ops f) a b) (oks-gcd M I a b) (gcd-monic K is (λ e. some (sym (trim-gcd M I a b) ∙ zero-size K M (gcd (ops f) a b) e)) .1);
+    divides-first = series-divides a (gcd (ops f) a b) (is .left);
+    divides-second = series-divides b (gcd (ops f) a b) (is .right);
+    greatest = λ c u v. series-divides (gcd (ops f) a b) c (gcd-greatest K is (divides-series a c u) (divides-series b c v));
   }
     where
       I : Inverts M
-      I = inverts q (pos q p) p
+      I = arithmetic f named .I
 
-      is : IsGcd K (series M a) (series M b) (series M (gcd (modulo q) a b))
+      is : IsGcd K (series M a) (series M b) (series M (gcd (ops f) a b))
       is = gcd-is K M I a b
 
-      zero : size (modulo q) b ≡ 0 → gcd (modulo q) a b ≡ monic (modulo q) a
-      zero f = gcd-zero M I a b (trim-nil M b (sym (size-is M b) ∙ f))
+      zero : size (ops f) b ≡ 0 → gcd (ops f) a b ≡ monic (ops f) a
+      zero c = gcd-zero M I a b (trim-nil M b (sym (size-is M b) ∙ c))
 
 pub division : Division
-division q r a b some = let o = prime-allowed q .1 r in divided q (o .prime) (odd-prime-more q o) a b some
+division q r a b some = divided q (named-field q r) a b some
 
 pub inverse-is : Inverse
-inverse-is q r a some = let p = prime-allowed q .1 r .prime in inverse-mul q (pos q p) p a (⊎-elim (λ e. absurd (some e)) (λ l. l) (eq-zero-or-pos (a % q)))
+inverse-is q r a some = M q n .inj _ _ (M q n .ok-mul _ _) (ok-first q n) (M q n .φ-mul _ _ ∙ arithmetic q n .I .inv-mul a (λ e. some (same-reading q n a 0 (e ∙ sym (M q n .φ-zer)) ∙ reading-zero q)) ∙ sym (φ-first q n))
+  where
+    n : IsField q
+    n = named-field q r
 
 pub euclid : Euclid
-euclid q r a b = let o = prime-allowed q .1 r in gcd-rules q (o .prime) (odd-prime-more q o) a b
+euclid q r a b = gcd-rules q (named-field q r) a b

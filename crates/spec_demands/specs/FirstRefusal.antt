@@ -7,9 +7,11 @@ use mathlib.Core.Logic.{_↔_, inl}
 use mathlib.Core.List.{List}
 use lib.ListN.{length}
 use Rattle.spec_definitions.specs.Ticket.{ticketOf, testsOf, refusalOf, notSquarefree}
-use Rattle.spec_bridge.specs.Prime.{OddPrime, odd-prime-true, prime-odd-prime, odd-prime-more}
-use Rattle.spec_demands.specs.Sentences.{q, n, D, coefficient, Applies, NotSquarefree}
-use Rattle.spec_demands.specs.Tests.{Tests, tests-eq, tests-stable, NoneBelow, Numbered, end, _then_, Answers, first-of, answer-first, answer-none}
+use Rattle.spec_bridge.specs.Prime.{OddPrime, odd-prime-true, prime-odd-prime}
+use Rattle.spec_fields.specs.Named.{IsField, arithmetic}
+use Rattle.spec_laws.specs.Admitted.{field-of}
+use Rattle.spec_demands.specs.Sentences.{q, field, n, D, coefficient, Applies, NotSquarefree}
+use Rattle.spec_demands.specs.Tests.{Tests, tests-eq, tests-none, tests-stable, NoneBelow, Numbered, end, _then_, Answers, first-of, answer-first, answer-none}
 use Rattle.spec_demands.specs.Readings.{prime-allowed, tests-head, tests-prime, tests-degree, tests-layout, tests-coefficient, tests-lead, coefficient-at, length-D}
 use Rattle.spec_demands.specs.Squares.{tests-square}
 
@@ -30,6 +32,9 @@ module _ (w : List ℕ) where
   unfolding Applies
   prime none = tests-stable (odd-prime-true (q w), prime-odd-prime (q w)) (λ h. none 2 (omega arith) (omega arith) (λ a. h (prime-allowed (q w) .1 a)))
 
+  is : NoneBelow P 7 → IsField (field w)
+  is none = field-of (field w) (tests-none (tests-prime w) (λ h. h (prime-allowed (q w) .0 (prime none))))
+
   words : (k : ℕ) → 4 < k → NoneBelow P k → length w ≡ n w + 5
   unfolding Applies
   words k l none = tests-stable (tests-eq (length w) (n w + 5)) (λ h. none 4 (omega arith) l (inl h))
@@ -38,8 +43,8 @@ module _ (w : List ℕ) where
   unfolding Applies
   lead none = tests-stable (tests-eq (coefficient w (n w)) 1) (λ h. none 6 (omega arith) (omega arith) h)
 
-  tests-squarefree : NoneBelow P 7 → Tests (notSquarefree (q w) (D w)) (NotSquarefree w)
-  tests-squarefree none = tests-square (q w) (prime none .prime) (odd-prime-more (q w) (prime none)) (D w) (n w) (omega (arith, length-D w (words 7 (omega arith) none))) (coefficient-at w (n w) (omega arith) ∙ lead none)
+  tests-squarefree : NoneBelow P 7 → Tests (notSquarefree (field w) (D w)) (NotSquarefree w)
+  tests-squarefree none = tests-square (field w) (arithmetic (field w) (is none)) (D w) (n w) (omega (arith, length-D w (words 7 (omega arith) none))) (coefficient-at w (n w) (omega arith) ∙ lead none)
 
   numbered : Numbered P 1 (testsOf (ticketOf w) w)
   unfolding testsOf ticketOf Applies

@@ -18,7 +18,7 @@ T3Listing = (w l : List ℕ) (x : Outcome) → listingAnswer w l .says ≡ said 
 
 -- T3 of an outcome with the lists at exit: found, the unit is read from places 0 to R of the first two lists
 abbrev pub LeastWritten : List ℕ → Outcome → Lists → Type 0
-LeastWritten w (found R m c) l = LeastFound (ticketOf w .q) (ticketOf w .D) (unitIn R l) R c
+LeastWritten w (found R m c) l = LeastFound (ticketOf w .field) (ticketOf w .D) (unitIn R l) R c
 LeastWritten w (spent k e) l = Least w (spent k e)
 LeastWritten w (refused j) l = Unit
 

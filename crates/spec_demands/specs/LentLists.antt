@@ -10,14 +10,15 @@ use lib.ListN.{length, take, drop, replicate, length-append, length-drop}
 use lib.Seq.{take-at, drop-at}
 use borrow.Author.Tests.{leb-true, leb-false, le-leb, lt-leb}
 use Rattle.math_ring.specs.Order.{le-or-lt}
-use Rattle.spec_definitions.specs.Field.{modulo}
+use Rattle.spec_definitions.specs.Field.{FieldName, ops}
 use Rattle.spec_definitions.specs.Polynomials.{pad}
 use Rattle.spec_definitions.specs.Ticket.{Ticket, genus, ticketOf, refusalOf}
 use Rattle.spec_definitions.specs.Answers.{Outcome, found, spent, refused, said, said-injective, opsOf, outcomeOf, wordsOutcome}
 use Rattle.spec_definitions.specs.Units.{Lists, UnitAnswer, longEnough, written, unitLists, unitFrom, unitAnswer}
 use Rattle.spec_definitions.specs.Listing.{ListingAnswer, listingOf, listingFrom, listingAnswer}
 use Rattle.spec_laws.specs.Admitted.{passed, degree-of}
-use Rattle.spec_demands.specs.Records.{length-pad, length-listing}
+use Rattle.spec_lists.specs.Pad.{length-pad}
+use Rattle.spec_demands.specs.Records.{length-listing}
 
 -- the list `new` is `old` from place k on
 pub record KeepsFrom (k : ℕ) (old new : List ℕ) : Type 0 where
@@ -83,15 +84,15 @@ module _ (k : ℕ) (l : Lists) where
   long-not-short e s = false≢true (sym (short-false s) ∙ e)
 
 -- ---- what is written in one list
-pad-zeros : (q k : ℕ) → pad (modulo q) k [] ≡ replicate k 0
+pad-zeros : (f : FieldName) (k : ℕ) → pad (ops f) k [] ≡ replicate k 0
 unfolding pad
-pad-zeros q zero = refl
-pad-zeros q (suc k) = ap (λ (l : List ℕ). 0 ∷ l) (pad-zeros q k)
+pad-zeros f zero = refl
+pad-zeros f (suc k) = ap (λ (l : List ℕ). 0 ∷ l) (pad-zeros f k)
 
 module _ (t : Ticket) (k : ℕ) (old : List ℕ) where
   zeros : take k (written t k [] old) ≡ replicate k 0
   unfolding written
-  zeros = take-at (pad (opsOf t) k []) (drop k old) k (length-pad (opsOf t) k []) ∙ pad-zeros (t .q) k
+  zeros = take-at (pad (opsOf t) k []) (drop k old) k (length-pad (opsOf t) k []) ∙ pad-zeros (t .field) k
 
   keeps : (l : List ℕ) → k ≤ length old → KeepsFrom k old (written t k l old)
   unfolding written

@@ -8,13 +8,12 @@ use mathlib.Core.Bool.{true, false, false≢true}
 use mathlib.Core.List.{List, map}
 use lib.ListN.{length, getD}
 use borrow.Author.Tests.{eq-eqb, ne-eqb}
-use Rattle.math_ring.specs.Residues.{Fq}
 use Rattle.math_algebra.specs.Field.{Field}
 use Rattle.math_algebra.specs.Polynomial.{F, _≺_ as Low, low-up}
 use Rattle.math_surd.specs.Step.{State}
 use Rattle.math_surd.specs.Walk.{prior}
 use Rattle.math_surd.specs.Walk as states
-use Rattle.spec_definitions.specs.Field.{modulo}
+use Rattle.spec_definitions.specs.Field.{FieldName, ops}
 use Rattle.spec_definitions.specs.Polynomials.{trim, monic, rem, root}
 use Rattle.spec_definitions.specs.Words.{kind, high}
 use Rattle.spec_definitions.specs.Ticket.{Ticket, genus, ticketOf, refusalOf, wrongDegree}
@@ -27,12 +26,12 @@ use Rattle.spec_bridge.specs.Model.{Model, Inverts, series}
 use Rattle.spec_bridge.specs.Trim.{below-length}
 use Rattle.spec_bridge.specs.Division.{rem-less, oks-rem}
 use Rattle.spec_bridge.specs.Monic.{trim-monic, oks-monic, length-monic}
-use Rattle.spec_bridge.specs.Residues.{pos, model, field, inverts}
+use Rattle.spec_fields.specs.Named.{Ok, arithmetic, ok-small}
 use Rattle.spec_laws.specs.Surd.{Surd, Q-trim}
 use Rattle.spec_laws.specs.Fraction.{fraction, Q-deg, Q-some, Q-length}
 use Rattle.spec_laws.specs.Convergents.{degree-zero, degree-rise, degree-most}
 use Rattle.spec_laws.specs.Reduced.{reduced-ideal}
-use Rattle.spec_laws.specs.Admitted.{Admitted, surd-of, admitted, passed, degree-of, budget-less}
+use Rattle.spec_laws.specs.Admitted.{Admitted, is-field, surd-of, admitted, passed, degree-of, budget-less}
 use Rattle.spec_demands.specs.Continued.{StopsAt, Walks, t2}
 use Rattle.spec_demands.specs.Lookups.{WrongListing, tests-listing}
 use Rattle.spec_demands.specs.Pairs.{IsPair, is-pair}
@@ -46,9 +45,9 @@ pub record RecordHolds (t : Ticket) (R j : ℕ) : Type 0 where
   pub mirror-is : mirrorOf R (entryOf t j) + entryOf t j .distance ≡ R
   pub Q-whole : length (entryOf t j .ideal .q) ≤ suc (genus (t .n))
   pub P-whole : length (entryOf t j .ideal .p) ≤ genus (t .n)
-  pub Q-below : (i : ℕ) → getD (entryOf t j .ideal .q) i 0 < t .q
-  pub P-below : (i : ℕ) → getD (entryOf t j .ideal .p) i 0 < t .q
-  pub ideal : IsPair (t .q) (t .D) (entryOf t j .ideal .q) (entryOf t j .ideal .p)
+  pub Q-below : (i : ℕ) → Ok (t .field) (getD (entryOf t j .ideal .q) i 0)
+  pub P-below : (i : ℕ) → Ok (t .field) (getD (entryOf t j .ideal .p) i 0)
+  pub ideal : IsPair (t .field) (t .D) (entryOf t j .ideal .q) (entryOf t j .ideal .p)
 
 -- what is read in the list l of the records 1 to m, and that refusal 8 does not apply to it
 pub record ReadBack (t : Ticket) (R m : ℕ) (l : List ℕ) : Type 0 where
@@ -61,27 +60,27 @@ abbrev pub T2Listings : Type 0
 T2Listings = (w : List ℕ) → refusalOf w ≡ 0 → (R m c : ℕ) → wordsOutcome w ≡ found R m c → ((j : ℕ) → j < m → RecordHolds (ticketOf w) R j) × ReadBack (ticketOf w) R m (listingOf (ticketOf w) R m)
 
 -- ---- the ideals of the walk, for a D that is admitted
-module _ {q g : ℕ} {D : List ℕ} (h : Admitted q g D) where
-  abbrev K : Field (Fq q)
-  K = field q (h .prime) (h .odd)
+module _ {f : FieldName} {g : ℕ} {D : List ℕ} (h : Admitted f g D) where
+  abbrev K : Field (arithmetic f (is-field h) .Elements)
+  K = arithmetic f (is-field h) .K
 
-  abbrev M : Model (modulo q) (F K)
-  M = model q (pos q (h .prime))
+  abbrev M : Model (ops f) (F K)
+  M = arithmetic f (is-field h) .M
 
   abbrev I : Inverts M
-  I = inverts q (pos q (h .prime)) (h .prime)
+  I = arithmetic f (is-field h) .I
 
   abbrev d : List ℕ
-  d = root (modulo q) D (suc g)
+  d = root (ops f) D (suc g)
 
   abbrev z : Surd K M g D d
   z = surd-of h
 
   abbrev Q : ℕ → List ℕ
-  Q = walk.Q (modulo q) D d
+  Q = walk.Q (ops f) D d
 
   abbrev P : ℕ → List ℕ
-  P = walk.P (modulo q) D d
+  P = walk.P (ops f) D d
 
   state-at : (i : ℕ) → State K (series M D) (series M (Q i)) (prior K (series M D) (λ j. series M (Q j)) i) (series M (P i))
   state-at i = record { κ = length (Q i) - 1; deg = Q-deg z i; norm = states.norm K (fraction z) i; size = length (before i) + length (P i); C-low = low i; P-low = low-up K _ (omega arith) (below-length M (P i)) }
@@ -94,24 +93,24 @@ module _ {q g : ℕ} {D : List ℕ} (h : Admitted q g D) where
       low zero = low-up K _ (omega arith) (below-length M D)
       low (suc i) = low-up K _ (omega arith) (below-length M (Q i))
 
-  monic-length : (i : ℕ) → length (monic (modulo q) (Q i)) ≡ length (Q i)
+  monic-length : (i : ℕ) → length (monic (ops f) (Q i)) ≡ length (Q i)
   monic-length i = length-monic M I (Q i) ∙ ap length (Q-trim z i)
 
-  rem-length : (i : ℕ) → length (rem (modulo q) (P i) (monic (modulo q) (Q i))) < length (Q i)
+  rem-length : (i : ℕ) → length (rem (ops f) (P i) (monic (ops f) (Q i))) < length (Q i)
   rem-length i =
-      let m : List ℕ = monic (modulo q) (Q i) in
-      let t : length (trim (modulo q) m) ≡ length m = ap length (trim-monic M I (Q i)) in
+      let m : List ℕ = monic (ops f) (Q i) in
+      let t : length (trim (ops f) m) ≡ length m = ap length (trim-monic M I (Q i)) in
       let e = monic-length i in
       let k = Q-some z i in
       let l = rem-less M I (P i) m (omega arith) in
       omega arith
 
-  walk-pair : (i : ℕ) → let x = idealOf (modulo q) (walk.walk (modulo q) D d i) in IsPair q D (x .q) (x .p)
+  walk-pair : (i : ℕ) → let x = idealOf (ops f) (walk.walk (ops f) D d i) in IsPair f D (x .q) (x .p)
   unfolding idealOf
-  walk-pair i = is-pair h (oks-monic M I (Q i)) (reduced-ideal K M I D (walk.walk (modulo q) D d i) (state-at i))
+  walk-pair i = is-pair h (oks-monic M I (Q i)) (reduced-ideal K M I D (walk.walk (ops f) D d i) (state-at i))
 
   -- 2²⁸·32 is far below 2⁵⁶
-  degree-fits : (i : ℕ) → i ≤ 268435456 → degreeBefore (modulo q) D d i ≤ 8589934592
+  degree-fits : (i : ℕ) → i ≤ 268435456 → degreeBefore (ops f) D d i ≤ 8589934592
   degree-fits i l =
       let k = degree-most z i in
       let y : suc g ≤ 32 = (let e = h .genus-most in omega arith) in
@@ -123,7 +122,7 @@ unfolding high
 high-fits x l = let e : 268435456 * (x / 268435456) + x % 268435456 ≡ x = div-add-mod x 268435456 in omega arith
 
 -- ---- the records
-module _ (t : Ticket) (h : Admitted (t .q) (genus (t .n)) (t .D)) (R m : ℕ) (most : m < 268435456) (is : R ≡ degreeBefore (opsOf t) (t .D) (rootOf t) m) where
+module _ (t : Ticket) (h : Admitted (t .field) (genus (t .n)) (t .D)) (R m : ℕ) (most : m < 268435456) (is : R ≡ degreeBefore (opsOf t) (t .D) (rootOf t) m) where
   holds : (j : ℕ) → j < m → RecordHolds t R j
   unfolding entryOf idealOf mirrorOf rootOf
   holds j l = record {
@@ -133,8 +132,8 @@ module _ (t : Ticket) (h : Admitted (t .q) (genus (t .n)) (t .D)) (R m : ℕ) (m
     mirror-is = let e = is in let k = degree-rise (surd-of h) j m l in omega arith;
     Q-whole = let e = monic-length h j in let k = Q-length (surd-of h) j in omega arith;
     P-whole = let e = rem-length h j in let k = Q-length (surd-of h) j in omega arith;
-    Q-below = oks-monic (M h) (I h) (Q h j);
-    P-below = oks-rem (M h) (P h j) (monic (opsOf t) (Q h j));
+    Q-below = λ i. arithmetic (t .field) (is-field h) .ok-is _ (oks-monic (M h) (I h) (Q h j) i);
+    P-below = λ i. arithmetic (t .field) (is-field h) .ok-is _ (oks-rem (M h) (P h j) (monic (opsOf t) (Q h j)) i);
     ideal = walk-pair h j;
   }
 
@@ -153,7 +152,7 @@ module _ (t : Ticket) (h : Admitted (t .q) (genus (t .n)) (t .D)) (R m : ℕ) (m
     unfolding recordOf
     fits j k =
         let r = holds j k in
-        kinds-record (t .q) (t .n) _ (entryOf t j) (r .index-fits) (r .distance-fits) (r .mirror-fits) (λ i. let a = r .Q-below i in let b = h .small in omega arith) (λ i. let a = r .P-below i in let b = h .small in omega arith)
+        kinds-record (t .field) (t .n) _ (entryOf t j) (r .index-fits) (r .distance-fits) (r .mirror-fits) (λ i. let b = ok-small (t .field) (is-field h) _ (r .Q-below i) in omega arith) (λ i. let b = ok-small (t .field) (is-field h) _ (r .P-below i) in omega arith)
 
     first : distanceAt l (t .n) 0 ≡ 0
     unfolding entryOf rootOf
@@ -188,10 +187,10 @@ pub t2-listings : T2Listings
 unfolding degreeBefore
 t2-listings w e R m c f = (holds (ticketOf w) h R m most (s .regulator), read-back (ticketOf w) h R m most (s .regulator) (s .positive) (passed w e .degree))
   where
-    h : Admitted (ticketOf w .q) (genus (ticketOf w .n)) (ticketOf w .D)
+    h : Admitted (ticketOf w .field) (genus (ticketOf w .n)) (ticketOf w .D)
     h = admitted w e
 
-    s : StopsAt (ticketOf w .q) (ticketOf w .D) (rootOf (ticketOf w)) (ticketOf w .b) R m c
+    s : StopsAt (ticketOf w .field) (ticketOf w .D) (rootOf (ticketOf w)) (ticketOf w .b) R m c
     s = subst (Walks (ticketOf w)) f (t2 w e) .ends
 
     most : m < 268435456

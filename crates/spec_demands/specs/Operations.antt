@@ -14,7 +14,7 @@ use Rattle.math_ring.specs.Residues.{FqRing}
 use Rattle.math_ring.specs.Series.{S}
 use Rattle.math_algebra.specs.Derivative.{derivative-at}
 use Rattle.math_algebra.specs.Polynomial.{F}
-use Rattle.spec_definitions.specs.Field.{modulo, inverse}
+use Rattle.spec_definitions.specs.Field.{FieldName, ops, reading, inverse}
 use Rattle.spec_definitions.specs.Polynomials.{trim, size, deg, add, sub, scale, mul, lead, quo, rem, monic, gcd, times, derivative, root}
 use Rattle.spec_bridge.specs.Model.{Model, Inverts, Oks, series}
 use Rattle.spec_bridge.specs.Trim.{Trim, below-size, below-length, size-le, size-is, size-series, lead-is, lead-some}
@@ -25,10 +25,10 @@ use Rattle.spec_bridge.specs.Derivative.{φ-times, ok-times, series-derivative,
 use Rattle.spec_bridge.specs.Monic.{oks-monic, trim-monic, length-monic, monic-top}
 use Rattle.spec_bridge.specs.Bezout.{oks-gcd, trim-gcd}
 use Rattle.spec_bridge.specs.Root.{oks-root, trim-root}
-use Rattle.spec_bridge.specs.Prime.{Prime, odd-prime-more}
-use Rattle.spec_bridge.specs.Residues.{pos, model, field, inverts, inverse-lt, inverse-mul, to-path, to-val}
-use Rattle.spec_demands.specs.Sentences.{AllowedPrime, Same}
-use Rattle.spec_demands.specs.Readings.{prime-allowed}
+use Rattle.spec_bridge.specs.Residues.{pos, model, inverse-lt, inverse-mul, to-path, to-val}
+use Rattle.spec_fields.specs.Named.{IsField, Ok, arithmetic}
+use Rattle.spec_demands.specs.Sentences.{AllowedField, Same}
+use Rattle.spec_demands.specs.Readings.{named-field}
 use Rattle.spec_demands.specs.Arithmetic.{lead-is-one}
 
 -- f(0) + .. + f(i)
@@ -36,177 +36,181 @@ unfoldable pub total : (ℕ → ℕ) → ℕ → ℕ
 total f zero = f 0
 total f (suc i) = total f i + f (suc i)
 
--- n is the degree of f and 1, and 0 for the zero polynomial: every coefficient from n on is 0, and the one before is not
-pub record SizeOf (q : ℕ) (f : List ℕ) (n : ℕ) : Type 0 where
-  pub past : (i : ℕ) → n ≤ i → getD f i 0 % q ≡ 0
-  pub top : (k : ℕ) → n ≡ suc k → getD f k 0 % q ≢ 0
+-- n is the degree of l and 1, and 0 for the zero polynomial: every coefficient from n on is 0, and the one before is not
+pub record SizeOf (f : FieldName) (l : List ℕ) (n : ℕ) : Type 0 where
+  pub past : (i : ℕ) → n ≤ i → reading f (getD l i 0) ≡ 0
+  pub top : (k : ℕ) → n ≡ suc k → reading f (getD l k 0) ≢ 0
 
 -- "Coefficients are 0 to q−1", and there is no zero at the end
-pub record Trimmed (q : ℕ) (f : List ℕ) : Type 0 where
-  pub length-is : length f ≡ size (modulo q) f
-  pub below : (i : ℕ) → getD f i 0 < q
+pub record Trimmed (f : FieldName) (l : List ℕ) : Type 0 where
+  pub length-is : length l ≡ size (ops f) l
+  pub below : (i : ℕ) → Ok f (getD l i 0)
 
--- h is "f made monic": a multiple by a constant other than 0, with the leading coefficient 1
-pub record MadeMonic (q : ℕ) (f h : List ℕ) : Type 0 where
+-- h is l "made monic": a multiple by a constant other than 0, with the leading coefficient 1
+pub record MadeMonic (f : FieldName) (l h : List ℕ) : Type 0 where
   pub k : ℕ
   pub positive : 0 < k
-  pub below : k < q
-  pub is : Same q h (scale (modulo q) k f)
-  pub leads : lead (modulo q) h ≡ 1
-  pub same-size : size (modulo q) h ≡ size (modulo q) f
+  pub below : Ok f k
+  pub is : Same f h (scale (ops f) k l)
+  pub leads : lead (ops f) h ≡ 1
+  pub same-size : size (ops f) h ≡ size (ops f) l
 
--- each operation by its coefficients; q is to be an allowed prime where an inverse is taken
-pub record Operations (q : ℕ) : Type 0 where
-  pub sum : (f h : List ℕ) (i : ℕ) → getD (add (modulo q) f h) i 0 ≡ (getD f i 0 + getD h i 0) % q
-  pub difference : (f h : List ℕ) (i : ℕ) → (getD (sub (modulo q) f h) i 0 + getD h i 0) % q ≡ getD f i 0 % q
-  pub multiple : (c : ℕ) (f : List ℕ) (i : ℕ) → getD (scale (modulo q) c f) i 0 ≡ (c * getD f i 0) % q
-  pub product : (f h : List ℕ) (i : ℕ) → getD (mul (modulo q) f h) i 0 ≡ total (λ j. getD f j 0 * getD h (i - j) 0) i % q
-  pub derived : (f : List ℕ) (i : ℕ) → getD (derivative (modulo q) f) i 0 ≡ (suc i * getD f (suc i) 0) % q
-  pub sized : (f : List ℕ) → SizeOf q f (size (modulo q) f)
-  pub size-only : (f : List ℕ) (n : ℕ) → SizeOf q f n → n ≡ size (modulo q) f
-  pub degree : (f : List ℕ) (k : ℕ) → size (modulo q) f ≡ suc k → deg (modulo q) f ≡ k
-  pub leading : (f : List ℕ) → lead (modulo q) f ≡ getD f (size (modulo q) f - 1) 0
-  pub made-monic : AllowedPrime q → (f : List ℕ) → size (modulo q) f ≢ 0 → MadeMonic q f (monic (modulo q) f)
-  pub sum-trimmed : (f h : List ℕ) → Trimmed q (add (modulo q) f h)
-  pub difference-trimmed : (f h : List ℕ) → Trimmed q (sub (modulo q) f h)
-  pub multiple-trimmed : (c : ℕ) (f : List ℕ) → Trimmed q (scale (modulo q) c f)
-  pub product-trimmed : (f h : List ℕ) → Trimmed q (mul (modulo q) f h)
-  pub derived-trimmed : (f : List ℕ) → Trimmed q (derivative (modulo q) f)
-  pub quo-trimmed : (a b : List ℕ) → Trimmed q (quo (modulo q) a b)
-  pub rem-trimmed : (a b : List ℕ) → Trimmed q (rem (modulo q) a b)
-  pub monic-trimmed : (f : List ℕ) → Trimmed q (monic (modulo q) f)
-  pub gcd-trimmed : AllowedPrime q → (a b : List ℕ) → Trimmed q (gcd (modulo q) a b)
-  pub root-trimmed : AllowedPrime q → (D : List ℕ) (N : ℕ) → Trimmed q (root (modulo q) D N)
+-- each operation by its coefficients; the field is to be an allowed one where an inverse is taken
+pub record Operations (f : FieldName) : Type 0 where
+  pub sum : (l h : List ℕ) (i : ℕ) → getD (add (ops f) l h) i 0 ≡ (getD l i 0 + getD h i 0) % f .q
+  pub difference : (l h : List ℕ) (i : ℕ) → (getD (sub (ops f) l h) i 0 + getD h i 0) % f .q ≡ reading f (getD l i 0)
+  pub multiple : (c : ℕ) (l : List ℕ) (i : ℕ) → getD (scale (ops f) c l) i 0 ≡ (c * getD l i 0) % f .q
+  pub product : (l h : List ℕ) (i : ℕ) → getD (mul (ops f) l h) i 0 ≡ total (λ j. getD l j 0 * getD h (i - j) 0) i % f .q
+  pub derived : (l : List ℕ) (i : ℕ) → getD (derivative (ops f) l) i 0 ≡ (suc i * getD l (suc i) 0) % f .q
+  pub sized : (l : List ℕ) → SizeOf f l (size (ops f) l)
+  pub size-only : (l : List ℕ) (n : ℕ) → SizeOf f l n → n ≡ size (ops f) l
+  pub degree : (l : List ℕ) (k : ℕ) → size (ops f) l ≡ suc k → deg (ops f) l ≡ k
+  pub leading : (l : List ℕ) → lead (ops f) l ≡ getD l (size (ops f) l - 1) 0
+  pub made-monic : AllowedField f → (l : List ℕ) → size (ops f) l ≢ 0 → MadeMonic f l (monic (ops f) l)
+  pub sum-trimmed : (l h : List ℕ) → Trimmed f (add (ops f) l h)
+  pub difference-trimmed : (l h : List ℕ) → Trimmed f (sub (ops f) l h)
+  pub multiple-trimmed : (c : ℕ) (l : List ℕ) → Trimmed f (scale (ops f) c l)
+  pub product-trimmed : (l h : List ℕ) → Trimmed f (mul (ops f) l h)
+  pub derived-trimmed : (l : List ℕ) → Trimmed f (derivative (ops f) l)
+  pub quo-trimmed : (a b : List ℕ) → Trimmed f (quo (ops f) a b)
+  pub rem-trimmed : (a b : List ℕ) → Trimmed f (rem (ops f) a b)
+  pub monic-trimmed : (l : List ℕ) → Trimmed f (monic (ops f) l)
+  pub gcd-trimmed : AllowedField f → (a b : List ℕ) → Trimmed f (gcd (ops f) a b)
+  pub root-trimmed : AllowedField f → (D : List ℕ) (N : ℕ) → Trimmed f (root (ops f) D N)
 
 abbrev pub ByCoefficients : Type 0
-ByCoefficients = (q : ℕ) → 0 < q → Operations q
+ByCoefficients = (f : FieldName) → 0 < f .q → Operations f
 
 -- a polynomial has one list with coefficients below q and no zero at its end
 abbrev pub TrimmedSame : Type 0
-TrimmedSame = (q : ℕ) → 0 < q → (f h : List ℕ) → Trimmed q f → Trimmed q h → Same q f h → f ≡ h
+TrimmedSame = (f : FieldName) → 0 < f .q → (l h : List ℕ) → Trimmed f l → Trimmed f h → Same f l h → l ≡ h
 
 -- ---- the proof
-module _ (q : ℕ) (p : 0 < q) where
-  abbrev M : Model (modulo q) (FqRing q p)
-  M = model q p
+module _ (f : FieldName) (p : 0 < f .q) where
+  abbrev M : Model (ops f) (FqRing (f .q) p)
+  M = model (f .q) p
 
-  zero-val : (a : ℕ) → M .φ a ≡ M .φ 0 → a % q ≡ 0
-  zero-val a e = to-val q p a 0 e ∙ mod-eq-of-lt p
+  zero-val : (a : ℕ) → M .φ a ≡ M .φ 0 → a % f .q ≡ 0
+  zero-val a e = to-val (f .q) p a 0 e ∙ mod-eq-of-lt p
 
-  val-zero : (a : ℕ) → a % q ≡ 0 → M .φ a ≡ M .φ 0
-  val-zero a e = to-path q p a 0 (e ∙ sym (mod-eq-of-lt p))
+  val-zero : (a : ℕ) → a % f .q ≡ 0 → M .φ a ≡ M .φ 0
+  val-zero a e = to-path (f .q) p a 0 (e ∙ sym (mod-eq-of-lt p))
 
   -- ---- one list for a polynomial
-  trimmed-of : (l : List ℕ) → Trim M l → Oks M l → Trimmed q l
+  trimmed-of : (l : List ℕ) → Trim M l → Oks M l → Trimmed f l
   trimmed-of l t k = record { length-is = sym (size-is M l ∙ ap length t); below = k }
 
-  only-list : (f h : List ℕ) → Trimmed q f → Trimmed q h → Same q f h → f ≡ h
-  only-list f h c e s =
-      ext-getD 0 f h (c .length-is ∙ size-is M f ∙ size-series M f h (fun-ext (λ i. to-path q p _ _ (s i))) ∙ sym (e .length-is ∙ size-is M h))
+  only-list : (a h : List ℕ) → Trimmed f a → Trimmed f h → Same f a h → a ≡ h
+  unfolding reading
+  only-list a h c e s =
+      ext-getD 0 a h (c .length-is ∙ size-is M a ∙ size-series M a h (fun-ext (λ i. to-path (f .q) p _ _ (s i))) ∙ sym (e .length-is ∙ size-is M h))
       (λ i l. sym (mod-eq-of-lt (c .below i)) ∙ s i ∙ mod-eq-of-lt (e .below i))
 
   -- ---- one coefficient
-  difference-at : (f h : List ℕ) (i : ℕ) → (getD (sub (modulo q) f h) i 0 + getD h i 0) % q ≡ getD f i 0 % q
-  difference-at f h i =
-      let a : ℕ = getD f i 0 in
+  difference-at : (l h : List ℕ) (i : ℕ) → (getD (sub (ops f) l h) i 0 + getD h i 0) % f .q ≡ getD l i 0 % f .q
+  difference-at l h i =
+      let a : ℕ = getD l i 0 in
       let b : ℕ = getD h i 0 in
-      let low : b % q < q = mod-lt b p in
-      let whole : a + (q - b % q) + b % q ≡ a + q = omega arith in
-      ap (λ (x : ℕ). (x + b) % q) (at-sub M f h i) ∙ mod-add-mod (a + (q - b % q)) q b ∙ sym (add-mod-mod (a + (q - b % q)) b q) ∙ ap (λ (x : ℕ). x % q) whole ∙ add-mod-right a q
+      let low : b % f .q < f .q = mod-lt b p in
+      let whole : a + (f .q - b % f .q) + b % f .q ≡ a + f .q = omega arith in
+      ap (λ (x : ℕ). (x + b) % f .q) (at-sub M l h i) ∙ mod-add-mod (a + (f .q - b % f .q)) (f .q) b ∙ sym (add-mod-mod (a + (f .q - b % f .q)) b (f .q)) ∙ ap (λ (x : ℕ). x % f .q) whole ∙ add-mod-right a (f .q)
 
-  dots-total : (f h : List ℕ) (i k : ℕ) → dots f h i (suc k) ≡ total (λ j. getD f j 0 * getD h (i - j) 0) k
+  dots-total : (l h : List ℕ) (i k : ℕ) → dots l h i (suc k) ≡ total (λ j. getD l j 0 * getD h (i - j) 0) k
   unfolding dots total
-  dots-total f h i zero = zero-add (getD f 0 0 * getD h (i - 0) 0)
-  dots-total f h i (suc k) = ap (λ (x : ℕ). x + getD f (suc k) 0 * getD h (i - suc k) 0) (dots-total f h i k)
+  dots-total l h i zero = zero-add (getD l 0 0 * getD h (i - 0) 0)
+  dots-total l h i (suc k) = ap (λ (x : ℕ). x + getD l (suc k) 0 * getD h (i - suc k) 0) (dots-total l h i k)
 
-  times-mod : (k a : ℕ) → times (modulo q) k a ≡ (k * a) % q
+  times-mod : (k a : ℕ) → times (ops f) k a ≡ (k * a) % f .q
   unfolding times
-  times-mod zero a = sym (ap (λ (x : ℕ). x % q) (zero-mul a) ∙ zero-mod q)
-  times-mod (suc k) a = ap (λ (x : ℕ). (a + x) % q) (times-mod k a) ∙ add-mod-mod a (k * a) q ∙ ap (λ (x : ℕ). x % q) (add-comm a (k * a) ∙ sym (suc-mul k a))
+  times-mod zero a = sym (ap (λ (x : ℕ). x % f .q) (zero-mul a) ∙ zero-mod (f .q))
+  times-mod (suc k) a = ap (λ (x : ℕ). (a + x) % f .q) (times-mod k a) ∙ add-mod-mod a (k * a) (f .q) ∙ ap (λ (x : ℕ). x % f .q) (add-comm a (k * a) ∙ sym (suc-mul k a))
 
-  derived-at : (f : List ℕ) (i : ℕ) → getD (derivative (modulo q) f) i 0 ≡ (suc i * getD f (suc i) 0) % q
-  derived-at f i = M .inj _ _ (oks-derivative M f i) (ok-times M (suc i) (getD f (suc i) 0)) (ap (λ (u : S (FqRing q p)). u i) (series-derivative M f) ∙ derivative-at (FqRing q p) (series M f) i ∙ sym (φ-times M (suc i) (getD f (suc i) 0))) ∙ times-mod (suc i) (getD f (suc i) 0)
+  derived-at : (l : List ℕ) (i : ℕ) → getD (derivative (ops f) l) i 0 ≡ (suc i * getD l (suc i) 0) % f .q
+  derived-at l i = M .inj _ _ (oks-derivative M l i) (ok-times M (suc i) (getD l (suc i) 0)) (ap (λ (u : S (FqRing (f .q) p)). u i) (series-derivative M l) ∙ derivative-at (FqRing (f .q) p) (series M l) i ∙ sym (φ-times M (suc i) (getD l (suc i) 0))) ∙ times-mod (suc i) (getD l (suc i) 0)
 
   -- ---- size, degree and leading coefficient
-  size-of : (f : List ℕ) → SizeOf q f (size (modulo q) f)
-  size-of f = record {
-    past = λ i h. zero-val _ (below-size M f i (let e = size-is M f in omega arith));
-    top = λ k e z. let n : length (trim (modulo q) f) ≡ suc k = sym (size-is M f) ∙ e in lead-some M f (omega arith) (ap (M .φ) (lead-is M f) ∙ val-zero _ (subst (λ (j : ℕ). getD f j 0 % q ≡ 0) (let w : k ≡ length (trim (modulo q) f) - 1 = omega arith in w) z));
+  size-of : (l : List ℕ) → SizeOf f l (size (ops f) l)
+  unfolding reading
+  size-of l = record {
+    past = λ i h. zero-val _ (below-size M l i (let e = size-is M l in omega arith));
+    top = λ k e z. let n : length (trim (ops f) l) ≡ suc k = sym (size-is M l) ∙ e in lead-some M l (omega arith) (ap (M .φ) (lead-is M l) ∙ val-zero _ (subst (λ (j : ℕ). getD l j 0 % f .q ≡ 0) (let w : k ≡ length (trim (ops f) l) - 1 = omega arith in w) z));
   }
 
-  only-size : (f : List ℕ) (n : ℕ) → SizeOf q f n → n ≡ size (modulo q) f
-  only-size f n s = go n refl
+  only-size : (a : List ℕ) (n : ℕ) → SizeOf f a n → n ≡ size (ops f) a
+  unfolding reading
+  only-size a n s = go n refl
     where
-      short : length (trim (modulo q) f) ≤ n
-      short = size-le M f n (λ i h. val-zero _ (s .past i h))
+      short : length (trim (ops f) a) ≤ n
+      short = size-le M a n (λ i h. val-zero _ (s .past i h))
 
-      go : (m : ℕ) → n ≡ m → n ≡ size (modulo q) f
-      go zero e = let k = size-is M f in omega (arith, short)
-      go (suc m) e = ⊎-elim (λ l. let k = size-is M f in omega (arith, short)) (λ l. absurd (s .top m e (size-of f .past m (omega arith)))) (le-or-lt (suc m) (size (modulo q) f))
+      go : (m : ℕ) → n ≡ m → n ≡ size (ops f) a
+      go zero e = let k = size-is M a in omega (arith, short)
+      go (suc m) e = ⊎-elim (λ l. let k = size-is M a in omega (arith, short)) (λ l. absurd (s .top m e (size-of a .past m (omega arith)))) (le-or-lt (suc m) (size (ops f) a))
 
-  degree-of : (f : List ℕ) (k : ℕ) → size (modulo q) f ≡ suc k → deg (modulo q) f ≡ k
+  degree-of : (l : List ℕ) (k : ℕ) → size (ops f) l ≡ suc k → deg (ops f) l ≡ k
   unfolding deg
-  degree-of f k e = omega arith
+  degree-of l k e = omega arith
 
-  leading-of : (f : List ℕ) → lead (modulo q) f ≡ getD f (size (modulo q) f - 1) 0
+  leading-of : (l : List ℕ) → lead (ops f) l ≡ getD l (size (ops f) l - 1) 0
   unfolding lead
-  leading-of f = refl
+  leading-of l = refl
 
-  monic-form : (f : List ℕ) → Trimmed q (monic (modulo q) f)
+  monic-form : (l : List ℕ) → Trimmed f (monic (ops f) l)
   unfolding monic
-  monic-form f = trimmed-of _ (trim-scale M _ f) (oks-scale M _ f)
+  monic-form l = trimmed-of _ (trim-scale M _ l) (oks-scale M _ l)
 
 -- ---- with inverses
-module _ (q : ℕ) (p : Prime q) (more : 2 < q) where
-  abbrev Mₚ : Model (modulo q) (F (field q p more))
-  Mₚ = model q (pos q p)
+module _ (f : FieldName) (named : IsField f) where
+  abbrev Mₚ : Model (ops f) (F (arithmetic f named .K))
+  Mₚ = arithmetic f named .M
 
   abbrev I : Inverts Mₚ
-  I = inverts q (pos q p) p
+  I = arithmetic f named .I
 
-  made : (f : List ℕ) → size (modulo q) f ≢ 0 → MadeMonic q f (monic (modulo q) f)
+  made : (a : List ℕ) → size (ops f) a ≢ 0 → MadeMonic f a (monic (ops f) a)
   unfolding monic
-  made f some = record {
-    k = inverse q (lead (modulo q) f);
-    positive = ⊎-elim (λ z. absurd (let e : _≡_ {A = ℕ} 0 1 = sym (zero-mod q) ∙ ap (λ (x : ℕ). x % q) (sym (ap (λ (x : ℕ). x * lead (modulo q) f) z ∙ zero-mul (lead (modulo q) f))) ∙ inverse-mul q (pos q p) p (lead (modulo q) f) lead-positive in omega arith)) (λ l. l) (eq-zero-or-pos (inverse q (lead (modulo q) f)));
-    below = inverse-lt q (pos q p) (lead (modulo q) f);
+  made a some = record {
+    k = inverse (f .q) (lead (ops f) a);
+    positive = ⊎-elim (λ z. absurd (let e : _≡_ {A = ℕ} 0 1 = sym (zero-mod (f .q)) ∙ ap (λ (x : ℕ). x % f .q) (sym (ap (λ (x : ℕ). x * lead (ops f) a) z ∙ zero-mul (lead (ops f) a))) ∙ inverse-mul (f .q) (pos (f .q) (named .prime)) (named .prime) (lead (ops f) a) lead-positive in omega arith)) (λ l. l) (eq-zero-or-pos (inverse (f .q) (lead (ops f) a)));
+    below = inverse-lt (f .q) (pos (f .q) (named .prime)) (lead (ops f) a);
     is = λ i. refl;
-    leads = lead-is-one q p more (monic (modulo q) f) {n = length (trim (modulo q) f) - 1} (oks-monic Mₚ I f) (record { low = λ i l. below-length Mₚ (monic (modulo q) f) i (let e = length-monic Mₚ I f in omega (arith, long)); top = monic-top Mₚ I f long });
-    same-size = size-is Mₚ (monic (modulo q) f) ∙ ap length (trim-monic Mₚ I f) ∙ length-monic Mₚ I f ∙ sym (size-is Mₚ f);
+    leads = lead-is-one f named (monic (ops f) a) {n = length (trim (ops f) a) - 1} (oks-monic Mₚ I a) (record { low = λ i l. below-length Mₚ (monic (ops f) a) i (let e = length-monic Mₚ I a in omega (arith, long)); top = monic-top Mₚ I a long });
+    same-size = size-is Mₚ (monic (ops f) a) ∙ ap length (trim-monic Mₚ I a) ∙ length-monic Mₚ I a ∙ sym (size-is Mₚ a);
   }
     where
-      long : 0 < length (trim (modulo q) f)
-      long = let e = size-is Mₚ f in ⊎-elim (λ z. absurd (some (e ∙ z))) (λ l. l) (eq-zero-or-pos (length (trim (modulo q) f)))
+      long : 0 < length (trim (ops f) a)
+      long = let e = size-is Mₚ a in ⊎-elim (λ z. absurd (some (e ∙ z))) (λ l. l) (eq-zero-or-pos (length (trim (ops f) a)))
 
-      lead-positive : 0 < lead (modulo q) f % q
-      lead-positive = ⊎-elim (λ z. absurd (lead-some Mₚ f long (val-zero q (pos q p) _ z))) (λ l. l) (eq-zero-or-pos (lead (modulo q) f % q))
+      lead-positive : 0 < lead (ops f) a % f .q
+      lead-positive = ⊎-elim (λ z. absurd (lead-some Mₚ a long (val-zero f (pos (f .q) (named .prime)) _ z))) (λ l. l) (eq-zero-or-pos (lead (ops f) a % f .q))
 
 pub by-coefficients : ByCoefficients
-by-coefficients q p = record {
-  sum = λ f h i. at-add M′ f h i;
-  difference = difference-at q p;
-  multiple = λ c f i. at-scale M′ c f i;
-  product = λ f h i. sym (dots-mul q p f h i) ∙ ap (λ (x : ℕ). x % q) (dots-total q p f h i i);
-  derived = derived-at q p;
-  sized = size-of q p;
-  size-only = only-size q p;
-  degree = degree-of q p;
-  leading = leading-of q p;
-  made-monic = λ r f some. let o = prime-allowed q .1 r in made q (o .prime) (odd-prime-more q o) f some;
-  sum-trimmed = λ f h. trimmed-of q p _ (trim-add M′ f h) (oks-add M′ f h);
-  difference-trimmed = λ f h. trimmed-of q p _ (trim-sub M′ f h) (oks-sub M′ f h);
-  multiple-trimmed = λ c f. trimmed-of q p _ (trim-scale M′ c f) (oks-scale M′ c f);
-  product-trimmed = λ f h. trimmed-of q p _ (trim-mul M′ f h) (oks-mul M′ f h);
-  derived-trimmed = λ f. trimmed-of q p _ (trim-derivative M′ f) (oks-derivative M′ f);
-  quo-trimmed = λ a b. trimmed-of q p _ (trim-quo M′ a b) (oks-quo M′ a b);
-  rem-trimmed = λ a b. trimmed-of q p _ (trim-rem M′ a b) (oks-rem M′ a b);
-  monic-trimmed = monic-form q p;
-  gcd-trimmed = λ r a b. let o = prime-allowed q .1 r .prime in trimmed-of q p _ (trim-gcd (model q (pos q o)) (inverts q (pos q o) o) a b) (oks-gcd (model q (pos q o)) (inverts q (pos q o) o) a b);
-  root-trimmed = λ r D N. let o = prime-allowed q .1 r in let m = odd-prime-more q o in trimmed-of q p _ (trim-root (field q (o .prime) m) (model q (pos q (o .prime))) (inverts q (pos q (o .prime)) (o .prime)) D N) (oks-root (field q (o .prime) m) (model q (pos q (o .prime))) (inverts q (pos q (o .prime)) (o .prime)) D N);
+unfolding reading
+by-coefficients f p = record {
+  sum = λ l h i. at-add M′ l h i;
+  difference = difference-at f p;
+  multiple = λ c l i. at-scale M′ c l i;
+  product = λ l h i. sym (dots-mul (f .q) p l h i) ∙ ap (λ (x : ℕ). x % f .q) (dots-total f p l h i i);
+  derived = derived-at f p;
+  sized = size-of f p;
+  size-only = only-size f p;
+  degree = degree-of f p;
+  leading = leading-of f p;
+  made-monic = λ r l some. made f (named-field f r) l some;
+  sum-trimmed = λ l h. trimmed-of f p _ (trim-add M′ l h) (oks-add M′ l h);
+  difference-trimmed = λ l h. trimmed-of f p _ (trim-sub M′ l h) (oks-sub M′ l h);
+  multiple-trimmed = λ c l. trimmed-of f p _ (trim-scale M′ c l) (oks-scale M′ c l);
+  product-trimmed = λ l h. trimmed-of f p _ (trim-mul M′ l h) (oks-mul M′ l h);
+  derived-trimmed = λ l. trimmed-of f p _ (trim-derivative M′ l) (oks-derivative M′ l);
+  quo-trimmed = λ a b. trimmed-of f p _ (trim-quo M′ a b) (oks-quo M′ a b);
+  rem-trimmed = λ a b. trimmed-of f p _ (trim-rem M′ a b) (oks-rem M′ a b);
+  monic-trimmed = monic-form f p;
+  gcd-trimmed = λ r a b. let A = arithmetic f (named-field f r) in trimmed-of f p _ (trim-gcd (A .M) (A .I) a b) (oks-gcd (A .M) (A .I) a b);
+  root-trimmed = λ r D N. let A = arithmetic f (named-field f r) in trimmed-of f p _ (trim-root (A .K) (A .M) (A .I) D N) (oks-root (A .K) (A .M) (A .I) D N);
 }
   where
-    M′ : Model (modulo q) (FqRing q p)
-    M′ = model q p
+    M′ : Model (ops f) (FqRing (f .q) p)
+    M′ = model (f .q) p
 
 pub trimmed-same : TrimmedSame
 trimmed-same = only-list

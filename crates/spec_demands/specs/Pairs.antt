@@ -4,43 +4,42 @@ use Prim.Native.Nat.{ℕ, zero, suc, _<_}
 use native.Mathlib.Omega.{arith}
 use mathlib.Core.Path.{_≡_, refl, sym, ap, ap₂, _∙_, subst}
 use mathlib.Core.Logic.{_≢_, _⊎_, ⊎-elim}
-use mathlib.Core.Bool.{Bool, true, false, not, _&&_}
+use mathlib.Core.Bool.{Bool, true, false, not, _&&_, false≢true}
 use mathlib.Core.List.{List, []}
 use lib.IntN.{pos as posℤ}
 use lib.ListN.{length, getD}
 use borrow.Author.Tests.{eq-eqb, lt-ltb}
-use Rattle.math_ring.specs.Residues.{Fq}
 use Rattle.math_algebra.specs.Field.{Field}
 use Rattle.math_algebra.specs.Polynomial.{F}
-use Rattle.spec_definitions.specs.Field.{modulo}
+use Rattle.spec_definitions.specs.Field.{FieldName, ops, fits}
 use Rattle.spec_definitions.specs.Polynomials.{trim, size, lead, sub, mul, rem}
-use Rattle.spec_definitions.specs.Words.{someFrom}
+use Rattle.spec_definitions.specs.Words.{someNot}
 use Rattle.spec_definitions.specs.Ticket.{Ticket, genus, ticketOf, refusalOf}
 use Rattle.spec_definitions.specs.Walk.{Ideal}
 use Rattle.spec_definitions.specs.Products.{ProductAnswer, GiantStepAnswer, isPair, wrongPair, wrongDistance, productDone, giantDone, productRefused, giantRefused, productAnswer, giantAnswer}
 use Rattle.spec_bridge.specs.Model.{Model, Oks}
 use Rattle.spec_bridge.specs.Trim.{size-is, size-le}
 use Rattle.spec_bridge.specs.Degree.{monic-size}
-use Rattle.spec_bridge.specs.Residues.{pos, model, field}
-use Rattle.spec_laws.specs.Admitted.{Admitted, admitted}
+use Rattle.spec_fields.specs.Named.{Ok, arithmetic, ok-fits}
+use Rattle.spec_laws.specs.Admitted.{Admitted, is-field, admitted}
 use Rattle.spec_laws.specs.Pairs.{IsIdeal}
 use Rattle.spec_laws.specs.PairTest.{Passes, pair-passes, pair-q-below, pair-p-below, pair-ideal}
 use Rattle.spec_demands.specs.Tests.{Tests, tests-lt, tests-not, tests-either, tests-none, tests-some}
 use Rattle.spec_demands.specs.Arithmetic.{Divides, rem-divides, divides-rem, lead-is-one}
 
 -- Q is monic, deg P < deg Q, and Q divides D − P²
-pub record IsPair (q : ℕ) (D Q P : List ℕ) : Type 0 where
-  pub monic : lead (modulo q) Q ≡ 1
-  pub less : size (modulo q) P < size (modulo q) Q
-  pub divides : Divides q Q (sub (modulo q) D (mul (modulo q) P P))
+pub record IsPair (f : FieldName) (D Q P : List ℕ) : Type 0 where
+  pub monic : lead (ops f) Q ≡ 1
+  pub less : size (ops f) P < size (ops f) Q
+  pub divides : Divides f Q (sub (ops f) D (mul (ops f) P P))
 
 -- "A pair is g+1 and g coefficients below q, Q monic, deg P < deg Q, Q dividing D − P²."
 pub record GivenPair (t : Ticket) (x : Ideal ℕ) : Type 0 where
   pub q-length : length (x .q) ≡ suc (genus (t .n))
   pub p-length : length (x .p) ≡ genus (t .n)
-  pub q-below : (i : ℕ) → getD (x .q) i 0 < t .q
-  pub p-below : (i : ℕ) → getD (x .p) i 0 < t .q
-  pub is : IsPair (t .q) (t .D) (x .q) (x .p)
+  pub q-below : (i : ℕ) → Ok (t .field) (getD (x .q) i 0)
+  pub p-below : (i : ℕ) → Ok (t .field) (getD (x .p) i 0)
+  pub is : IsPair (t .field) (t .D) (x .q) (x .p)
 
 -- "9 (product and giant step): a pair has the wrong number of coefficients or isn't an ideal as described below"
 abbrev pub WrongPair : Ticket → Ideal ℕ → Ideal ℕ → Type 0
@@ -71,19 +70,19 @@ abbrev pub T1Pairs : Type 0
 T1Pairs = (w : List ℕ) (x : Ideal ℕ) (d : ℕ) (y : Ideal ℕ) (e : ℕ) → PairRefusals w x d y e
 
 -- ---- ideals over the field are pairs, for a D that is admitted
-module _ {q g : ℕ} {D : List ℕ} (h : Admitted q g D) where
-  abbrev K : Field (Fq q)
-  K = field q (h .prime) (h .odd)
+module _ {f : FieldName} {g : ℕ} {D : List ℕ} (h : Admitted f g D) where
+  abbrev K : Field (arithmetic f (is-field h) .Elements)
+  K = arithmetic f (is-field h) .K
 
-  abbrev M : Model (modulo q) (F K)
-  M = model q (pos q (h .prime))
+  abbrev M : Model (ops f) (F K)
+  M = arithmetic f (is-field h) .M
 
-  pub exact : (l f : List ℕ) → rem (modulo q) l f ≡ [] → Divides q f l
-  exact = rem-divides q (h .prime) (h .odd)
+  pub exact : (l a : List ℕ) → rem (ops f) l a ≡ [] → Divides f a l
+  exact = rem-divides f (is-field h)
 
-  pub is-pair : {s : Ideal ℕ} → Oks M (s .q) → IsIdeal K M D s → IsPair q D (s .q) (s .p)
+  pub is-pair : {s : Ideal ℕ} → Oks M (s .q) → IsIdeal K M D s → IsPair f D (s .q) (s .p)
   is-pair {s} k i = record {
-    monic = lead-is-one q (h .prime) (h .odd) (s .q) k (i .monic);
+    monic = lead-is-one f (is-field h) (s .q) k (i .monic);
     less = let a = monic-size K M (s .q) (i .monic) in let b = size-le M (s .p) (i .κ) (i .low) in let c = size-is M (s .q) in let e = size-is M (s .p) in omega arith;
     divides = exact _ (s .q) (i .divides);
   }
@@ -92,15 +91,15 @@ module _ {q g : ℕ} {D : List ℕ} (h : Admitted q g D) where
 and-true : {a b : Bool} → a ≡ true → b ≡ true → (a && b) ≡ true
 and-true e f = ap₂ _&&_ e f
 
-below-true : (q : ℕ) (l : List ℕ) → ((i : ℕ) → getD l i 0 < q) → not (someFrom q l) ≡ true
-below-true q l low = tests-not (tests-some q l) .1 (λ s. let k = low (s .0) in let m = s .2 in omega arith)
+below-true : (f : FieldName) (l : List ℕ) → ((i : ℕ) → Ok f (getD l i 0)) → not (someNot (fits f) l) ≡ true
+below-true f l low = tests-not (tests-some (fits f) l) .1 (λ s. absurd (false≢true (sym (s .2) ∙ ok-fits f _ (low (s .0)))))
 
-module _ (t : Ticket) (h : Admitted (t .q) (genus (t .n)) (t .D)) where
+module _ (t : Ticket) (h : Admitted (t .field) (genus (t .n)) (t .D)) where
   -- D − P²
   abbrev rest : Ideal ℕ → List ℕ
-  rest x = sub (modulo (t .q)) (t .D) (mul (modulo (t .q)) (x .p) (x .p))
+  rest x = sub (ops (t .field)) (t .D) (mul (ops (t .field)) (x .p) (x .p))
 
-  pair-given : (x : Ideal ℕ) → Passes (t .q) (genus (t .n)) (t .D) x → GivenPair t x
+  pair-given : (x : Ideal ℕ) → Passes (t .field) (genus (t .n)) (t .D) x → GivenPair t x
   pair-given x p = record {
     q-length = p .q-length;
     p-length = p .p-length;
@@ -112,8 +111,8 @@ module _ (t : Ticket) (h : Admitted (t .q) (genus (t .n)) (t .D)) where
   given-pair : (x : Ideal ℕ) → GivenPair t x → isPair t x ≡ true
   unfolding isPair size trim
   given-pair x p =
-      and-true (and-true (and-true (and-true (and-true (and-true (eq-eqb _ _ (p .q-length)) (eq-eqb _ _ (p .p-length))) (below-true (t .q) (x .q) (p .q-below))) (below-true (t .q) (x .p) (p .p-below))) (eq-eqb _ _ (p .is .monic))) (lt-ltb _ _ (p .is .less)))
-      (eq-eqb _ _ (ap (size (modulo (t .q))) (divides-rem (t .q) (h .prime) (h .odd) (rest x) (x .q) (p .is .divides))))
+      and-true (and-true (and-true (and-true (and-true (and-true (eq-eqb _ _ (p .q-length)) (eq-eqb _ _ (p .p-length))) (below-true (t .field) (x .q) (p .q-below))) (below-true (t .field) (x .p) (p .p-below))) (eq-eqb _ _ (p .is .monic))) (lt-ltb _ _ (p .is .less)))
+      (eq-eqb _ _ (ap (size (ops (t .field))) (divides-rem (t .field) (is-field h) (rest x) (x .q) (p .is .divides))))
 
   tests-pair : (x : Ideal ℕ) → Tests (isPair t x) (GivenPair t x)
   tests-pair x = (λ e. pair-given x (pair-passes t x e), given-pair x)

@@ -1,6 +1,6 @@
 -- T2, the part on products: for a ticket past its refusals and two pairs as document 01 describes them, S is the greatest common divisor, Q·S² is Q_1·Q_2, P is document 01's for ANY U, V, W
 -- with S = U·Q_1 + V·Q_2 + W·(P_1 + P_2), and Q divides D − P². The giant step's reduction divides exactly, ends at the first reduced index, and −2g ≤ f ≤ 0.
--- Polynomials are lists of coefficients, read modulo q. The proof reads the product of ideals over the field of q elements off as equations of lists.
+-- Polynomials are lists of coefficients, read in the field. The proof reads the product of ideals over the field off as equations of lists.
 use Prim.Native.Nat.{ℕ, zero, suc, _+_, _≤_, _<_}
 use native.Mathlib.Omega.{arith}
 use mathlib.Core.Path.{_≡_, refl, sym, ap, ap₂, _∙_, subst}
@@ -11,9 +11,8 @@ use lib.Signed.{_≤ℤ_}
 use Rattle.math_algebra.specs.Field.{Field}
 use Rattle.math_algebra.specs.Polynomial.{F}
 use Rattle.math_surd.specs.Step.{State}
-use Rattle.math_ring.specs.Residues.{Fq}
 use Rattle.math_ring.specs.Series.{addS, conv}
-use Rattle.spec_definitions.specs.Field.{modulo}
+use Rattle.spec_definitions.specs.Field.{FieldName, ops}
 use Rattle.spec_definitions.specs.Polynomials.{size, deg, lead, add, quo, rem, monic, gcd, root}
 use Rattle.spec_definitions.specs.Ticket.{Ticket, genus, ticketOf, refusalOf}
 use Rattle.spec_definitions.specs.Walk.{Ideal, partial, steps}
@@ -27,9 +26,9 @@ use Rattle.spec_bridge.specs.Division.{oks-quo}
 use Rattle.spec_bridge.specs.Monic.{oks-monic}
 use Rattle.spec_bridge.specs.Degree.{deg-is}
 use Rattle.spec_bridge.specs.Bezout.{trim-gcd, oks-gcd}
-use Rattle.spec_bridge.specs.Residues.{pos, model, field, inverts}
+use Rattle.spec_fields.specs.Named.{arithmetic}
 use Rattle.spec_laws.specs.Surd.{Surd}
-use Rattle.spec_laws.specs.Admitted.{Admitted, surd-of, admitted}
+use Rattle.spec_laws.specs.Admitted.{Admitted, is-field, surd-of, admitted}
 use Rattle.spec_laws.specs.Pairs.{IsIdeal, cofactorAt, ideal-state}
 use Rattle.spec_laws.specs.PairTest.{Passes, pair-passes, pairs-pass, pair-ideal, pair-degree}
 use Rattle.spec_laws.specs.Product.{commonOf, productQ, productP, bezoutU, bezoutV, bezoutW, Gives, product-is, bezout-gives, common, S-divides, Q-product, product-same, product-ideal}
@@ -43,8 +42,8 @@ use Rattle.spec_demands.specs.Tests.{tests-none}
 use Rattle.spec_demands.specs.Continued.{sumTo}
 use Rattle.spec_demands.specs.Pairs.{IsPair, GivenPair, WrongDistance, exact, is-pair, pairs-passed, tests-distances, product-by, giant-by}
 
-module _ (q : ℕ) where
-  open Operators (operators q) using (plus as _⊕_, minus as _⊖_, times as _⊗_)
+module _ (f : FieldName) where
+  open Operators (operators f) using (plus as _⊕_, minus as _⊖_, times as _⊗_)
 
   infixl 6 _⊕_ _⊖_
   infixl 7 _⊗_
@@ -54,48 +53,48 @@ module _ (q : ℕ) where
 
   -- (P_1 + (Q_1/S)·(U·(P_2 − P_1) + W·(D − P_1²)/Q_1)) mod Q
   abbrev pub paperP : List ℕ → Ideal ℕ → Ideal ℕ → List ℕ → List ℕ → List ℕ → List ℕ → List ℕ
-  paperP D x y S Q u w = rem (modulo q) (x .p ⊕ quo (modulo q) (x .q) S ⊗ (u ⊗ (y .p ⊖ x .p) ⊕ w ⊗ quo (modulo q) (D ⊖ x .p ⊗ x .p) (x .q))) Q
+  paperP D x y S Q u w = rem (ops f) (x .p ⊕ quo (ops f) (x .q) S ⊗ (u ⊗ (y .p ⊖ x .p) ⊕ w ⊗ quo (ops f) (D ⊖ x .p ⊗ x .p) (x .q))) Q
 
   pub record IsProduct (g : ℕ) (D : List ℕ) (x y : Ideal ℕ) (S Q P : List ℕ) : Type 0 where
-    pub S-monic : lead (modulo q) S ≡ 1
-    pub S-first : Divides q S (x .q)
-    pub S-second : Divides q S (y .q)
-    pub S-sum : Divides q S (x .p ⊕ y .p)
-    pub S-greatest : (f : List ℕ) → Divides q f (x .q) → Divides q f (y .q) → Divides q f (x .p ⊕ y .p) → Divides q f S
+    pub S-monic : lead (ops f) S ≡ 1
+    pub S-first : Divides f S (x .q)
+    pub S-second : Divides f S (y .q)
+    pub S-sum : Divides f S (x .p ⊕ y .p)
+    pub S-greatest : (l : List ℕ) → Divides f l (x .q) → Divides f l (y .q) → Divides f l (x .p ⊕ y .p) → Divides f l S
     pub S-combines : (u : List ℕ) × (v : List ℕ) × (w : List ℕ) × Combines x y S u v w
     pub Q-square : Q ⊗ (S ⊗ S) ≡ x .q ⊗ y .q
-    pub Q-most : deg (modulo q) Q ≤ g + g
+    pub Q-most : deg (ops f) Q ≤ g + g
     pub P-any : (u v w : List ℕ) → Combines x y S u v w → P ≡ paperP D x y S Q u w
-    pub ideal : IsPair q D Q P
+    pub ideal : IsPair f D Q P
 
   -- the steps from (Q, P), of which the k-th is the first that is reduced
   module _ (g : ℕ) (D d : List ℕ) (s : Ideal ℕ) where
     abbrev Q : ℕ → List ℕ
-    Q j = steps (modulo q) D d s j .q
+    Q j = steps (ops f) D d s j .q
 
     abbrev P : ℕ → List ℕ
-    P j = steps (modulo q) D d s j .p
+    P j = steps (ops f) D d s j .p
 
     pub record ReducesAt (k : ℕ) : Type 0 where
-      pub exact : (j : ℕ) → Divides q (Q j) (D ⊖ P (suc j) ⊗ P (suc j))
-      pub not-zero : (j : ℕ) → 0 < size (modulo q) (Q j)
-      pub partial-deg : (j : ℕ) → 0 < deg (modulo q) (partial (modulo q) D d (steps (modulo q) D d s (suc j)))
-      pub reduced : deg (modulo q) (Q k) ≤ g
-      pub first : (j : ℕ) → j < k → g < deg (modulo q) (Q j)
+      pub exact : (j : ℕ) → Divides f (Q j) (D ⊖ P (suc j) ⊗ P (suc j))
+      pub not-zero : (j : ℕ) → 0 < size (ops f) (Q j)
+      pub partial-deg : (j : ℕ) → 0 < deg (ops f) (partial (ops f) D d (steps (ops f) D d s (suc j)))
+      pub reduced : deg (ops f) (Q k) ≤ g
+      pub first : (j : ℕ) → j < k → g < deg (ops f) (Q j)
       pub few : k + k ≤ suc g
 
 pub record Multiplies (t : Ticket) (x y : Ideal ℕ) (r : ProductAnswer) : Type 0 where
   pub number : r .number ≡ 0
-  pub is : IsProduct (t .q) (genus (t .n)) (t .D) x y (r .s) (r .q) (r .p)
+  pub is : IsProduct (t .field) (genus (t .n)) (t .D) x y (r .s) (r .q) (r .p)
 
 -- with the distances d and e; S and the pair s are the product's; `f-is` is f = deg Q_k − deg Q + (deg a_1 + .. + deg a_k) − deg S
 pub record Steps (t : Ticket) (x : Ideal ℕ) (d : ℕ) (y : Ideal ℕ) (e : ℕ) (S : List ℕ) (s : Ideal ℕ) (r : GiantStepAnswer) : Type 0 where
   pub number : r .number ≡ 0
   pub k : ℕ
-  pub reduces : ReducesAt (t .q) (genus (t .n)) (t .D) (rootOf t) s k
+  pub reduces : ReducesAt (t .field) (genus (t .n)) (t .D) (rootOf t) s k
   pub Q-is : r .q ≡ monic (opsOf t) (steps (opsOf t) (t .D) (rootOf t) s k .q)
   pub P-is : r .p ≡ rem (opsOf t) (steps (opsOf t) (t .D) (rootOf t) s k .p) (r .q)
-  pub ideal : IsPair (t .q) (t .D) (r .q) (r .p)
+  pub ideal : IsPair (t .field) (t .D) (r .q) (r .p)
   pub f-is : r .f ≡ posℤ (deg (opsOf t) (steps (opsOf t) (t .D) (rootOf t) s k .q)) -ℤ posℤ (deg (opsOf t) (s .q)) +ℤ posℤ (sumTo (λ j. deg (opsOf t) (partial (opsOf t) (t .D) (rootOf t) (steps (opsOf t) (t .D) (rootOf t) s j))) k) -ℤ posℤ (deg (opsOf t) S)
   pub f-most : r .f ≤ℤ posℤ 0
   pub f-least : negℤ (posℤ (genus (t .n) + genus (t .n))) ≤ℤ r .f
@@ -109,18 +108,18 @@ T2GiantSteps = (w : List ℕ) → refusalOf w ≡ 0 → (x y : Ideal ℕ) → Gi
     → Steps (ticketOf w) x d y e (productAnswer w x y .s) (record { q = productAnswer w x y .q; p = productAnswer w x y .p }) (giantAnswer w x d y e)
 
 -- ---- the proof, for a D that is admitted and two pairs that pass
-module _ {q g : ℕ} {D : List ℕ} (h : Admitted q g D) {x y : Ideal ℕ} (px : Passes q g D x) (py : Passes q g D y) where
-  abbrev K : Field (Fq q)
-  K = field q (h .prime) (h .odd)
+module _ {f : FieldName} {g : ℕ} {D : List ℕ} (h : Admitted f g D) {x y : Ideal ℕ} (px : Passes f g D x) (py : Passes f g D y) where
+  abbrev K : Field (arithmetic f (is-field h) .Elements)
+  K = arithmetic f (is-field h) .K
 
-  abbrev M : Model (modulo q) (F K)
-  M = model q (pos q (h .prime))
+  abbrev M : Model (ops f) (F K)
+  M = arithmetic f (is-field h) .M
 
   abbrev I : Inverts M
-  I = inverts q (pos q (h .prime)) (h .prime)
+  I = arithmetic f (is-field h) .I
 
   abbrev d : List ℕ
-  d = root (modulo q) D (suc g)
+  d = root (ops f) D (suc g)
 
   abbrev z : Surd K M g D d
   z = surd-of h
@@ -131,33 +130,33 @@ module _ {q g : ℕ} {D : List ℕ} (h : Admitted q g D) {x y : Ideal ℕ} (px :
   abbrev hy : IsIdeal K M D y
   hy = pair-ideal h py
 
-  gives : (u v w : List ℕ) → Combines q x y (commonOf (modulo q) x y) u v w → Gives K M I D x y u v w
+  gives : (u v w : List ℕ) → Combines f x y (commonOf (ops f) x y) u v w → Gives K M I D x y u v w
   gives u v w e = record { is = ap (series M) e ∙ series-add M _ _ ∙ ap₂ (addS (F K)) (series-add M _ _ ∙ ap₂ (addS (F K)) (series-mul M u (x .q)) (series-mul M v (y .q))) (series-mul M w _ ∙ ap (conv (F K) (series M w)) (series-add M (x .p) (y .p))) }
 
-  combines : (u v w : List ℕ) → Gives K M I D x y u v w → Combines q x y (commonOf (modulo q) x y) u v w
+  combines : (u v w : List ℕ) → Gives K M I D x y u v w → Combines f x y (commonOf (ops f) x y) u v w
   combines u v w k = series-ext M _ _ (trim-gcd M I _ _) (trim-add M _ _) (oks-gcd M I _ _) (oks-add M _ _) (k .is ∙ sym (series-add M _ _ ∙ ap₂ (addS (F K)) (series-add M _ _ ∙ ap₂ (addS (F K)) (series-mul M u (x .q)) (series-mul M v (y .q))) (series-mul M w _ ∙ ap (conv (F K) (series M w)) (series-add M (x .p) (y .p)))))
 
   -- ---- the product, as its lists are named
   abbrev S : List ℕ
-  S = commonOf (modulo q) x y
+  S = commonOf (ops f) x y
 
   abbrev Q₀ : List ℕ
-  Q₀ = productQ (modulo q) x y
+  Q₀ = productQ (ops f) x y
 
   abbrev P₀ : List ℕ
-  P₀ = productP (modulo q) D x y (bezoutU (modulo q) x y) (bezoutW (modulo q) x y)
+  P₀ = productP (ops f) D x y (bezoutU (ops f) x y) (bezoutW (ops f) x y)
 
   abbrev r : Product ℕ
   r = record { s = S; ideal = record { q = Q₀; p = P₀ } }
 
-  is-product : IsProduct q g D x y S Q₀ P₀
+  is-product : IsProduct f g D x y S Q₀ P₀
   is-product = record {
-    S-monic = lead-is-one q (h .prime) (h .odd) S (oks-gcd M I _ _) (common K M I D hx hy .monic);
+    S-monic = lead-is-one f (is-field h) S (oks-gcd M I _ _) (common K M I D hx hy .monic);
     S-first = exact h (x .q) S (S-divides K M I D hx hy .0);
     S-second = exact h (y .q) S (S-divides K M I D hx hy .1);
     S-sum = exact h _ S (S-divides K M I D hx hy .2);
-    S-greatest = λ f u v w. gcd-rules q (h .prime) (h .odd) (gcd (modulo q) (x .q) (y .q)) (add (modulo q) (x .p) (y .p)) .greatest f (gcd-rules q (h .prime) (h .odd) (x .q) (y .q) .greatest f u v) w;
-    S-combines = (bezoutU (modulo q) x y, bezoutV (modulo q) x y, bezoutW (modulo q) x y, combines _ _ _ (bezout-gives K M I D x y));
+    S-greatest = λ l u v w. gcd-rules f (is-field h) (gcd (ops f) (x .q) (y .q)) (add (ops f) (x .p) (y .p)) .greatest l (gcd-rules f (is-field h) (x .q) (y .q) .greatest l u v) w;
+    S-combines = (bezoutU (ops f) x y, bezoutV (ops f) x y, bezoutW (ops f) x y, combines _ _ _ (bezout-gives K M I D x y));
     Q-square = Q-product K M I D hx hy;
     Q-most = let e = product.Q-size K M I D hx hy in let e′ = deg-is K M Q₀ in let a = pair-degree h px in let b = pair-degree h py in omega arith;
     P-any = λ u v w e. product-same K M I D hx hy (bezout-gives K M I D x y) (gives u v w e);
@@ -165,32 +164,32 @@ module _ {q g : ℕ} {D : List ℕ} (h : Admitted q g D) {x y : Ideal ℕ} (px :
   }
 
   -- ---- its reduction
-  abbrev st : State K (series M D) (series M Q₀) (series M (cofactorAt (modulo q) D (r .ideal))) (series M P₀)
+  abbrev st : State K (series M D) (series M Q₀) (series M (cofactorAt (ops f) D (r .ideal))) (series M P₀)
   st = ideal-state K M D (product-ideal K M I D hx hy (bezout-gives K M I D x y))
 
-  reduces-at : ReducesAt q g D d (r .ideal) (turnsOf (modulo q) D d g (r .ideal))
+  reduces-at : ReducesAt f g D d (r .ideal) (turnsOf (ops f) D d g (r .ideal))
   unfolding steps
   reduces-at = record {
-    exact = λ j. exact h _ (steps (modulo q) D d (r .ideal) j .q) (next-divides z (steps (modulo q) D d (r .ideal) j) (stated z (r .ideal) st j .state));
-    not-zero = λ j. let e = Q-size z (r .ideal) st j in let e′ = size-is M (steps (modulo q) D d (r .ideal) j .q) in omega arith;
-    partial-deg = λ j. let e = a-size z (r .ideal) st j in let e′ = deg-is K M (partial (modulo q) D d (steps (modulo q) D d (r .ideal) (suc j))) in omega arith;
+    exact = λ j. exact h _ (steps (ops f) D d (r .ideal) j .q) (next-divides z (steps (ops f) D d (r .ideal) j) (stated z (r .ideal) st j .state));
+    not-zero = λ j. let e = Q-size z (r .ideal) st j in let e′ = size-is M (steps (ops f) D d (r .ideal) j .q) in omega arith;
+    partial-deg = λ j. let e = a-size z (r .ideal) st j in let e′ = deg-is K M (partial (ops f) D d (steps (ops f) D d (r .ideal) (suc j))) in omega arith;
     reduced = turns-first z (r .ideal) st .0;
     first = turns-first z (r .ideal) st .1;
-    few = subst (λ (p : Product ℕ). turnsOf (modulo q) D d g (p .ideal) + turnsOf (modulo q) D d g (p .ideal) ≤ suc g) (product-is K M I D x y) (turns-few z hx hy (pair-degree h px) (pair-degree h py));
+    few = subst (λ (p : Product ℕ). turnsOf (ops f) D d g (p .ideal) + turnsOf (ops f) D d g (p .ideal) ≤ suc g) (product-is K M I D x y) (turns-few z hx hy (pair-degree h px) (pair-degree h py));
   }
 
-  answer-pair : (k : ℕ) → let i = idealOf (modulo q) (steps (modulo q) D d (r .ideal) k) in IsPair q D (i .q) (i .p)
+  answer-pair : (k : ℕ) → let i = idealOf (ops f) (steps (ops f) D d (r .ideal) k) in IsPair f D (i .q) (i .p)
   unfolding idealOf
-  answer-pair k = is-pair h (oks-monic M I (steps (modulo q) D d (r .ideal) k .q)) (reduced-ideal K M I D (steps (modulo q) D d (r .ideal) k) (stated z (r .ideal) st k .state))
+  answer-pair k = is-pair h (oks-monic M I (steps (ops f) D d (r .ideal) k .q)) (reduced-ideal K M I D (steps (ops f) D d (r .ideal) k) (stated z (r .ideal) st k .state))
 
 -- ---- for a ticket
-module _ (t : Ticket) (h : Admitted (t .q) (genus (t .n)) (t .D)) {x y : Ideal ℕ} (px : Passes (t .q) (genus (t .n)) (t .D) x) (py : Passes (t .q) (genus (t .n)) (t .D) y) where
+module _ (t : Ticket) (h : Admitted (t .field) (genus (t .n)) (t .D)) {x y : Ideal ℕ} (px : Passes (t .field) (genus (t .n)) (t .D) x) (py : Passes (t .field) (genus (t .n)) (t .D) y) where
   abbrev of-lists : productOf (opsOf t) (t .D) x y ≡ r h px py
   of-lists = product-is (K h px py) (M h px py) (I h px py) (t .D) x y
 
   multiplies : Multiplies t x y (productDone t x y)
   unfolding productDone
-  multiplies = record { number = refl; is = subst (λ (p : Product ℕ). IsProduct (t .q) (genus (t .n)) (t .D) x y (p .s) (p .ideal .q) (p .ideal .p)) (sym of-lists) (is-product h px py) }
+  multiplies = record { number = refl; is = subst (λ (p : Product ℕ). IsProduct (t .field) (genus (t .n)) (t .D) x y (p .s) (p .ideal .q) (p .ideal .p)) (sym of-lists) (is-product h px py) }
 
   sum-is : (s : Ideal ℕ) (k : ℕ) → degreeSum (opsOf t) (t .D) (rootOf t) (genus (t .n)) s k ≡ sumTo (λ j. deg (opsOf t) (partial (opsOf t) (t .D) (rootOf t) (steps (opsOf t) (t .D) (rootOf t) s j))) k
   unfolding degreeSum sumTo
@@ -202,10 +201,10 @@ module _ (t : Ticket) (h : Admitted (t .q) (genus (t .n)) (t .D)) {x y : Ideal �
   steps-are d e = record {
     number = refl;
     k = turnsOf (opsOf t) (t .D) (rootOf t) (genus (t .n)) (productOf (opsOf t) (t .D) x y .ideal);
-    reduces = subst (λ (p : Product ℕ). ReducesAt (t .q) (genus (t .n)) (t .D) (rootOf t) (p .ideal) (turnsOf (opsOf t) (t .D) (rootOf t) (genus (t .n)) (p .ideal))) (sym of-lists) (reduces-at h px py);
+    reduces = subst (λ (p : Product ℕ). ReducesAt (t .field) (genus (t .n)) (t .D) (rootOf t) (p .ideal) (turnsOf (opsOf t) (t .D) (rootOf t) (genus (t .n)) (p .ideal))) (sym of-lists) (reduces-at h px py);
     Q-is = refl;
     P-is = refl;
-    ideal = subst (λ (p : Product ℕ). let i = idealOf (opsOf t) (steps (opsOf t) (t .D) (rootOf t) (p .ideal) (turnsOf (opsOf t) (t .D) (rootOf t) (genus (t .n)) (p .ideal))) in IsPair (t .q) (t .D) (i .q) (i .p)) (sym of-lists) (answer-pair h px py (turnsOf (opsOf t) (t .D) (rootOf t) (genus (t .n)) (r h px py .ideal)));
+    ideal = subst (λ (p : Product ℕ). let i = idealOf (opsOf t) (steps (opsOf t) (t .D) (rootOf t) (p .ideal) (turnsOf (opsOf t) (t .D) (rootOf t) (genus (t .n)) (p .ideal))) in IsPair (t .field) (t .D) (i .q) (i .p)) (sym of-lists) (answer-pair h px py (turnsOf (opsOf t) (t .D) (rootOf t) (genus (t .n)) (r h px py .ideal)));
     f-is = ap (λ (n : ℕ). posℤ (deg (opsOf t) (steps (opsOf t) (t .D) (rootOf t) (productOf (opsOf t) (t .D) x y .ideal) (turnsOf (opsOf t) (t .D) (rootOf t) (genus (t .n)) (productOf (opsOf t) (t .D) x y .ideal)) .q)) -ℤ posℤ (deg (opsOf t) (productOf (opsOf t) (t .D) x y .ideal .q)) +ℤ posℤ n -ℤ posℤ (deg (opsOf t) (productOf (opsOf t) (t .D) x y .s))) (sum-is (productOf (opsOf t) (t .D) x y .ideal) _);
     f-most = shift-not-positive (surd-of h) (pair-ideal h px) (pair-ideal h py) (pair-degree h px) (pair-degree h py);
     f-least = shift-least (surd-of h) (pair-ideal h px) (pair-ideal h py) (pair-degree h px) (pair-degree h py);

@@ -1,11 +1,11 @@
 -- The sentences 1 to 7 by which a ticket is refused, as statements about any list of words, with no test in them. What the words say is read at their places;
--- 7 speaks of polynomials as lists of coefficients and uses their size and product modulo q.
+-- 7 speaks of polynomials as lists of coefficients and uses their size and product over the field of q elements.
 use Prim.Native.Nat.{ℕ, _+_, _%_, _≤_, _<_}
 use mathlib.Core.Path.{_≡_}
 use mathlib.Core.Logic.{_≢_, _⊎_}
 use mathlib.Core.List.{List, [], _∷_, map}
 use lib.ListN.{length, getD, take, drop}
-use Rattle.spec_definitions.specs.Field.{modulo}
+use Rattle.spec_definitions.specs.Field.{FieldName, prime, ops, reading}
 use Rattle.spec_definitions.specs.Polynomials.{size, add, sub, mul}
 use Rattle.spec_definitions.specs.Words.{kind, value}
 
@@ -20,6 +20,9 @@ module _ (w : List ℕ) where
   -- "In order: kind 1: q; kind 2: n; kind 3, n+1 words: the coefficients of D, constant term first"
   abbrev pub q : ℕ
   q = valueAt 0
+
+  abbrev pub field : FieldName
+  field = prime q
 
   abbrev pub n : ℕ
   n = valueAt 1
@@ -37,25 +40,33 @@ pub record AllowedPrime (q : ℕ) : Type 0 where
   pub more : 1 < q
   pub divisors : (d : ℕ) → q % d ≡ 0 → (d ≡ 1) ⊎ (d ≡ q)
 
--- the same polynomial: each coefficient is the same modulo q
-abbrev pub Same : ℕ → List ℕ → List ℕ → Type 0
-Same q f h = (i : ℕ) → getD f i 0 % q ≡ getD h i 0 % q
+-- the field of q elements for such a q
+abbrev pub AllowedField : FieldName → Type 0
+AllowedField f = AllowedPrime (f .q)
 
--- sum, difference and product of polynomials modulo q, for infix names
+-- the same polynomial: each coefficient is the same in the field
+abbrev pub Same : FieldName → List ℕ → List ℕ → Type 0
+Same f l h = (i : ℕ) → reading f (getD l i 0) ≡ reading f (getD h i 0)
+
+-- sum, difference and product of polynomials over a field, for infix names
 pub record Operators : Type 0 where
   pub plus : List ℕ → List ℕ → List ℕ
   pub minus : List ℕ → List ℕ → List ℕ
   pub times : List ℕ → List ℕ → List ℕ
 
-abbrev pub operators : ℕ → Operators
-operators q = record { plus = add (modulo q); minus = sub (modulo q); times = mul (modulo q) }
+abbrev pub operators : FieldName → Operators
+operators f = record { plus = add (ops f); minus = sub (ops f); times = mul (ops f) }
 
--- D = h²·e modulo q with h of degree 1 or more; h and e are lists of any length, of any numbers
-pub record SquareDivides (q : ℕ) (D : List ℕ) : Type 0 where
+-- D = h²·e over the field, with h of degree 1 or more; h and e are lists of any length, of any numbers
+pub record SquareDivides (f : FieldName) (D : List ℕ) : Type 0 where
   pub h : List ℕ
   pub e : List ℕ
-  pub degree : 2 ≤ size (modulo q) h
-  pub product : Same q D (mul (modulo q) (mul (modulo q) h h) e)
+  pub degree : 2 ≤ size (ops f) h
+  pub product : Same f D (mul (ops f) (mul (ops f) h h) e)
+
+-- "a coefficient is q or more"
+abbrev pub TooLarge : FieldName → ℕ → Type 0
+TooLarge f x = f .q ≤ x
 
 module _ (w : List ℕ) where
   -- "1: fewer than 7 words, or word 0 isn't kind 1, or word 1 isn't kind 2"
@@ -80,7 +91,7 @@ module _ (w : List ℕ) where
 
   -- "5: a coefficient is q or more"
   abbrev pub WrongCoefficient : Type 0
-  WrongCoefficient = (i : ℕ) × (i ≤ n w) × (q w ≤ coefficient w i)
+  WrongCoefficient = (i : ℕ) × (i ≤ n w) × TooLarge (field w) (coefficient w i)
 
   -- "6: the coefficient of x^n isn't 1"
   abbrev pub WrongLead : Type 0
@@ -88,7 +99,7 @@ module _ (w : List ℕ) where
 
   -- "7: the square of some polynomial of degree 1 or more divides D"
   abbrev pub NotSquarefree : Type 0
-  NotSquarefree = SquareDivides (q w) (D w)
+  NotSquarefree = SquareDivides (field w) (D w)
 
 -- sentence k applies to the words
 unfoldable pub Applies : ℕ → List ℕ → Type 0

@@ -2,15 +2,15 @@
 use Prim.Native.Nat.{ℕ, zero, suc, _+_, _≤_, _<_}
 use native.Mathlib.Nat.{eq-or-lt-of-le}
 use native.Mathlib.Omega.{arith}
-use mathlib.Core.Path.{_≡_, refl, sym, subst}
+use mathlib.Core.Path.{_≡_, refl, sym, _∙_, subst}
 use mathlib.Core.Logic.{_↔_, _≢_, _⊎_, inl, inr, ⊎-elim}
 use mathlib.Core.Bool.{Bool, true, false, not, _||_, false≢true}
 use mathlib.Core.List.{List, [], _∷_}
-use lib.Dec.{ltb, eqb, leb}
+use lib.Dec.{ltb, eqb}
 use lib.ListN.{length, getD}
-use borrow.Author.Tests.{ltb-true, lt-ltb, eqb-true, eqb-false, eq-eqb, leb-true, leb-false}
+use borrow.Author.Tests.{ltb-true, lt-ltb, eqb-true, eqb-false, eq-eqb}
 use Rattle.math_ring.specs.Order.{le-or-lt}
-use Rattle.spec_definitions.specs.Words.{same, someFrom}
+use Rattle.spec_definitions.specs.Words.{same, someNot}
 use Rattle.spec_definitions.specs.Ticket.{firstOf}
 
 -- the test b is true exactly where P holds
@@ -49,18 +49,18 @@ tests-or {a = false} {b = true} s t u = (λ e. inr (inl (t (λ p. absurd (false�
 tests-or {a = false} {b = false} s t u = (λ e. inr (inr (u .0 e)), ⊎-elim (λ p. absurd (false≢true (s .1 p))) (⊎-elim (λ p. absurd (false≢true (t (λ r. absurd (false≢true (s .1 r))) .1 p))) (u .1)))
 
 -- ---- tests of lists: some place of the list ..
--- .. has a number from q on
-pub tests-some : (q : ℕ) (l : List ℕ) → Tests (someFrom q l) ((i : ℕ) × (i < length l) × (q ≤ getD l i 0))
-unfolding someFrom
-tests-some q [] = (λ e. absurd (false≢true e), λ h. absurd (omega arith))
-tests-some q (x ∷ l) = go (leb q x) refl (tests-some q l)
+-- .. has a number that does not pass a test
+pub tests-some : (t : ℕ → Bool) (l : List ℕ) → Tests (someNot t l) ((i : ℕ) × (i < length l) × (t (getD l i 0) ≡ false))
+unfolding someNot
+tests-some t [] = (λ e. absurd (false≢true e), λ h. absurd (omega arith))
+tests-some t (x ∷ l) = go (t x) refl (tests-some t l)
   where
-    go : (b : Bool) → leb q x ≡ b → Tests (someFrom q l) ((i : ℕ) × (i < length l) × (q ≤ getD l i 0)) → Tests (elim b [ true ↦ true | false ↦ someFrom q l ]) ((i : ℕ) × (i < suc (length l)) × (q ≤ getD (x ∷ l) i 0))
-    go true e t = (λ h. (0, omega arith, leb-true q x e), λ h. refl)
-    go false e t = (λ h. let r = t .0 h in (suc (r .0), omega arith, r .2), λ h. t .1 (later (h .0) (h .1) (h .2)))
+    go : (b : Bool) → t x ≡ b → Tests (someNot t l) ((i : ℕ) × (i < length l) × (t (getD l i 0) ≡ false)) → Tests (elim b [ true ↦ someNot t l | false ↦ true ]) ((i : ℕ) × (i < suc (length l)) × (t (getD (x ∷ l) i 0) ≡ false))
+    go false e k = (λ h. (0, omega arith, e), λ h. refl)
+    go true e k = (λ h. let r = k .0 h in (suc (r .0), omega arith, r .2), λ h. k .1 (later (h .0) (h .1) (h .2)))
       where
-        later : (i : ℕ) → i < suc (length l) → q ≤ getD (x ∷ l) i 0 → (i : ℕ) × (i < length l) × (q ≤ getD l i 0)
-        later zero low h = absurd (omega (arith, leb-false q x e))
+        later : (i : ℕ) → i < suc (length l) → t (getD (x ∷ l) i 0) ≡ false → (i : ℕ) × (i < length l) × (t (getD l i 0) ≡ false)
+        later zero low h = absurd (false≢true (sym h ∙ e))
         later (suc i) low h = (i, omega arith, h)
 
 -- .. differs from that of another list of the same length

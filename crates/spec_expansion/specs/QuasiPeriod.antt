@@ -9,7 +9,6 @@ use mathlib.Core.Path.{_≡_, sym, subst, ap, _∙_, fun-ext}
 use mathlib.Core.Logic.{_≢_, ⊎-elim}
 use mathlib.Core.List.{List}
 use Rattle.math_ring.specs.Order.{le-or-lt}
-use Rattle.math_ring.specs.Residues.{Fq}
 use Rattle.math_ring.specs.Series.{Series}
 use Rattle.math_algebra.specs.Field.{Field}
 use Rattle.math_algebra.specs.Polynomial.{F, Px}
@@ -18,20 +17,21 @@ use Rattle.math_algebra.specs.Associate.{associate-path}
 use Rattle.math_surd.specs.Walk.{κ-first}
 use Rattle.math_surd.specs.Same.{Same, same-prior, same-κ}
 use Rattle.math_surd.specs.QuasiPeriod.{QuasiPeriod, quasi-period}
-use Rattle.spec_definitions.specs.Field.{modulo}
+use Rattle.spec_definitions.specs.Field.{FieldName, ops}
 use Rattle.spec_definitions.specs.Polynomials.{size, root}
+use Rattle.spec_definitions.specs.Words.{values}
 use Rattle.spec_definitions.specs.Ticket.{Ticket, ticketOf, refusalOf}
 use Rattle.spec_definitions.specs.Walk as walk
 use Rattle.spec_definitions.specs.Answers.{opsOf, rootOf}
 use Rattle.spec_bridge.specs.Model.{Model, series}
-use Rattle.spec_bridge.specs.Residues.{pos, model, field}
+use Rattle.spec_fields.specs.Named.{Arithmetic, arithmetic, ok-small}
 use Rattle.spec_laws.specs.Surd.{Surd, Q-oks, P-oks}
 use Rattle.spec_laws.specs.Fraction.{fraction, Q-length, Q-some}
 use Rattle.spec_laws.specs.Walk.{P-length}
 use Rattle.spec_laws.specs.QuasiPeriod.{size-length}
-use Rattle.spec_laws.specs.Admitted.{Admitted, surd-of, admitted}
+use Rattle.spec_laws.specs.Admitted.{Admitted, is-field, surd-of, admitted}
 use Rattle.spec_expansion.specs.Pigeonhole.{Repeats, pigeonhole}
-use Rattle.spec_expansion.specs.Digits.{number, number-below, number-tells, sum-tells}
+use Rattle.spec_expansion.specs.Digits.{Digits, number, number-below, number-tells, sum-tells}
 
 -- m is the least index from 1 up whose Q is a nonzero constant, with no bound on it
 pub record IsQuasiPeriod (t : Ticket) (m : ℕ) : Type 0 where
@@ -51,49 +51,58 @@ QuasiPeriodUnique = (t : Ticket) (m k : ℕ) → IsQuasiPeriod t m → IsQuasiPe
 pub quasi-period-unique : QuasiPeriodUnique
 quasi-period-unique t m k h i = ⊎-elim (λ u. ⊎-elim (λ v. omega arith) (λ v. absurd (h .least k (i .positive) v (i .constant))) (le-or-lt m k)) (λ u. absurd (i .least m (h .positive) u (h .constant))) (le-or-lt k m)
 
-module _ {q g : ℕ} {D : List ℕ} (h : Admitted q g D) where
-  abbrev K : Field (Fq q)
-  K = field q (h .prime) (h .odd)
+module _ {f : FieldName} {g : ℕ} {D : List ℕ} (h : Admitted f g D) where
+  abbrev A : Arithmetic f
+  A = arithmetic f (is-field h)
 
-  abbrev M : Model (modulo q) (F K)
-  M = model q (pos q (h .prime))
+  abbrev K : Field (A .Elements)
+  K = A .K
+
+  abbrev M : Model (ops f) (F K)
+  M = A .M
 
   abbrev d : List ℕ
-  d = root (modulo q) D (suc g)
+  d = root (ops f) D (suc g)
 
   abbrev z : Surd K M g D d
   z = surd-of h
 
   abbrev Q : ℕ → List ℕ
-  Q = walk.Q (modulo q) D d
+  Q = walk.Q (ops f) D d
 
   abbrev P : ℕ → List ℕ
-  P = walk.P (modulo q) D d
+  P = walk.P (ops f) D d
 
-  -- ---- the pair (Q_i, P_i) as a number below B²: neither has more than g + 2 coefficients
+  -- ---- the pair (Q_i, P_i) as a number below B²: neither has more than g + 2 coefficients, and each of them fits into a word
   abbrev B : ℕ
-  B = q ^ suc (suc g)
+  B = values ^ suc (suc g)
+
+  Q-digits : (i : ℕ) → Digits values (Q i)
+  Q-digits i n = ok-small f (is-field h) _ (A .ok-is _ (Q-oks z i n))
+
+  P-digits : (i : ℕ) → Digits values (P i)
+  P-digits i n = ok-small f (is-field h) _ (A .ok-is _ (P-oks z i n))
 
   pair-number : ℕ → ℕ
-  pair-number i = number q (Q i) + B * number q (P i)
+  pair-number i = number values (Q i) + B * number values (P i)
 
-  Q-below : (i : ℕ) → number q (Q i) < B
-  Q-below i = number-below q (suc (suc g)) (Q i) (Q-oks z i) (let k = Q-length z i in omega arith)
+  Q-below : (i : ℕ) → number values (Q i) < B
+  Q-below i = number-below values (suc (suc g)) (Q i) (Q-digits i) (let k = Q-length z i in omega arith)
 
-  P-below : (i : ℕ) → number q (P i) < B
-  P-below i = number-below q (suc (suc g)) (P i) (P-oks z i) (P-length z i)
+  P-below : (i : ℕ) → number values (P i) < B
+  P-below i = number-below values (suc (suc g)) (P i) (P-digits i) (P-length z i)
 
   pair-below : (i : ℕ) → pair-number i < B * B
   unfolding pair-number
-  pair-below i = let a = Q-below i in let b : B * suc (number q (P i)) ≤ B * B = mul-le-mul-left B (P-below i) in let c : B * suc (number q (P i)) ≡ B * number q (P i) + B = mul-suc B (number q (P i)) in omega arith
+  pair-below i = let a = Q-below i in let b : B * suc (number values (P i)) ≤ B * B = mul-le-mul-left B (P-below i) in let c : B * suc (number values (P i)) ≡ B * number values (P i) + B = mul-suc B (number values (P i)) in omega arith
 
   -- the number tells the polynomials, and so the ideal
   pair-same : (i j : ℕ) → pair-number i ≡ pair-number j → Same K (fraction z) i j
   unfolding pair-number
   pair-same i j e =
-      let s = sum-tells B (number q (Q i)) (number q (Q j)) (number q (P i)) (number q (P j)) (Q-below i) (Q-below j) e in
-      let a : series M (Q i) ≡ series M (Q j) = fun-ext (λ n. ap (M .φ) (number-tells q (Q i) (Q j) (Q-oks z i) (Q-oks z j) (s .0) n)) in
-      let b : series M (P i) ≡ series M (P j) = fun-ext (λ n. ap (M .φ) (number-tells q (P i) (P j) (P-oks z i) (P-oks z j) (s .1) n)) in
+      let s = sum-tells B (number values (Q i)) (number values (Q j)) (number values (P i)) (number values (P j)) (Q-below i) (Q-below j) e in
+      let a : series M (Q i) ≡ series M (Q j) = fun-ext (λ n. ap (M .φ) (number-tells values (Q i) (Q j) (Q-digits i) (Q-digits j) (s .0) n)) in
+      let b : series M (P i) ≡ series M (P j) = fun-ext (λ n. ap (M .φ) (number-tells values (P i) (P j) (P-digits i) (P-digits j) (s .1) n)) in
       record { ratio = associate-path K a; congruent = divides-path K (sym (ap (λ (u : Px K). Series (F K) .add u (Series (F K) .neg (series M (P j)))) b ∙ Series (F K) .add-neg (series M (P j)))) (divides-zero K (series M (Q j))) }
 
   -- back to the index 0
@@ -114,10 +123,10 @@ module _ {q g : ℕ} {D : List ℕ} (h : Admitted q g D) where
       constant : fraction z .κ k ≡ 0
       constant = sym (same-κ K (fraction z) 0 k (same-first (r .first) k (subst (Same K (fraction z) (r .first)) (omega (arith, r .rises)) (pair-same (r .first) (r .second) (r .same))) .ratio)) ∙ κ-first K (fraction z)
 
-  size-constant : (i : ℕ) → fraction z .κ i ≡ 0 → size (modulo q) (Q i) ≡ 1
+  size-constant : (i : ℕ) → fraction z .κ i ≡ 0 → size (ops f) (Q i) ≡ 1
   size-constant i e = let k = Q-some z i in let l = size-length z i in omega arith
 
-  constant-size : (i : ℕ) → size (modulo q) (Q i) ≡ 1 → fraction z .κ i ≡ 0
+  constant-size : (i : ℕ) → size (ops f) (Q i) ≡ 1 → fraction z .κ i ≡ 0
   constant-size i e = let l = size-length z i in omega arith
 
 pub t2-exists : T2Exists

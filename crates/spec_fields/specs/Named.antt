@@ -1,5 +1,5 @@
 -- The field that a name stands for: its operations on the values of words have a model in a perfect field. What follows from that is said and proved once, over `arithmetic f h`.
-use Prim.Native.Nat.{ℕ, _%_, _<_}
+use Prim.Native.Nat.{ℕ, _<_}
 use native.Mathlib.Nat.{mod-lt, mod-eq-of-lt, zero-mod}
 use native.Mathlib.Omega.{arith}
 use mathlib.Core.Path.{_≡_, refl, sym, ap, _∙_, subst}
@@ -39,6 +39,8 @@ pub record Arithmetic (f : FieldName) : Type 1 where
   -- a number and the coefficient that it stands for are the same element
   pub φ-reading : (x : ℕ) → M .φ (reading f x) ≡ M .φ x
   pub ok-reading : (x : ℕ) → M .Ok (reading f x)
+  -- the number 1 is the field's 1
+  pub one-is : ops f .one ≡ 1
 
 -- the test is the rule
 pub fits-ok : (f : FieldName) (x : ℕ) → fits f x ≡ true → Ok f x
@@ -57,39 +59,80 @@ pub reading-below : (f : FieldName) → 0 < f .q → (x : ℕ) → reading f x <
 unfolding reading
 reading-below f p x = mod-lt x p
 
-abbrev pub arithmetic : (f : FieldName) → IsField f → Arithmetic f
-arithmetic f h = record {
+-- of q elements, for any odd prime q
+abbrev pub residues : (f : FieldName) → Prime (f .q) → 2 < f .q → Arithmetic f
+residues f p odd = record {
   Elements = Fq (f .q);
-  K = field (f .q) (h .prime) (h .odd);
-  M = model (f .q) (pos (f .q) (h .prime));
-  I = inverts (f .q) (pos (f .q) (h .prime)) (h .prime);
-  onto = onto (f .q) (h .prime);
-  perfect = perfect-residues (f .q) (pos (f .q) (h .prime)) (h .prime) (field (f .q) (h .prime) (h .odd)) refl;
+  K = field (f .q) p odd;
+  M = model (f .q) (pos (f .q) p);
+  I = inverts (f .q) (pos (f .q) p) p;
+  onto = onto (f .q) p;
+  perfect = perfect-residues (f .q) (pos (f .q) p) p (field (f .q) p odd) refl;
   ok-of = λ x k. k;
   ok-is = λ x k. k;
-  φ-reading = reading-same-element f (pos (f .q) (h .prime));
-  ok-reading = reading-below f (pos (f .q) (h .prime));
+  φ-reading = reading-same-element f (pos (f .q) p);
+  ok-reading = reading-below f (pos (f .q) p);
+  one-is = mod-eq-of-lt (let w : 1 < f .q = omega arith in w);
 }
 
+abbrev pub arithmetic : (f : FieldName) → IsField f → Arithmetic f
+arithmetic f h = residues f (h .prime) (h .odd)
+
+-- ---- of any arithmetic
+module _ {f : FieldName} (A : Arithmetic f) where
+  -- the number 1 is the field's 1
+  pub φ-one-in : A .M .φ 1 ≡ A .K .scalars .one
+  φ-one-in = ap (A .M .φ) (sym (A .one-is)) ∙ A .M .φ-one
+
+  pub ok-one-in : A .M .Ok 1
+  ok-one-in = subst (A .M .Ok) (A .one-is) (A .M .ok-one)
+
+  -- two numbers stand for the same coefficient where they are the same element
+  pub same-reading-in : (x y : ℕ) → A .M .φ x ≡ A .M .φ y → reading f x ≡ reading f y
+  same-reading-in x y e = A .M .inj _ _ (A .ok-reading x) (A .ok-reading y) (A .φ-reading x ∙ e ∙ sym (A .φ-reading y))
+
+  pub reading-same-in : (x y : ℕ) → reading f x ≡ reading f y → A .M .φ x ≡ A .M .φ y
+  reading-same-in x y e = sym (A .φ-reading x) ∙ ap (A .M .φ) e ∙ A .φ-reading y
+
+-- ---- of the field that is named
 module _ (f : FieldName) (h : IsField f) where
   -- 0 is admissible
   pub ok-zero : Ok f 0
   ok-zero = arithmetic f h .ok-is 0 (arithmetic f h .M .ok-zer)
 
-  -- the number 1 is the field's 1
+  pub some-elements : 0 < f .q
+  some-elements = pos (f .q) (h .prime)
+
   pub φ-first : arithmetic f h .M .φ 1 ≡ arithmetic f h .K .scalars .one
-  φ-first = ap (arithmetic f h .M .φ) (sym (mod-eq-of-lt (let w : 1 < f .q = (let z = h .odd in omega arith) in w))) ∙ arithmetic f h .M .φ-one
-
-  -- two numbers stand for the same coefficient where they are the same element
-  pub same-reading : (x y : ℕ) → arithmetic f h .M .φ x ≡ arithmetic f h .M .φ y → reading f x ≡ reading f y
-  same-reading x y e = arithmetic f h .M .inj _ _ (arithmetic f h .ok-reading x) (arithmetic f h .ok-reading y) (arithmetic f h .φ-reading x ∙ e ∙ sym (arithmetic f h .φ-reading y))
-
-  pub reading-same : (x y : ℕ) → reading f x ≡ reading f y → arithmetic f h .M .φ x ≡ arithmetic f h .M .φ y
-  reading-same x y e = sym (arithmetic f h .φ-reading x) ∙ ap (arithmetic f h .M .φ) e ∙ arithmetic f h .φ-reading y
+  φ-first = φ-one-in (arithmetic f h)
 
   -- 1 is admissible
   pub ok-first : arithmetic f h .M .Ok 1
-  ok-first = subst (arithmetic f h .M .Ok) (mod-eq-of-lt (let w : 1 < f .q = (let z = h .odd in omega arith) in w)) (arithmetic f h .M .ok-one)
+  ok-first = ok-one-in (arithmetic f h)
+
+  pub one-first : ops f .one ≡ 1
+  one-first = arithmetic f h .one-is
+
+  pub same-reading : (x y : ℕ) → arithmetic f h .M .φ x ≡ arithmetic f h .M .φ y → reading f x ≡ reading f y
+  same-reading = same-reading-in (arithmetic f h)
+
+  pub reading-same : (x y : ℕ) → reading f x ≡ reading f y → arithmetic f h .M .φ x ≡ arithmetic f h .M .φ y
+  reading-same = reading-same-in (arithmetic f h)
+
+  -- an admissible number stands for itself
+  pub reading-ok : (x : ℕ) → Ok f x → reading f x ≡ x
+  reading-ok x k = arithmetic f h .M .inj _ _ (arithmetic f h .ok-reading x) (arithmetic f h .ok-of x k) (arithmetic f h .φ-reading x)
+
+  pub reading-first : reading f 1 ≡ 1
+  reading-first = reading-ok 1 (arithmetic f h .ok-is 1 ok-first)
+
+  -- a number that stands for 1 is the field's 1
+  pub reading-one : (x : ℕ) → reading f x ≡ 1 → arithmetic f h .M .φ x ≡ arithmetic f h .K .scalars .one
+  reading-one x e = reading-same x 1 (e ∙ sym reading-first) ∙ φ-first
+
+  -- an admissible coefficient fits into a word
+  pub ok-small : (x : ℕ) → Ok f x → x < 268435456
+  ok-small x k = let z = h .small in omega arith
 
 -- 0 stands for itself
 pub reading-zero : (f : FieldName) → reading f 0 ≡ 0

@@ -1,5 +1,5 @@
--- What a ticket past refusals 1 to 7 gives: an odd prime q, the genus g and a monic D of degree 2g + 2 with coefficients below q that is not a square, so that √D has its
--- continued fraction over the field of q elements.
+-- What a ticket past refusals 1 to 7 gives: a field f, the genus g and a monic D of degree 2g + 2 with admissible coefficients that is not a square, so that √D has its
+-- continued fraction over the field.
 use Prim.Native.Nat.{ℕ, zero, suc, _+_, _*_, _/_, _%_, _≤_, _<_}
 use native.Mathlib.Nat.{mod-lt, div-add-mod}
 use native.Mathlib.Numerals.{add-one}
@@ -7,45 +7,55 @@ use native.Mathlib.Omega.{arith}
 use mathlib.Core.Path.{_≡_, refl, sym, ap, _∙_}
 use mathlib.Core.Bool.{Bool, true, false, not, _||_}
 use mathlib.Core.List.{List, [], _∷_}
-use lib.Dec.{ltb, leb, eqb}
+use lib.Dec.{ltb, eqb}
 use lib.ListN.{length, getD, take, drop, length-map, length-drop}
 use lib.Seq.{length-take-le}
-use borrow.Author.Tests.{ltb-false, leb-false, eqb-true, not-false}
+use borrow.Author.Tests.{ltb-false, eqb-true, not-false}
 use Rattle.math_algebra.specs.Polynomial.{Monic}
 use Rattle.math_surd.specs.Root.{No-square}
-use Rattle.spec_definitions.specs.Field.{modulo}
-use Rattle.spec_definitions.specs.Polynomials.{root}
+use Rattle.spec_definitions.specs.Field.{FieldName, ops, fits}
+use Rattle.spec_definitions.specs.Polynomials.{trim, root}
 use Rattle.spec_definitions.specs.Primes.{oddPrime}
-use Rattle.spec_definitions.specs.Words.{value, someFrom}
+use Rattle.spec_definitions.specs.Words.{value, someNot}
 use Rattle.spec_definitions.specs.Ticket.{Ticket, genus, ticketOf, wrongHead, wrongPrime, wrongDegree, wrongLayout, wrongCoefficient, wrongLead, notSquarefree, firstOf, testsOf, refusalOf}
 use Rattle.spec_bridge.specs.Model.{series}
-use Rattle.spec_bridge.specs.Trim.{below-length}
+use Rattle.spec_bridge.specs.Trim.{below-length, length-trim}
 use Rattle.spec_bridge.specs.Prime.{Prime, OddPrime, odd-prime-true, odd-prime-more}
-use Rattle.spec_bridge.specs.Residues.{model, inverts, field, pos}
 use Rattle.spec_bridge.specs.Root.{root-is, trim-root, oks-root}
+use Rattle.spec_fields.specs.Named.{IsField, Ok, arithmetic, fits-ok, ok-zero, φ-first}
 use Rattle.spec_laws.specs.Surd.{Surd}
 use Rattle.spec_laws.specs.NoSquare as squarefree
 
-pub record Admitted (q g : ℕ) (D : List ℕ) : Type 0 where
-  pub prime : Prime q
-  pub odd : 2 < q
-  pub small : q < 4096
+abbrev pub field-from : {f : FieldName} → Prime (f .q) → 2 < f .q → f .q < 4096 → IsField f
+field-from p l u = record { prime = p; odd = l; small = u }
+
+pub record Admitted (f : FieldName) (g : ℕ) (D : List ℕ) : Type 0 where
+  pub prime : Prime (f .q)
+  pub odd : 2 < f .q
+  pub small : f .q < 4096
   pub genus-most : g ≤ 31
   pub size-D : length D ≡ suc (suc g + suc g)
-  pub below : (i : ℕ) → getD D i 0 < q
+  pub below : (i : ℕ) → Ok f (getD D i 0)
   pub lead-one : getD D (suc g + suc g) 0 ≡ 1
-  pub no-square : No-square (field q prime odd) (series (model q (pos q prime)) D)
+  pub no-square : No-square (arithmetic f (field-from prime odd small) .K) (series (arithmetic f (field-from prime odd small) .M) D)
 
-pub monic-D : (q g : ℕ) (D : List ℕ) (p : Prime q) (l : 2 < q) → length D ≡ suc (suc g + suc g) → getD D (suc g + suc g) 0 ≡ 1 → Monic (field q p l) (series (model q (pos q p)) D) (suc g + suc g)
-monic-D q g D p l h e = record { low = λ i k. below-length (model q (pos q p)) D i (omega arith); top = ap (model q (pos q p) .φ) e }
+-- f is a field
+abbrev pub is-field : {f : FieldName} {g : ℕ} {D : List ℕ} → Admitted f g D → IsField f
+is-field h = field-from (h .prime) (h .odd) (h .small)
+
+pub monic-D : (f : FieldName) (h : IsField f) (g : ℕ) (D : List ℕ) → length D ≡ suc (suc g + suc g) → getD D (suc g + suc g) 0 ≡ 1 → Monic (arithmetic f h .K) (series (arithmetic f h .M) D) (suc g + suc g)
+monic-D f h g D l e = record { low = λ i k. below-length (arithmetic f h .M) D i (omega arith); top = ap (arithmetic f h .M .φ) e ∙ φ-first f h }
+
+pub D-most : {f : FieldName} {g : ℕ} {D : List ℕ} → Admitted f g D → length (trim (ops f) D) ≤ suc (suc g + suc g)
+D-most {f} {g} {D} h = let e = length-trim (arithmetic f (is-field h) .M) D in let w = h .size-D in omega arith
 
 -- √D with its root: what the laws of the walk ask for
-abbrev pub surd-of : {q g : ℕ} {D : List ℕ} (h : Admitted q g D) → Surd (field q (h .prime) (h .odd)) (model q (pos q (h .prime))) g D (root (modulo q) D (suc g))
-surd-of {q} {g} {D} h = record {
-  inverts = inverts q (pos q (h .prime)) (h .prime);
-  is-root = root-is (field q (h .prime) (h .odd)) (model q (pos q (h .prime))) (inverts q (pos q (h .prime)) (h .prime)) D (suc g) (monic-D q g D (h .prime) (h .odd) (h .size-D) (h .lead-one));
-  trimmed = trim-root (field q (h .prime) (h .odd)) (model q (pos q (h .prime))) (inverts q (pos q (h .prime)) (h .prime)) D (suc g);
-  reduced = oks-root (field q (h .prime) (h .odd)) (model q (pos q (h .prime))) (inverts q (pos q (h .prime)) (h .prime)) D (suc g);
+abbrev pub surd-of : {f : FieldName} {g : ℕ} {D : List ℕ} (h : Admitted f g D) → Surd (arithmetic f (is-field h) .K) (arithmetic f (is-field h) .M) g D (root (ops f) D (suc g))
+surd-of {f} {g} {D} h = record {
+  inverts = arithmetic f (is-field h) .I;
+  is-root = root-is (arithmetic f (is-field h) .K) (arithmetic f (is-field h) .M) (arithmetic f (is-field h) .I) D (suc g) (monic-D f (is-field h) g D (h .size-D) (h .lead-one));
+  trimmed = trim-root (arithmetic f (is-field h) .K) (arithmetic f (is-field h) .M) (arithmetic f (is-field h) .I) D (suc g);
+  reduced = oks-root (arithmetic f (is-field h) .K) (arithmetic f (is-field h) .M) (arithmetic f (is-field h) .I) D (suc g);
   no-square = h .no-square;
 }
 
@@ -60,13 +70,13 @@ neither true t e = absurd (let z : _≡_ {A = ℕ} 0 1 = cc in omega arith)
 neither false t e = (refl, e)
 
 pub record Passed (w : List ℕ) (t : Ticket) : Type 0 where
-  pub head : wrongHead w ≡ false
-  pub prime : wrongPrime (t .q) ≡ false
+  pub head : wrongHead (1 ∷ []) w ≡ false
+  pub prime : wrongPrime (t .field .q) ≡ false
   pub degree : wrongDegree (t .n) ≡ false
   pub layout : wrongLayout (t .n) w ≡ false
-  pub coefficient : wrongCoefficient (t .q) (t .D) ≡ false
+  pub coefficient : wrongCoefficient (t .field) (t .D) ≡ false
   pub lead : wrongLead (t .n) (t .D) ≡ false
-  pub squarefree : notSquarefree (t .q) (t .D) ≡ false
+  pub squarefree : notSquarefree (t .field) (t .D) ≡ false
 
 pub passed : (w : List ℕ) → refusalOf w ≡ 0 → Passed w (ticketOf w)
 unfolding refusalOf testsOf
@@ -100,15 +110,15 @@ degree-of n e =
     let whole : 2 * (n / 2) + n % 2 ≡ n = div-add-mod n 2 in
     (omega arith, omega arith)
 
-pub below-of : (q : ℕ) → 0 < q → (D : List ℕ) → someFrom q D ≡ false → (i : ℕ) → getD D i 0 < q
-unfolding someFrom
-below-of q p [] e i = p
-below-of q p (x ∷ l) e i = go (leb q x) refl e i (below-of q p l)
+pub below-of : (f : FieldName) → Ok f 0 → (D : List ℕ) → someNot (fits f) D ≡ false → (i : ℕ) → Ok f (getD D i 0)
+unfolding someNot
+below-of f z [] e i = z
+below-of f z (x ∷ l) e i = go (fits f x) refl e i (below-of f z l)
   where
-    go : (t : Bool) → leb q x ≡ t → (elim t [ true ↦ true | false ↦ someFrom q l ]) ≡ false → (i : ℕ) → (someFrom q l ≡ false → (i : ℕ) → getD l i 0 < q) → getD (x ∷ l) i 0 < q
-    go true h k i rest = absurd (let z : _≡_ {A = ℕ} 0 1 = cc in omega arith)
-    go false h k zero rest = leb-false q x h
-    go false h k (suc i) rest = rest k i
+    go : (t : Bool) → fits f x ≡ t → (elim t [ true ↦ someNot (fits f) l | false ↦ true ]) ≡ false → (i : ℕ) → (someNot (fits f) l ≡ false → (i : ℕ) → Ok f (getD l i 0)) → Ok f (getD (x ∷ l) i 0)
+    go false h k i rest = absurd (let z : _≡_ {A = ℕ} 0 1 = cc in omega arith)
+    go true h k zero rest = fits-ok f x h
+    go true h k (suc i) rest = rest k i
 
 -- n + 5 words hold n + 1 coefficients
 pub length-of : (w : List ℕ) → wrongLayout (ticketOf w .n) w ≡ false → length (ticketOf w .D) ≡ suc (ticketOf w .n)
@@ -125,23 +135,24 @@ pub lead-of : (n : ℕ) (D : List ℕ) → wrongLead n D ≡ false → getD D n 
 unfolding wrongLead
 lead-of n D e = eqb-true (getD D n 0) 1 (not-false (eqb (getD D n 0) 1) e)
 
+-- the field of a q that passes
+pub field-of : (f : FieldName) → wrongPrime (f .q) ≡ false → IsField f
+field-of f e = let r = prime-of (f .q) e in record { prime = r .prime; odd = odd-prime-more (f .q) r; small = r .small }
+
 -- ---- together
-from-tests : (w : List ℕ) (t : Ticket) → Passed w t → length (t .D) ≡ suc (t .n) → Admitted (t .q) (genus (t .n)) (t .D)
+from-tests : (w : List ℕ) (t : Ticket) → IsField (t .field) → Passed w t → length (t .D) ≡ suc (t .n) → Admitted (t .field) (genus (t .n)) (t .D)
 unfolding wrongCoefficient notSquarefree
-from-tests w t h len = record {
-  prime = r .prime;
-  odd = odd-prime-more (t .q) r;
-  small = r .small;
+from-tests w t k h len = record {
+  prime = k .prime;
+  odd = k .odd;
+  small = k .small;
   genus-most = n-is .1;
   size-D = size-D;
-  below = below-of (t .q) (pos (t .q) (r .prime)) (t .D) (h .coefficient);
+  below = below-of (t .field) (ok-zero (t .field) k) (t .D) (h .coefficient);
   lead-one = lead-one;
-  no-square = squarefree.no-square (field (t .q) (r .prime) (odd-prime-more (t .q) r)) (model (t .q) (pos (t .q) (r .prime))) (inverts (t .q) (pos (t .q) (r .prime)) (r .prime)) (t .D) (genus (t .n)) (monic-D (t .q) (genus (t .n)) (t .D) (r .prime) (odd-prime-more (t .q) r) size-D lead-one) (eqb-true _ 1 (not-false _ (h .squarefree)));
+  no-square = squarefree.no-square (arithmetic (t .field) k .K) (arithmetic (t .field) k .M) (arithmetic (t .field) k .I) (t .D) (genus (t .n)) (monic-D (t .field) k (genus (t .n)) (t .D) size-D lead-one) (eqb-true _ 1 (not-false _ (h .squarefree)));
 }
   where
-    r : OddPrime (t .q)
-    r = prime-of (t .q) (h .prime)
-
     n-is : (suc (genus (t .n)) + suc (genus (t .n)) ≡ t .n) × (genus (t .n) ≤ 31)
     n-is = degree-of (t .n) (h .degree)
 
@@ -151,8 +162,8 @@ from-tests w t h len = record {
     lead-one : getD (t .D) (suc (genus (t .n)) + suc (genus (t .n))) 0 ≡ 1
     lead-one = ap (λ (n : ℕ). getD (t .D) n 0) (n-is .0) ∙ lead-of (t .n) (t .D) (h .lead)
 
-pub admitted : (w : List ℕ) → refusalOf w ≡ 0 → Admitted (ticketOf w .q) (genus (ticketOf w .n)) (ticketOf w .D)
-admitted w e = from-tests w (ticketOf w) (passed w e) (length-of w (passed w e .layout))
+pub admitted : (w : List ℕ) → refusalOf w ≡ 0 → Admitted (ticketOf w .field) (genus (ticketOf w .n)) (ticketOf w .D)
+admitted w e = from-tests w (ticketOf w) (field-of (ticketOf w .field) (passed w e .prime)) (passed w e) (length-of w (passed w e .layout))
 
 -- the budget of any ticket
 pub budget-less : (w : List ℕ) → ticketOf w .b < 268435456

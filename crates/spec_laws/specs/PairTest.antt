@@ -8,18 +8,17 @@ use lib.ListN.{length, getD}
 use borrow.Author.Tests.{eqb-true, ltb-true, not-true, not-false}
 use Rattle.math_algebra.specs.Field.{Field}
 use Rattle.math_algebra.specs.Polynomial.{F}
-use Rattle.math_ring.specs.Residues.{Fq}
-use Rattle.spec_definitions.specs.Field.{modulo}
+use Rattle.spec_definitions.specs.Field.{FieldName, ops, fits}
 use Rattle.spec_definitions.specs.Polynomials.{trim, size, lead, rem}
-use Rattle.spec_definitions.specs.Words.{someFrom}
+use Rattle.spec_definitions.specs.Words.{someNot}
 use Rattle.spec_definitions.specs.Ticket.{Ticket, genus}
 use Rattle.spec_definitions.specs.Walk.{Ideal}
 use Rattle.spec_definitions.specs.Products.{isPair, wrongPair}
 use Rattle.spec_bridge.specs.Model.{Model}
 use Rattle.spec_bridge.specs.Trim.{size-is, lead-is, length-trim, below-size, trim-nil}
 use Rattle.spec_bridge.specs.Division.{trim-rem}
-use Rattle.spec_bridge.specs.Residues.{pos, model, field}
-use Rattle.spec_laws.specs.Admitted.{Admitted, below-of}
+use Rattle.spec_fields.specs.Named.{Ok, arithmetic, ok-zero, φ-first}
+use Rattle.spec_laws.specs.Admitted.{Admitted, is-field, below-of}
 use Rattle.spec_laws.specs.Pairs.{IsIdeal, normAt}
 
 -- both of two tests
@@ -27,16 +26,16 @@ pub both-true : (s t : Bool) → (s && t) ≡ true → (s ≡ true) × (t ≡ tr
 both-true true t e = (refl, e)
 both-true false t e = absurd (let z : _≡_ {A = ℕ} 0 1 = cc in omega arith)
 
-pub record Passes (q g : ℕ) (D : List ℕ) (x : Ideal ℕ) : Type 0 where
+pub record Passes (f : FieldName) (g : ℕ) (D : List ℕ) (x : Ideal ℕ) : Type 0 where
   pub q-length : length (x .q) ≡ suc g
   pub p-length : length (x .p) ≡ g
-  pub q-below : someFrom q (x .q) ≡ false
-  pub p-below : someFrom q (x .p) ≡ false
-  pub lead-one : lead (modulo q) (x .q) ≡ 1
-  pub less : size (modulo q) (x .p) < size (modulo q) (x .q)
-  pub divides : size (modulo q) (rem (modulo q) (normAt (modulo q) D x) (x .q)) ≡ 0
+  pub q-below : someNot (fits f) (x .q) ≡ false
+  pub p-below : someNot (fits f) (x .p) ≡ false
+  pub lead-one : lead (ops f) (x .q) ≡ 1
+  pub less : size (ops f) (x .p) < size (ops f) (x .q)
+  pub divides : size (ops f) (rem (ops f) (normAt (ops f) D x) (x .q)) ≡ 0
 
-pub pair-passes : (t : Ticket) (x : Ideal ℕ) → isPair t x ≡ true → Passes (t .q) (genus (t .n)) (t .D) x
+pub pair-passes : (t : Ticket) (x : Ideal ℕ) → isPair t x ≡ true → Passes (t .field) (genus (t .n)) (t .D) x
 unfolding isPair
 pair-passes t x e =
     let a = both-true _ _ e in
@@ -64,26 +63,26 @@ pairs-pass t x y e = go (isPair t x) (isPair t y) e
     go true b e = (refl, not-false b e)
     go false b e = absurd (let z : _≡_ {A = ℕ} 0 1 = cc in omega arith)
 
-module _ {q g : ℕ} {D : List ℕ} (h : Admitted q g D) where
-  abbrev K : Field (Fq q)
-  K = field q (h .prime) (h .odd)
+module _ {f : FieldName} {g : ℕ} {D : List ℕ} (h : Admitted f g D) where
+  abbrev K : Field (arithmetic f (is-field h) .Elements)
+  K = arithmetic f (is-field h) .K
 
-  abbrev M : Model (modulo q) (F K)
-  M = model q (pos q (h .prime))
+  abbrev M : Model (ops f) (F K)
+  M = arithmetic f (is-field h) .M
 
-  module _ {x : Ideal ℕ} (t : Passes q g D x) where
-    pub pair-q-below : (i : ℕ) → getD (x .q) i 0 < q
-    pair-q-below = below-of q (pos q (h .prime)) (x .q) (t .q-below)
+  module _ {x : Ideal ℕ} (t : Passes f g D x) where
+    pub pair-q-below : (i : ℕ) → Ok f (getD (x .q) i 0)
+    pair-q-below = below-of f (ok-zero f (is-field h)) (x .q) (t .q-below)
 
-    pub pair-p-below : (i : ℕ) → getD (x .p) i 0 < q
-    pair-p-below = below-of q (pos q (h .prime)) (x .p) (t .p-below)
+    pub pair-p-below : (i : ℕ) → Ok f (getD (x .p) i 0)
+    pair-p-below = below-of f (ok-zero f (is-field h)) (x .p) (t .p-below)
 
     pub pair-ideal : IsIdeal K M D x
     pair-ideal = record {
-      κ = length (trim (modulo q) (x .q)) -ₙ 1;
-      monic = record { low = λ i l. below-size M (x .q) i (let a = t .less in let b = size-is M (x .q) in omega arith); top = ap (M .φ) (sym (lead-is M (x .q)) ∙ t .lead-one) };
+      κ = length (trim (ops f) (x .q)) -ₙ 1;
+      monic = record { low = λ i l. below-size M (x .q) i (let a = t .less in let b = size-is M (x .q) in omega arith); top = ap (M .φ) (sym (lead-is M (x .q)) ∙ t .lead-one) ∙ φ-first f (is-field h) };
       low = λ i l. below-size M (x .p) i (let a = t .less in let b = size-is M (x .q) in let c = size-is M (x .p) in omega arith);
-      divides = sym (trim-rem M (normAt (modulo q) D x) (x .q)) ∙ trim-nil M (rem (modulo q) (normAt (modulo q) D x) (x .q)) (sym (size-is M (rem (modulo q) (normAt (modulo q) D x) (x .q))) ∙ t .divides);
+      divides = sym (trim-rem M (normAt (ops f) D x) (x .q)) ∙ trim-nil M (rem (ops f) (normAt (ops f) D x) (x .q)) (sym (size-is M (rem (ops f) (normAt (ops f) D x) (x .q))) ∙ t .divides);
     }
 
     pub pair-degree : pair-ideal .κ ≤ g

@@ -14,13 +14,14 @@ use Rattle.math_algebra.specs.Field.{Field}
 use Rattle.math_algebra.specs.Polynomial.{Px, Monic}
 use Rattle.math_algebra.specs.Squarefree.{SquareFactor}
 use Rattle.math_algebra.specs.Fermat.{perfect-residues}
-use Rattle.spec_definitions.specs.Field.{modulo}
+use Rattle.spec_definitions.specs.Field.{prime, ops}
 use Rattle.spec_definitions.specs.Ticket.{notSquarefree}
 use Rattle.spec_bridge.specs.Model.{Model, series}
 use Rattle.spec_bridge.specs.Trim.{below-length}
 use Rattle.spec_bridge.specs.Coefficients.{coefficients, series-coefficients, length-coefficients, oks-coefficients}
 use Rattle.spec_bridge.specs.Prime.{Prime}
 use Rattle.spec_bridge.specs.Residues.{pos, model, onto, field, to-one-to-one}
+use Rattle.spec_fields.specs.Named.{residues}
 use Rattle.spec_demands.specs.Sentences.{SquareDivides}
 use Rattle.spec_demands.specs.Squares.{square-factor, square-lists, tests-square}
 use Rattle.math_counting.specs.Pigeonhole.{Bijection}
@@ -31,15 +32,15 @@ use Rattle.spec_monics.specs.Monics.{MonicList, monics, monic-many}
 
 -- "the square of some polynomial of degree 1 or more divides D": so it is for q^(n−1) of the monic D of degree n; q may be above 4,096
 abbrev pub SquareMany : Type 0
-SquareMany = (q n : ℕ) → Prime q → 2 < q → 2 ≤ n → HowMany (λ D. MonicList q n D × SquareDivides q D) (q ^ (n - 1))
+SquareMany = (q n : ℕ) → Prime q → 2 < q → 2 ≤ n → HowMany (λ D. MonicList q n D × SquareDivides (prime q) D) (q ^ (n - 1))
 
 -- the definitions' test says so of as many of them
 abbrev pub SquareCount : Type 0
-SquareCount = (q n : ℕ) → Prime q → 2 < q → 2 ≤ n → count (notSquarefree q) (monics q n) ≡ q ^ (n - 1)
+SquareCount = (q n : ℕ) → Prime q → 2 < q → 2 ≤ n → count (notSquarefree (prime q)) (monics q n) ≡ q ^ (n - 1)
 
 -- ---- the proof
 module _ (q : ℕ) (p : Prime q) (more : 2 < q) where
-  abbrev M : Model (modulo q) (FqRing q (pos q p))
+  abbrev M : Model (ops (prime q)) (FqRing q (pos q p))
   M = model q (pos q p)
 
   abbrev K : Field (Fq q)
@@ -74,29 +75,29 @@ module _ (q : ℕ) (p : Prime q) (more : 2 < q) where
     abbrev polynomials : Bijection (Lifts K) (λ t. Monic K t (suc n)) (λ D. Monic K D (suc (suc n)) × SquareFactor K D)
     polynomials = square-factors K (perfect-residues q (pos q p) p K refl) n
 
-    lists : Bijection (λ t D. Lifts K (series M t) (series M D)) (MonicList q (suc n)) (λ D. MonicList q (suc (suc n)) D × SquareDivides q D)
+    lists : Bijection (λ t D. Lifts K (series M t) (series M D)) (MonicList q (suc n)) (λ D. MonicList q (suc (suc n)) D × SquareDivides (prime q) D)
     lists = record {
       right = record {
         partner = λ t m.
             let r = polynomials .right .partner (series M t) (list-monic (suc n) t m) in
             let l = monic-list (suc (suc n)) (r .0) (r .1 .0) in
-            (l .0, (l .1, square-lists q p more (l .0) (subst (SquareFactor K) (sym (l .2)) (r .1 .1))), subst (Lifts K (series M t)) (sym (l .2)) (r .2));
-        single = λ t u D m k s a b. list-same (suc n) t u m k (polynomials .right .single (series M t) (series M u) (series M D) (list-monic (suc n) t m) (list-monic (suc n) u k) (list-monic (suc (suc n)) D (s .0), square-factor q p more D (s .1)) a b);
+            (l .0, (l .1, square-lists (prime q) (residues (prime q) p more) (l .0) (subst (SquareFactor K) (sym (l .2)) (r .1 .1))), subst (Lifts K (series M t)) (sym (l .2)) (r .2));
+        single = λ t u D m k s a b. list-same (suc n) t u m k (polynomials .right .single (series M t) (series M u) (series M D) (list-monic (suc n) t m) (list-monic (suc n) u k) (list-monic (suc (suc n)) D (s .0), square-factor (prime q) (residues (prime q) p more) D (s .1)) a b);
       };
       left = record {
         partner = λ D s.
-            let r = polynomials .left .partner (series M D) (list-monic (suc (suc n)) D (s .0), square-factor q p more D (s .1)) in
+            let r = polynomials .left .partner (series M D) (list-monic (suc (suc n)) D (s .0), square-factor (prime q) (residues (prime q) p more) D (s .1)) in
             let l = monic-list (suc n) (r .0) (r .1) in
             (l .0, l .1, subst (λ f. Lifts K f (series M D)) (sym (l .2)) (r .2));
-        single = λ D E t s r m a b. list-same (suc (suc n)) D E (s .0) (r .0) (polynomials .left .single (series M D) (series M E) (series M t) (list-monic (suc (suc n)) D (s .0), square-factor q p more D (s .1)) (list-monic (suc (suc n)) E (r .0), square-factor q p more E (r .1)) (list-monic (suc n) t m) a b);
+        single = λ D E t s r m a b. list-same (suc (suc n)) D E (s .0) (r .0) (polynomials .left .single (series M D) (series M E) (series M t) (list-monic (suc (suc n)) D (s .0), square-factor (prime q) (residues (prime q) p more) D (s .1)) (list-monic (suc (suc n)) E (r .0), square-factor (prime q) (residues (prime q) p more) E (r .1)) (list-monic (suc n) t m) a b);
       };
     }
 
 -- ---- how many
 module _ (q n : ℕ) (p : Prime q) (more : 2 < q) where
-  tested : HowMany (λ D. MonicList q n D × SquareDivides q D) (count (notSquarefree q) (monics q n))
+  tested : HowMany (λ D. MonicList q n D × SquareDivides (prime q) D) (count (notSquarefree (prime q)) (monics q n))
   unfolding monic-many
-  tested = how-many-tested (MonicList q n) (SquareDivides q) (q ^ n) (monic-many q n) (notSquarefree q) (λ D t. tests-square q p more D n (omega (arith, t .size)) (t .top))
+  tested = how-many-tested (MonicList q n) (SquareDivides (prime q)) (q ^ n) (monic-many q n) (notSquarefree (prime q)) (λ D t. tests-square (prime q) (residues (prime q) p more) D n (omega (arith, t .size)) (t .top))
 
 pub square-count : SquareCount
 square-count q zero p more l = absurd (omega arith)

@@ -4,10 +4,10 @@ use Prim.Native.String.{String}
 use mathlib.Core.Path.{_≡_, refl}
 use mathlib.Core.List.{List, [], _∷_}
 use lib.ListN.{take}
-use Rattle.spec_definitions.specs.Field.{inverse, inverseIn}
+use Rattle.spec_definitions.specs.Field.{inverse, inverseIn, fits}
 use Rattle.spec_definitions.specs.Polynomials.{trim, size, deg, zip, add, sub, scale, mul, lead, put, divide, quo, rem, monic, gcd, gcdIn, times, timesFrom, derivative, monomial, root, rootIn}
 use Rattle.spec_definitions.specs.Primes.{oddPrime, noDivisor}
-use Rattle.spec_definitions.specs.Words.{kind, value, word, same, someFrom}
+use Rattle.spec_definitions.specs.Words.{kind, value, word, same, someNot, oneOf}
 use Rattle.spec_definitions.specs.Ticket.{genus, ticketOf, wrongHead, wrongPrime, wrongDegree, laterKinds, wrongLayout, wrongCoefficient, wrongLead, notSquarefree, firstOf, testsOf, refusalOf}
 use Rattle.spec_definitions.specs.Walk.{partial, nextP, next, steps, walk, pBefore, constant?, firstFrom, quasiPeriod, degreeBefore}
 use Rattle.spec_definitions.specs.Answers.{said, rootOf, outcomeOf, wordsOutcome}
@@ -40,13 +40,13 @@ Cut =
 
 -- ---- the proof
 pub spent-lines : Spent
-unfolding inverse inverseIn trim size deg zip add sub scale mul lead put divide quo rem monic gcd gcdIn times timesFrom derivative monomial root rootIn oddPrime noDivisor kind value word same someFrom genus ticketOf wrongHead wrongPrime wrongDegree laterKinds wrongLayout wrongCoefficient wrongLead notSquarefree firstOf testsOf refusalOf partial nextP next steps walk pBefore constant? firstFrom quasiPeriod degreeBefore said rootOf outcomeOf wordsOutcome listingFrom listingAnswer ascii decimal decimalIn spaced line wordsOf readBytes cutWord firstLine answerLines programOf
+unfolding inverse inverseIn fits trim size deg zip add sub scale mul lead put divide quo rem monic gcd gcdIn times timesFrom derivative monomial root rootIn oddPrime noDivisor kind value word same someNot oneOf genus ticketOf wrongHead wrongPrime wrongDegree laterKinds wrongLayout wrongCoefficient wrongLead notSquarefree firstOf testsOf refusalOf partial nextP next steps walk pBefore constant? firstFrom quasiPeriod degreeBefore said rootOf outcomeOf wordsOutcome listingFrom listingAnswer ascii decimal decimalIn spaced line wordsOf readBytes cutWord firstLine answerLines programOf
 spent-lines = (refl, refl)
 
 pub refused-lines : Refused
-unfolding inverse inverseIn trim size zip sub scale lead put divide rem monic gcd gcdIn times timesFrom derivative oddPrime noDivisor kind value word same someFrom ticketOf wrongHead wrongPrime wrongDegree laterKinds wrongLayout wrongCoefficient wrongLead notSquarefree firstOf testsOf refusalOf said wordsOutcome listingFrom listingAnswer ascii decimal decimalIn spaced line wordsOf readBytes cutWord firstLine answerLines programOf
+unfolding inverse inverseIn fits trim size zip sub scale lead put divide rem monic gcd gcdIn times timesFrom derivative oddPrime noDivisor kind value word same someNot oneOf ticketOf wrongHead wrongPrime wrongDegree laterKinds wrongLayout wrongCoefficient wrongLead notSquarefree firstOf testsOf refusalOf said wordsOutcome listingFrom listingAnswer ascii decimal decimalIn spaced line wordsOf readBytes cutWord firstLine answerLines programOf
 refused-lines = (refl, refl)
 
 pub cut-lines : Cut
-unfolding oddPrime noDivisor kind value word same ticketOf wrongHead wrongPrime wrongDegree laterKinds wrongLayout firstOf testsOf refusalOf said wordsOutcome listingFrom listingAnswer ascii decimal decimalIn spaced line wordsOf readBytes cutWord firstLine answerLines programOf
+unfolding oddPrime noDivisor kind value word same oneOf ticketOf wrongHead wrongPrime wrongDegree laterKinds wrongLayout firstOf testsOf refusalOf said wordsOutcome listingFrom listingAnswer ascii decimal decimalIn spaced line wordsOf readBytes cutWord firstLine answerLines programOf
 cut-lines = (refl, refl, refl, refl, refl)

@@ -2,10 +2,10 @@
 -- a model of document 01 in another language (vectors/check.py).
 use mathlib.Core.Path.{refl}
 use mathlib.Core.List.{[], _∷_}
-use Rattle.spec_definitions.specs.Field.{inverse, inverseIn}
+use Rattle.spec_definitions.specs.Field.{inverse, inverseIn, fits}
 use Rattle.spec_definitions.specs.Polynomials.{trim, size, deg, pad, zip, add, sub, scale, mul, lead, put, divide, quo, rem, monic, gcd, gcdIn, times, timesFrom, derivative, monomial, root, rootIn}
 use Rattle.spec_definitions.specs.Primes.{oddPrime, noDivisor}
-use Rattle.spec_definitions.specs.Words.{kind, value, word, high, low, joined, same, someFrom}
+use Rattle.spec_definitions.specs.Words.{kind, value, word, high, low, joined, same, someNot, oneOf}
 use Rattle.spec_definitions.specs.Ticket.{genus, ticketOf, wrongHead, wrongPrime, wrongDegree, laterKinds, wrongLayout, wrongCoefficient, wrongLead, notSquarefree, firstOf, testsOf, refusalOf}
 use Rattle.spec_definitions.specs.Walk.{partial, nextP, next, steps, walk, pBefore, constant?, firstFrom, quasiPeriod, degreeBefore, constantOf}
 use Rattle.spec_definitions.specs.Answers.{said, rootOf, outcomeOf, wordsOutcome}
@@ -34,5 +34,5 @@ FourDigits = Prints (bytes (ticket 4093 (196 ∷ 3450 ∷ 5 ∷ 2770 ∷ 1 ∷ [
 
 -- ---- the proof
 pub found-lines : Linear × Sextic × TwoDigits × FourDigits
-unfolding inverse inverseIn trim size deg pad zip add sub scale mul lead put divide quo rem monic gcd gcdIn times timesFrom derivative monomial root rootIn oddPrime noDivisor kind value word high low joined same someFrom genus ticketOf wrongHead wrongPrime wrongDegree laterKinds wrongLayout wrongCoefficient wrongLead notSquarefree firstOf testsOf refusalOf partial nextP next steps walk pBefore constant? firstFrom quasiPeriod degreeBefore constantOf said rootOf outcomeOf wordsOutcome idealOf mirrorOf recordWords entryOf recordOf recordsFrom listingOf listingFrom listingAnswer recordAt ascii decimal decimalIn spaced line wordsOf readBytes cutWord firstLine recordLine recordLines answerLines programOf
+unfolding inverse inverseIn fits trim size deg pad zip add sub scale mul lead put divide quo rem monic gcd gcdIn times timesFrom derivative monomial root rootIn oddPrime noDivisor kind value word high low joined same someNot oneOf genus ticketOf wrongHead wrongPrime wrongDegree laterKinds wrongLayout wrongCoefficient wrongLead notSquarefree firstOf testsOf refusalOf partial nextP next steps walk pBefore constant? firstFrom quasiPeriod degreeBefore constantOf said rootOf outcomeOf wordsOutcome idealOf mirrorOf recordWords entryOf recordOf recordsFrom listingOf listingFrom listingAnswer recordAt ascii decimal decimalIn spaced line wordsOf readBytes cutWord firstLine recordLine recordLines answerLines programOf
 found-lines = (refl, refl, refl, refl)

@@ -7,10 +7,10 @@ use mathlib.Core.Bool.{false}
 use mathlib.Core.List.{List}
 use lib.ListN.{length, replicate, length-replicate}
 use borrow.Author.Tests.{lt-leb}
-use Rattle.spec_definitions.specs.Field.{inverse, inverseIn}
+use Rattle.spec_definitions.specs.Field.{inverse, inverseIn, fits}
 use Rattle.spec_definitions.specs.Polynomials.{trim, size, deg, zip, add, sub, scale, mul, lead, put, divide, quo, rem, monic, gcd, gcdIn, times, timesFrom, derivative, monomial, root, rootIn}
 use Rattle.spec_definitions.specs.Primes.{oddPrime, noDivisor}
-use Rattle.spec_definitions.specs.Words.{kind, value, word, same, someFrom}
+use Rattle.spec_definitions.specs.Words.{kind, value, word, same, someNot, oneOf}
 use Rattle.spec_definitions.specs.Ticket.{Ticket, genus, ticketOf, wrongHead, wrongPrime, wrongDegree, laterKinds, wrongLayout, wrongCoefficient, wrongLead, notSquarefree, firstOf, testsOf, refusalOf}
 use Rattle.spec_definitions.specs.Walk.{partial, nextP, next, steps, walk, pBefore, constant?, firstFrom, quasiPeriod, degreeBefore, constantOf}
 use Rattle.spec_definitions.specs.Answers.{found, refused, said, rootOf, outcomeOf, wordsOutcome}
@@ -43,5 +43,5 @@ too-long input whole R m c e h =
     rw (programOf, whole, e, no-room (ticketOf (wordsRead input)) lent R m c k)
 
 pub shorter : Shorter
-unfolding inverse inverseIn trim size deg zip add sub scale mul lead put divide quo rem monic gcd gcdIn times timesFrom derivative monomial root rootIn oddPrime noDivisor kind value word same someFrom genus ticketOf wrongHead wrongPrime wrongDegree laterKinds wrongLayout wrongCoefficient wrongLead notSquarefree firstOf testsOf refusalOf partial nextP next steps walk pBefore constant? firstFrom quasiPeriod degreeBefore constantOf said rootOf outcomeOf wordsOutcome listingFrom listingAnswer ascii decimal decimalIn spaced line firstLine answerLines
+unfolding inverse inverseIn fits trim size deg zip add sub scale mul lead put divide quo rem monic gcd gcdIn times timesFrom derivative monomial root rootIn oddPrime noDivisor kind value word same someNot oneOf genus ticketOf wrongHead wrongPrime wrongDegree laterKinds wrongLayout wrongCoefficient wrongLead notSquarefree firstOf testsOf refusalOf partial nextP next steps walk pBefore constant? firstFrom quasiPeriod degreeBefore constantOf said rootOf outcomeOf wordsOutcome listingFrom listingAnswer ascii decimal decimalIn spaced line firstLine answerLines
 shorter = refl

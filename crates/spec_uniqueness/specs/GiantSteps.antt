@@ -1,8 +1,7 @@
 -- The giant step's answer is the only one: there is one first reduced index k, and with it one ideal, f and distance. First for any polynomials that meet document 01's
 -- equations of a step, then for the definitions' steps, as `demands` states them. For a ticket past its refusals, two pairs as document 01 describes them and distances
 -- of at most 2^40.
-use Prim.Native.Nat.{ℕ, zero, suc, _+_, _%_, _≤_, _<_}
-use native.Mathlib.Nat.{mod-eq-of-lt}
+use Prim.Native.Nat.{ℕ, zero, suc, _+_, _≤_, _<_}
 use native.Mathlib.Omega.{arith}
 use mathlib.Core.Path.{_≡_, refl, sym, ap, ap₂, _∙_, subst}
 use mathlib.Core.Logic.{⊎-elim}
@@ -10,9 +9,9 @@ use mathlib.Core.List.{List}
 use lib.IntN.{ℤ, pos as posℤ, _+ℤ_, _-ℤ_}
 use lib.ListN.{length}
 use Rattle.math_ring.specs.Order.{le-or-lt}
-use Rattle.math_ring.specs.Residues.{Fq}
 use Rattle.math_algebra.specs.Field.{Field}
 use Rattle.math_algebra.specs.Polynomial.{F}
+use Rattle.spec_definitions.specs.Field.{reading}
 use Rattle.spec_definitions.specs.Polynomials.{trim, size, deg, lead, add, sub, scale, mul, quo, rem, monic}
 use Rattle.spec_definitions.specs.Ticket.{Ticket, genus, ticketOf, refusalOf}
 use Rattle.spec_definitions.specs.Walk.{Ideal, partial, nextP, next, steps}
@@ -22,9 +21,9 @@ use Rattle.spec_bridge.specs.Model.{Model, Inverts, series}
 use Rattle.spec_bridge.specs.Trim.{size-is}
 use Rattle.spec_bridge.specs.Monic.{monic-cong}
 use Rattle.spec_bridge.specs.Quotient.{rem-cong}
-use Rattle.spec_bridge.specs.Residues.{pos, model, field, inverts}
-use Rattle.spec_laws.specs.Admitted.{Admitted, admitted}
-use Rattle.spec_demands.specs.Sentences.{AllowedPrime, Same}
+use Rattle.spec_fields.specs.Named.{arithmetic, some-elements, reading-first}
+use Rattle.spec_laws.specs.Admitted.{Admitted, is-field, admitted}
+use Rattle.spec_demands.specs.Sentences.{AllowedField, Same}
 use Rattle.spec_demands.specs.Arithmetic.{series-same, same-series, division}
 use Rattle.spec_demands.specs.Operations.{Trimmed, MadeMonic, Operations, by-coefficients, trimmed-same}
 use Rattle.spec_demands.specs.Continued.{sumTo, RootOf, t2}
@@ -41,25 +40,25 @@ pub record GiantStepOf (t : Ticket) (d e : ℕ) (S : List ℕ) (s : Ideal ℕ) (
   -- k + 1 steps from s, the last for a_k
   pub k : ℕ
   pub root : List ℕ
-  pub root-of : RootOf (t .q) (genus (t .n)) (t .D) root
+  pub root-of : RootOf (t .field) (genus (t .n)) (t .D) root
   pub Q : ℕ → List ℕ
   pub P : ℕ → List ℕ
   pub a : ℕ → List ℕ
-  pub Q-first : Same (t .q) (Q 0) (s .q)
-  pub P-first : Same (t .q) (P 0) (s .p)
-  pub stepping : Stepping (t .q) (t .D) root (suc k) Q P a
+  pub Q-first : Same (t .field) (Q 0) (s .q)
+  pub P-first : Same (t .field) (P 0) (s .p)
+  pub stepping : Stepping (t .field) (t .D) root (suc k) Q P a
   -- the k-th is the first that is reduced
   pub reduced : deg (opsOf t) (Q k) ≤ genus (t .n)
   pub first : (j : ℕ) → j < k → genus (t .n) < deg (opsOf t) (Q j)
   -- the answer's Q is c·Q_k, and its P is P_k less a multiple m of it
   pub c : ℕ
-  pub Q-is : Same (t .q) (r .q) (scale (opsOf t) c (Q k))
+  pub Q-is : Same (t .field) (r .q) (scale (opsOf t) c (Q k))
   pub Q-monic : lead (opsOf t) (r .q) ≡ 1
-  pub Q-trimmed : Trimmed (t .q) (r .q)
+  pub Q-trimmed : Trimmed (t .field) (r .q)
   pub m : List ℕ
-  pub P-is : Same (t .q) (P k) (add (opsOf t) (mul (opsOf t) m (r .q)) (r .p))
+  pub P-is : Same (t .field) (P k) (add (opsOf t) (mul (opsOf t) m (r .q)) (r .p))
   pub P-less : size (opsOf t) (r .p) < size (opsOf t) (r .q)
-  pub P-trimmed : Trimmed (t .q) (r .p)
+  pub P-trimmed : Trimmed (t .field) (r .p)
   pub f-is : r .f ≡ posℤ (deg (opsOf t) (Q k)) -ℤ posℤ (deg (opsOf t) (s .q)) +ℤ posℤ (sumTo (λ j. deg (opsOf t) (a j)) k) -ℤ posℤ (deg (opsOf t) S)
   pub distance : r .distance ≡ posℤ (d + e) +ℤ r .f
 
@@ -112,22 +111,22 @@ pub one-giant-step-of-steps : OneGiantStepOfSteps
 one-giant-step-of-steps w z x y px py d e far r u = steps-same u (t2-giant-steps w z x y px py d e far)
 
 -- an answer of any polynomials, and one of the definitions' steps
-module _ (t : Ticket) (h : Admitted (t .q) (genus (t .n)) (t .D)) {x : Ideal ℕ} {d : ℕ} {y : Ideal ℕ} {e : ℕ} {S : List ℕ} {s : Ideal ℕ} {r a : GiantStepAnswer}
-    (u : GiantStepOf t d e S s r) (v : Steps t x d y e S s a) (root-same : Same (t .q) (u .root) (rootOf t)) where
-  abbrev K : Field (Fq (t .q))
-  K = field (t .q) (h .prime) (h .odd)
+module _ (t : Ticket) (h : Admitted (t .field) (genus (t .n)) (t .D)) {x : Ideal ℕ} {d : ℕ} {y : Ideal ℕ} {e : ℕ} {S : List ℕ} {s : Ideal ℕ} {r a : GiantStepAnswer}
+    (u : GiantStepOf t d e S s r) (v : Steps t x d y e S s a) (root-same : Same (t .field) (u .root) (rootOf t)) where
+  abbrev K : Field (arithmetic (t .field) (is-field h) .Elements)
+  K = arithmetic (t .field) (is-field h) .K
 
   abbrev M : Model (opsOf t) (F K)
-  M = model (t .q) (pos (t .q) (h .prime))
+  M = arithmetic (t .field) (is-field h) .M
 
   abbrev I : Inverts M
-  I = inverts (t .q) (pos (t .q) (h .prime)) (h .prime)
+  I = arithmetic (t .field) (is-field h) .I
 
-  up : (f l : List ℕ) → Same (t .q) f l → series M f ≡ series M l
-  up = same-series (t .q) (h .prime) (h .odd)
+  up : (f l : List ℕ) → Same (t .field) f l → series M f ≡ series M l
+  up = same-series (t .field) (is-field h)
 
-  down : (f l : List ℕ) → series M f ≡ series M l → Same (t .q) f l
-  down = series-same (t .q) (h .prime) (h .odd)
+  down : (f l : List ℕ) → series M f ≡ series M l → Same (t .field) f l
+  down = series-same (t .field) (is-field h)
 
   abbrev by : ℕ → Ideal ℕ
   by = steps (opsOf t) (t .D) (rootOf t) s
@@ -142,7 +141,7 @@ module _ (t : Ticket) (h : Admitted (t .q) (genus (t .n)) (t .D)) {x : Ideal ℕ
   partials = partial-only h (u .root) (rootOf t) (up (u .root) (rootOf t) root-same) s some (suc (u .k)) (u .Q) (u .P) (u .a) (up (u .Q 0) (s .q) (u .Q-first)) (up (u .P 0) (s .p) (u .P-first)) (u .stepping)
 
   Q-deg : (j : ℕ) → j ≤ u .k → deg (opsOf t) (u .Q j) ≡ deg (opsOf t) (by j .q)
-  Q-deg j l = deg-series (t .q) (h .prime) (h .odd) (u .Q j) (by j .q) (pairs j (omega arith) .0)
+  Q-deg j l = deg-series (t .field) (is-field h) (u .Q j) (by j .q) (pairs j (omega arith) .0)
 
   k-pair : (series M (u .Q (u .k)) ≡ series M (by (u .k) .q)) × (series M (u .P (u .k)) ≡ series M (by (u .k) .p))
   k-pair = pairs (u .k) (omega arith)
@@ -152,17 +151,17 @@ module _ (t : Ticket) (h : Admitted (t .q) (genus (t .n)) (t .D)) {x : Ideal ℕ
 
   Q-answer : r .q ≡ a .q
   Q-answer =
-      trimmed-same (t .q) (pos (t .q) (h .prime)) (r .q) (monic (opsOf t) (u .Q (u .k))) (u .Q-trimmed) (by-coefficients (t .q) (pos (t .q) (h .prime)) .monic-trimmed (u .Q (u .k))) (down (r .q) (monic (opsOf t) (u .Q (u .k))) (monic-only (t .q) (h .prime) (h .odd) (u .Q (u .k)) (r .q) (u .c) (u .Q-is) lead-mod))
+      trimmed-same (t .field) (some-elements (t .field) (is-field h)) (r .q) (monic (opsOf t) (u .Q (u .k))) (u .Q-trimmed) (by-coefficients (t .field) (some-elements (t .field) (is-field h)) .monic-trimmed (u .Q (u .k))) (down (r .q) (monic (opsOf t) (u .Q (u .k))) (monic-only (t .field) (is-field h) (u .Q (u .k)) (r .q) (u .c) (u .Q-is) lead-mod))
       ∙ monic-cong M I (u .Q (u .k)) (by (u .k) .q) (k-pair .0)
       ∙ ap (λ (j : ℕ). monic (opsOf t) (by j .q)) turns-same
       ∙ sym (v .Q-is)
     where
-      lead-mod : lead (opsOf t) (r .q) % t .q ≡ 1
-      lead-mod = ap (λ (n : ℕ). n % t .q) (u .Q-monic) ∙ mod-eq-of-lt (let l = h .odd in omega arith)
+      lead-mod : reading (t .field) (lead (opsOf t) (r .q)) ≡ 1
+      lead-mod = ap (reading (t .field)) (u .Q-monic) ∙ reading-first (t .field) (is-field h)
 
   P-answer : r .p ≡ a .p
   P-answer =
-      trimmed-same (t .q) (pos (t .q) (h .prime)) (r .p) (rem (opsOf t) (u .P (u .k)) (r .q)) (u .P-trimmed) (by-coefficients (t .q) (pos (t .q) (h .prime)) .rem-trimmed (u .P (u .k)) (r .q)) (down (r .p) (rem (opsOf t) (u .P (u .k)) (r .q)) (division-only (t .q) (h .prime) (h .odd) (u .P (u .k)) (r .q) (u .m) (r .p) (u .P-is) (u .P-less) .1))
+      trimmed-same (t .field) (some-elements (t .field) (is-field h)) (r .p) (rem (opsOf t) (u .P (u .k)) (r .q)) (u .P-trimmed) (by-coefficients (t .field) (some-elements (t .field) (is-field h)) .rem-trimmed (u .P (u .k)) (r .q)) (down (r .p) (rem (opsOf t) (u .P (u .k)) (r .q)) (division-only (t .field) (is-field h) (u .P (u .k)) (r .q) (u .m) (r .p) (u .P-is) (u .P-less) .1))
       ∙ rem-cong M I (u .P (u .k)) (by (u .k) .p) (r .q) (a .q) (k-pair .1) (ap (series M) Q-answer)
       ∙ ap (λ (j : ℕ). rem (opsOf t) (by j .p) (a .q)) turns-same
       ∙ sym (v .P-is)
@@ -170,7 +169,7 @@ module _ (t : Ticket) (h : Admitted (t .q) (genus (t .n)) (t .D)) {x : Ideal ℕ
   f-answer : r .f ≡ a .f
   f-answer =
       u .f-is
-      ∙ ap₂ (λ (n z : ℕ). posℤ n -ℤ posℤ (deg (opsOf t) (s .q)) +ℤ posℤ z -ℤ posℤ (deg (opsOf t) S)) (Q-deg (u .k) (omega arith)) (sum-same (λ j. deg (opsOf t) (u .a j)) (λ j. deg (opsOf t) (partial (opsOf t) (t .D) (rootOf t) (by j))) (u .k) (λ j l. deg-series (t .q) (h .prime) (h .odd) (u .a j) (partial (opsOf t) (t .D) (rootOf t) (by j)) (partials j (omega arith))))
+      ∙ ap₂ (λ (n z : ℕ). posℤ n -ℤ posℤ (deg (opsOf t) (s .q)) +ℤ posℤ z -ℤ posℤ (deg (opsOf t) S)) (Q-deg (u .k) (omega arith)) (sum-same (λ j. deg (opsOf t) (u .a j)) (λ j. deg (opsOf t) (partial (opsOf t) (t .D) (rootOf t) (by j))) (u .k) (λ j l. deg-series (t .field) (is-field h) (u .a j) (partial (opsOf t) (t .D) (rootOf t) (by j)) (partials j (omega arith))))
       ∙ ap (λ (k : ℕ). posℤ (deg (opsOf t) (by k .q)) -ℤ posℤ (deg (opsOf t) (s .q)) +ℤ posℤ (sumTo (λ j. deg (opsOf t) (partial (opsOf t) (t .D) (rootOf t) (by j))) k) -ℤ posℤ (deg (opsOf t) S)) turns-same
       ∙ sym (v .f-is)
 
@@ -181,7 +180,7 @@ pub one-giant-step : OneGiantStep
 one-giant-step w z x y px py d e far r u = answer-only (ticketOf w) (admitted w z) u (t2-giant-steps w z x y px py d e far) (one-root w z (u .root) (u .root-of))
 
 -- ---- what `demands` states of an answer
-stepped : (t : Ticket) → Admitted (t .q) (genus (t .n)) (t .D) → AllowedPrime (t .q) → RootOf (t .q) (genus (t .n)) (t .D) (rootOf t) → {x : Ideal ℕ} {d : ℕ} {y : Ideal ℕ} {e : ℕ} {S : List ℕ} {s : Ideal ℕ} {r : GiantStepAnswer}
+stepped : (t : Ticket) → Admitted (t .field) (genus (t .n)) (t .D) → AllowedField (t .field) → RootOf (t .field) (genus (t .n)) (t .D) (rootOf t) → {x : Ideal ℕ} {d : ℕ} {y : Ideal ℕ} {e : ℕ} {S : List ℕ} {s : Ideal ℕ} {r : GiantStepAnswer}
     → Steps t x d y e S s r → GiantStepOf t d e S s r
 unfolding steps next nextP partial
 stepped t h prime root-is {s = s} {r = r} v = record {
@@ -195,20 +194,20 @@ stepped t h prime root-is {s = s} {r = r} v = record {
   Q-first = λ i. refl;
   P-first = λ i. refl;
   stepping = record {
-    quotient = λ i l. quotient-leaves (t .q) (h .prime) (h .odd) (add (opsOf t) (by i .p) (rootOf t)) (by i .q) (v .reduces .not-zero i);
+    quotient = λ i l. quotient-leaves (t .field) (is-field h) (add (opsOf t) (by i .p) (rootOf t)) (by i .q) (v .reduces .not-zero i);
     P-next = λ i l j. refl;
-    Q-next = λ i l. quotient-exact (t .q) (h .prime) (h .odd) (sub (opsOf t) (t .D) (mul (opsOf t) (by (suc i) .p) (by (suc i) .p))) (by i .q) (v .reduces .exact i);
+    Q-next = λ i l. quotient-exact (t .field) (is-field h) (sub (opsOf t) (t .D) (mul (opsOf t) (by (suc i) .p) (by (suc i) .p))) (by i .q) (v .reduces .exact i);
   };
   reduced = v .reduces .reduced;
   first = v .reduces .first;
   c = made .k;
-  Q-is = subst (λ (l : List ℕ). Same (t .q) l (scale (opsOf t) (made .k) (by (v .k) .q))) (sym (v .Q-is)) (made .is);
+  Q-is = subst (λ (l : List ℕ). Same (t .field) l (scale (opsOf t) (made .k) (by (v .k) .q))) (sym (v .Q-is)) (made .is);
   Q-monic = ap (lead (opsOf t)) (v .Q-is) ∙ made .leads;
-  Q-trimmed = subst (Trimmed (t .q)) (sym (v .Q-is)) (o .monic-trimmed (by (v .k) .q));
+  Q-trimmed = subst (Trimmed (t .field)) (sym (v .Q-is)) (o .monic-trimmed (by (v .k) .q));
   m = quo (opsOf t) (by (v .k) .p) (r .q);
-  P-is = subst (λ (l : List ℕ). Same (t .q) (by (v .k) .p) (add (opsOf t) (mul (opsOf t) (quo (opsOf t) (by (v .k) .p) (r .q)) (r .q)) l)) (sym (v .P-is)) (division (t .q) prime (by (v .k) .p) (r .q) (λ z. let l = v .ideal .less in omega arith) .is);
+  P-is = subst (λ (l : List ℕ). Same (t .field) (by (v .k) .p) (add (opsOf t) (mul (opsOf t) (quo (opsOf t) (by (v .k) .p) (r .q)) (r .q)) l)) (sym (v .P-is)) (division (t .field) prime (by (v .k) .p) (r .q) (λ z. let l = v .ideal .less in omega arith) .is);
   P-less = v .ideal .less;
-  P-trimmed = subst (Trimmed (t .q)) (sym (v .P-is)) (o .rem-trimmed (by (v .k) .p) (r .q));
+  P-trimmed = subst (Trimmed (t .field)) (sym (v .P-is)) (o .rem-trimmed (by (v .k) .p) (r .q));
   f-is = v .f-is;
   distance = v .distance;
 }
@@ -216,10 +215,10 @@ stepped t h prime root-is {s = s} {r = r} v = record {
     by : ℕ → Ideal ℕ
     by = steps (opsOf t) (t .D) (rootOf t) s
 
-    o : Operations (t .q)
-    o = by-coefficients (t .q) (pos (t .q) (h .prime))
+    o : Operations (t .field)
+    o = by-coefficients (t .field) (some-elements (t .field) (is-field h))
 
-    made : MadeMonic (t .q) (by (v .k) .q) (monic (opsOf t) (by (v .k) .q))
+    made : MadeMonic (t .field) (by (v .k) .q) (monic (opsOf t) (by (v .k) .q))
     made = o .made-monic prime (by (v .k) .q) (λ z. let l = v .reduces .not-zero (v .k) in omega arith)
 
 pub giant-step-is : GiantStepIs

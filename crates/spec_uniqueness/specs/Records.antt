@@ -2,7 +2,7 @@
 -- j + 1 has the words of the definitions, and a list that is read as every record from 1 to m and keeps the words after them is the list at exit. Neither a length
 -- nor a bound on the words is asked for: the kinds tell that the words are there, and a word is its kind and its value.
 use Prim.Native.Nat.{ℕ, zero, suc, _+_, _*_, _-_, _/_, _%_, _≤_, _<_}
-use native.Mathlib.Nat.{mod-lt, mod-eq-of-lt, div-add-mod', div-lt-iff-lt-mul}
+use native.Mathlib.Nat.{mod-lt, div-add-mod', div-lt-iff-lt-mul}
 use native.Mathlib.Omega.{arith}
 use mathlib.Core.Path.{_≡_, sym, ap, ap₂, _∙_, subst}
 use mathlib.Core.Logic.{⊎-elim}
@@ -12,12 +12,11 @@ use lib.Seq.{length-take-le, getD-take, getD-drop, getD-append-add, ext-getD}
 use Rattle.math_ring.specs.Order.{le-or-lt}
 use Rattle.math_ring.specs.Identity.{ring, quote}
 use Rattle.math_ring.specs.Series.{Series, addS, negS}
-use Rattle.math_ring.specs.Residues.{Fq}
 use Rattle.math_algebra.specs.Field.{Field}
 use Rattle.math_algebra.specs.Polynomial.{F, Px, Monic, low-sub, monic-deg}
 use Rattle.math_algebra.specs.Divides.{Divides as DividesK, divides-sub, divides-path, rigid}
 use Rattle.math_algebra.specs.Associate.{Associate, associate-sym, associate-trans, associate-monic-equal}
-use Rattle.spec_definitions.specs.Field.{modulo}
+use Rattle.spec_definitions.specs.Field.{FieldName, ops}
 use Rattle.spec_definitions.specs.Polynomials.{trim, size, lead, sub, scale, mul}
 use Rattle.spec_definitions.specs.Words.{kind, value, joined}
 use Rattle.spec_definitions.specs.Ticket.{Ticket, genus, ticketOf, refusalOf}
@@ -29,8 +28,8 @@ use Rattle.spec_bridge.specs.Model.{Model, series}
 use Rattle.spec_bridge.specs.Trim.{below-length, below-size, size-is, size-series, lead-is}
 use Rattle.spec_bridge.specs.Arithmetic.{series-sub, series-mul, series-scale}
 use Rattle.spec_bridge.specs.Degree.{series-monic-of}
-use Rattle.spec_bridge.specs.Residues.{pos, model, field, to-val}
-use Rattle.spec_laws.specs.Admitted.{Admitted, admitted, passed, degree-of}
+use Rattle.spec_fields.specs.Named.{Ok, arithmetic, same-reading, reading-ok, reading-zero, φ-first}
+use Rattle.spec_laws.specs.Admitted.{Admitted, is-field, admitted, passed, degree-of}
 use Rattle.spec_demands.specs.Sentences.{Same}
 use Rattle.spec_demands.specs.Arithmetic.{Divides, same-series}
 use Rattle.spec_demands.specs.Records.{record-listing}
@@ -63,45 +62,45 @@ unfolding joined
 joined-parts a b c d h k e = (omega arith, omega arith)
 
 -- ---- Q and P, for a D that is admitted
-module _ {q g : ℕ} {D : List ℕ} (h : Admitted q g D) where
-  abbrev K : Field (Fq q)
-  K = field q (h .prime) (h .odd)
+module _ {f : FieldName} {g : ℕ} {D : List ℕ} (h : Admitted f g D) where
+  abbrev K : Field (arithmetic f (is-field h) .Elements)
+  K = arithmetic f (is-field h) .K
 
-  abbrev M : Model (modulo q) (F K)
-  M = model q (pos q (h .prime))
+  abbrev M : Model (ops f) (F K)
+  M = arithmetic f (is-field h) .M
 
-  lead-monic : (f : List ℕ) → lead (modulo q) f ≡ 1 → Monic K (series M f) (length (trim (modulo q) f) - 1)
-  lead-monic f e = series-monic-of K M f _ (omega arith) (ap (M .φ) (sym (lead-is M f) ∙ e))
+  lead-monic : (l : List ℕ) → lead (ops f) l ≡ 1 → Monic K (series M l) (length (trim (ops f) l) - 1)
+  lead-monic l e = series-monic-of K M l _ (omega arith) (ap (M .φ) (sym (lead-is M l) ∙ e) ∙ φ-first f (is-field h))
 
-  multiple-associate : (k : ℕ) (f u : List ℕ) → 0 < k → k < q → Same q f (scale (modulo q) k u) → Associate K (series M f) (series M u)
-  multiple-associate k f u low high e = record {
+  multiple-associate : (k : ℕ) (l u : List ℕ) → 0 < k → Ok f k → Same f l (scale (ops f) k u) → Associate K (series M l) (series M u)
+  multiple-associate k l u low high e = record {
     factor = M .φ k;
-    some = λ z. absurd (let y : k ≡ 0 = sym (mod-eq-of-lt high) ∙ to-val q (pos q (h .prime)) k 0 z ∙ mod-eq-of-lt (pos q (h .prime)) in omega arith);
-    is = same-series q (h .prime) (h .odd) f (scale (modulo q) k u) e ∙ series-scale M k u;
+    some = λ z. absurd (let y : k ≡ 0 = sym (reading-ok f (is-field h) k high) ∙ same-reading f (is-field h) k 0 (z ∙ sym (M .φ-zer)) ∙ reading-zero f in omega arith);
+    is = same-series f (is-field h) l (scale (ops f) k u) e ∙ series-scale M k u;
   }
 
-  -- lists of coefficients below q with the same polynomial
-  below-unique : (f u : List ℕ) → ((i : ℕ) → getD f i 0 < q) → ((i : ℕ) → getD u i 0 < q) → series M f ≡ series M u → (i : ℕ) → getD f i 0 ≡ getD u i 0
-  below-unique f u low low′ e i = M .inj (getD f i 0) (getD u i 0) (low i) (low′ i) (ap (λ (s : Px K). s i) e)
+  -- lists of admissible coefficients with the same polynomial
+  below-unique : (l u : List ℕ) → ((i : ℕ) → Ok f (getD l i 0)) → ((i : ℕ) → Ok f (getD u i 0)) → series M l ≡ series M u → (i : ℕ) → getD l i 0 ≡ getD u i 0
+  below-unique l u low low′ e i = M .inj (getD l i 0) (getD u i 0) (arithmetic f (is-field h) .ok-of _ (low i)) (arithmetic f (is-field h) .ok-of _ (low′ i)) (ap (λ (s : Px K). s i) e)
 
-  divides-series : (f u : List ℕ) → Divides q f u → DividesK K (series M f) (series M u)
-  divides-series f u (e, s) = record { by = series M e; size = length e; low = below-length M e; is = same-series q (h .prime) (h .odd) u (mul (modulo q) f e) s ∙ series-mul M f e }
+  divides-series : (l u : List ℕ) → Divides f l u → DividesK K (series M l) (series M u)
+  divides-series l u (e, s) = record { by = series M e; size = length e; low = below-length M e; is = same-series f (is-field h) u (mul (ops f) l e) s ∙ series-mul M l e }
 
   -- a monic multiple is one
-  monic-unique : (u x y : List ℕ) → lead (modulo q) x ≡ 1 → lead (modulo q) y ≡ 1 → ((k : ℕ) × (0 < k) × (k < q) × Same q x (scale (modulo q) k u)) → ((k : ℕ) × (0 < k) × (k < q) × Same q y (scale (modulo q) k u)) → series M x ≡ series M y
+  monic-unique : (u x y : List ℕ) → lead (ops f) x ≡ 1 → lead (ops f) y ≡ 1 → ((k : ℕ) × (0 < k) × Ok f k × Same f x (scale (ops f) k u)) → ((k : ℕ) × (0 < k) × Ok f k × Same f y (scale (ops f) k u)) → series M x ≡ series M y
   monic-unique u x y lx ly rx ry = associate-monic-equal K (lead-monic x lx) (lead-monic y ly) (associate-trans K (multiple-associate (rx .0) x u (rx .1) (rx .2) (rx .3)) (associate-sym K (multiple-associate (ry .0) y u (ry .1) (ry .2) (ry .3))))
 
   -- what is congruent to u modulo a monic x and has a lower degree is one
-  rest-unique : (u x y a b : List ℕ) → lead (modulo q) x ≡ 1 → series M x ≡ series M y → Divides q x (sub (modulo q) u a) → Divides q y (sub (modulo q) u b) → size (modulo q) a < size (modulo q) x → size (modulo q) b < size (modulo q) y → series M b ≡ series M a
-  rest-unique u x y a b lx same da db la lb = rigid K (length (trim (modulo q) x) - 1) (monic-deg K (lead-monic x lx)) gap (low-sub K (series M b) (series M a) _ (λ i p. below-size M b i (omega (arith, size-is M b, size-is M x, size-is M y, sizes))) (λ i p. below-size M a i (omega (arith, size-is M a, size-is M x))))
+  rest-unique : (u x y a b : List ℕ) → lead (ops f) x ≡ 1 → series M x ≡ series M y → Divides f x (sub (ops f) u a) → Divides f y (sub (ops f) u b) → size (ops f) a < size (ops f) x → size (ops f) b < size (ops f) y → series M b ≡ series M a
+  rest-unique u x y a b lx same da db la lb = rigid K (length (trim (ops f) x) - 1) (monic-deg K (lead-monic x lx)) gap (low-sub K (series M b) (series M a) _ (λ i p. below-size M b i (omega (arith, size-is M b, size-is M x, size-is M y, sizes))) (λ i p. below-size M a i (omega (arith, size-is M a, size-is M x))))
     where
-      sizes : length (trim (modulo q) x) ≡ length (trim (modulo q) y)
+      sizes : length (trim (ops f) x) ≡ length (trim (ops f) y)
       sizes = size-series M x y same
 
       gap : DividesK K (series M x) (addS (F K) (series M b) (negS (F K) (series M a)))
       gap = divides-path K
           (ap₂ (λ (s t : Px K). addS (F K) s (negS (F K) t)) (series-sub M u a) (series-sub M u b) ∙ ring (Series (F K)) (series M u ∷ series M a ∷ series M b ∷ []) (search quote depth 40 fits 9999) tt)
-          (divides-sub K (divides-series x (sub (modulo q) u a) da) (subst (λ (s : Px K). DividesK K s (series M (sub (modulo q) u b))) (sym same) (divides-series y (sub (modulo q) u b) db)))
+          (divides-sub K (divides-series x (sub (ops f) u a) da) (subst (λ (s : Px K). DividesK K s (series M (sub (ops f) u b))) (sym same) (divides-series y (sub (ops f) u b) db)))
 
 -- ---- the words of the coefficients
 module _ (n j : ℕ) (l : List ℕ) where
@@ -114,7 +113,7 @@ module _ (n j : ℕ) (l : List ℕ) where
   value-P i h = List·getD-map value (take (genus n) (drop (j * (n + 4) + (genus n + 6)) l)) i 0 ∙ ap value (getD-take (genus n) (drop (j * (n + 4) + (genus n + 6)) l) i 0 h ∙ getD-drop (j * (n + 4) + (genus n + 6)) l i 0)
 
 -- ---- two lists that are read as one record
-module _ (t : Ticket) (h : Admitted (t .q) (genus (t .n)) (t .D)) (even : suc (genus (t .n)) + suc (genus (t .n)) ≡ t .n) (R j : ℕ) (a b : List ℕ) (x : RecordRead t R j a) (y : RecordRead t R j b) where
+module _ (t : Ticket) (h : Admitted (t .field) (genus (t .n)) (t .D)) (even : suc (genus (t .n)) + suc (genus (t .n)) ≡ t .n) (R j : ℕ) (a b : List ℕ) (x : RecordRead t R j a) (y : RecordRead t R j b) where
   abbrev Qj : List ℕ
   Qj = walk.Q (opsOf t) (t .D) (rootOf t) j
 
