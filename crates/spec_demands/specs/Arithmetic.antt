@@ -124,13 +124,13 @@ module _ (f : FieldName) (named : IsField f) where
       zero c = gcd-zero M I a b (trim-nil M b (sym (size-is M b) ∙ c))
 
 pub division : Division
-division q r a b some = divided q (named-field q r) a b some
+division f r a b some = divided f (named-field f r) a b some
 
 pub inverse-is : Inverse
-inverse-is q r a some = M q n .inj _ _ (M q n .ok-mul _ _) (ok-first q n) (M q n .φ-mul _ _ ∙ arithmetic q n .I .inv-mul a (λ e. some (same-reading q n a 0 (e ∙ sym (M q n .φ-zer)) ∙ reading-zero q)) ∙ sym (φ-first q n))
+inverse-is f r a some = M f n .inj _ _ (M f n .ok-mul _ _) (ok-first f n) (M f n .φ-mul _ _ ∙ arithmetic f n .I .inv-mul a (λ e. some (same-reading f n a 0 (e ∙ sym (M f n .φ-zer)) ∙ reading-zero f)) ∙ sym (φ-first f n))
   where
-    n : IsField q
-    n = named-field q r
+    n : IsField f
+    n = named-field f r
 
 pub euclid : Euclid
-euclid q r a b = gcd-rules q (named-field q r) a b
+euclid f r a b = gcd-rules f (named-field f r) a b

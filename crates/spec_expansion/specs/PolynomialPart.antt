@@ -291,7 +291,7 @@ module _ (f : FieldName) (named : IsField f) where
     }
 
 pub polynomial-part-unique : PolynomialPartUnique
-polynomial-part-unique q r f h a b = part-unique q (named-field q r) f h a b
+polynomial-part-unique f r l h a b = part-unique f (named-field f r) l h a b
 
 pub t2-polynomial-part : T2PolynomialPart
 unfolding rootOf

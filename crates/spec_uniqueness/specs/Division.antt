@@ -166,7 +166,7 @@ one-division f r a b c l s less =
     (series-same f n c (quo (ops f) a b) (e .0), series-same f n l (rem (ops f) a b) (e .1))
 
 pub one-inverse : OneInverse
-one-inverse q r a x low e = inverse-only q (named-field q r) a x low e
+one-inverse f r a x low e = inverse-only f (named-field f r) a x low e
 
 pub one-gcd : OneGcd
 one-gcd f r a b l u v most m = let n = named-field f r in series-same f n l (gcd (ops f) a b) (gcd-only f n a b l u v most m)
