@@ -9,7 +9,7 @@ use lib.ListN.{length, getD, set, drop, List·getD-eq-default}
 use lib.Seq.{getD-set-same, getD-set-other, getD-drop}
 use Rattle.math_ring.specs.Identity.{ring, quote}
 use Rattle.math_ring.specs.Residues.{FqRing, to, addF, mulF, negF}
-use Rattle.spec_definitions.specs.Field.{modulo}
+use Rattle.spec_definitions.specs.Field.{modulo, prime}
 use Rattle.spec_definitions.specs.Polynomials.{Split, put, divide}
 use Rattle.spec_bridge.specs.Division.{put-at}
 use Rattle.spec_bridge.specs.Residues.{model, to-val, to-add, to-mul, to-mod, to-sub}
@@ -72,7 +72,7 @@ module _ (q u : ℕ) (b p : List ℕ) where
         coefficient (suc i) = getD-set-other z k (k + suc i) c 0 (λ h. omega arith) ∙ (let h : k + suc i ≡ suc k + i = omega arith in ap (λ (j : ℕ). getD z j 0) h) ∙ s .found i ∙ sym (quo-suc (model q pos) u b (getD p k 0) (D (suc k)) i)
 
     -- nothing to go
-    pub end : (x z : List ℕ) → length x ≡ 129 → length z ≡ 129 → Stage 0 x z → Divided q u b p x z
+    pub end : (x z : List ℕ) → length x ≡ 129 → length z ≡ 129 → Stage 0 x z → Divided (prime q) u b p x z
     end x z lx lz s =
         record {
           long-x = lx;

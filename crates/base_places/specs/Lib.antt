@@ -4,3 +4,6 @@ pub mod Row
 pub mod Dots
 pub mod Terms
 pub mod Divided
+pub mod Record
+pub mod Pad
+pub mod Held

@@ -8,6 +8,8 @@ use lib.ListN.{length, getD, set, length-set, replicate, length-replicate, getD-
 use lib.Seq.{getD-set-same, getD-set-other}
 use borrow.Author.Count.{below-more}
 use Rattle.math_ring.specs.Order.{le-or-lt}
+use Rattle.spec_definitions.specs.Field.{FieldName}
+use Rattle.spec_fields.specs.Named.{Ok}
 
 -- 129 places, with g i at i, also past the end, where 0 is read
 pub record Places (c : List ℕ) (g : ℕ → ℕ) : Type 0 where
@@ -20,9 +22,9 @@ pub record Filled (c : List ℕ) (g : ℕ → ℕ) (i : ℕ) : Type 0 where
   pub done : (k : ℕ) → k < i → getD c k 0 ≡ g k
   pub rest : (k : ℕ) → i ≤ k → getD c k 0 ≡ 0
 
--- coefficients below q, and zeros from n on
-pub record Within (q : ℕ) (c : List ℕ) (n : ℕ) : Type 0 where
-  pub reduced : (i : ℕ) → getD c i 0 < q
+-- admissible coefficients, and zeros from n on
+pub record Within (f : FieldName) (c : List ℕ) (n : ℕ) : Type 0 where
+  pub reduced : (i : ℕ) → Ok f (getD c i 0)
   pub past : (i : ℕ) → n ≤ i → getD c i 0 ≡ 0
 
 -- n is the least number from which on all places are 0

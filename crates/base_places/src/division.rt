@@ -6,6 +6,7 @@ ghost use Rattle.base_places.specs.Row.{Bounded, Ends, Row};
 ghost use Rattle.base_places.specs.Places.{Places, Within};
 ghost use Rattle.base_places.specs.Divided.{Divided};
 use crate::product::excess;
+ghost use Rattle.base_field.specs.Named.{name, IsField, Ok};
 use base_field::Field;
 
 // Adds m times y, of n places, to x, k places up. 4,278,198,271 is 2³² − 4,095².
@@ -33,11 +34,11 @@ pub fn clear(
     m: usize,
     n: usize,
 ) -> usize
-    requires { ⌜ (f .q < 4096) × (u < f .q) × (0 < n) × (m ≤ 129) × (n ≤ 129) × (length (now x) ≡ 129) × (length (now z) ≡ 129) ⌝ }
-    requires { ⌜ Within (f .q) (now x) m ⌝ }
-    requires { ⌜ Within (f .q) (now y) n × (length (now y) ≡ 129) ⌝ }
+    requires { ⌜ IsField f × Ok f u × (0 < n) × (m ≤ 129) × (n ≤ 129) × (length (now x) ≡ 129) × (length (now z) ≡ 129) ⌝ }
+    requires { ⌜ Within (name f) (now x) m ⌝ }
+    requires { ⌜ Within (name f) (now y) n × (length (now y) ≡ 129) ⌝ }
     requires { ⌜ Ends (now z) 0 ⌝ }
-    ensures { λ r. ⌜ (r ≡ m + 1 - n) × Divided (f .q) u (take n (now (y .entry))) (take m (now (x .entry))) (now (x .exit)) (now (z .exit)) ⌝ }
+    ensures { λ r. ⌜ (r ≡ m + 1 - n) × Divided (name f) u (take n (now (y .entry))) (take m (now (x .entry))) (now (x .exit)) (now (z .exit)) ⌝ }
 {
     let t = excess(m + 1, n);
     let mut k = t;
@@ -52,7 +53,7 @@ pub fn clear(
 
 // z becomes x modulo q, whose places from n on are 0 modulo q.
 pub fn reduce_places(f: Field, x: &[u32; 129], n: usize, z: &mut [u32; 129])
-    requires { ⌜ (0 < f .q) × (n ≤ 129) ⌝ }
+    requires { ⌜ IsField f × (n ≤ 129) ⌝ }
     requires { ⌜ ((i : ℕ) → n ≤ i → getD (now x) i 0 % f .q ≡ 0) ⌝ }
     ensures { λ _. ⌜ Places (now (z .exit)) (λ i. getD (now (x .entry)) i 0 % f .q) ⌝ }
 {

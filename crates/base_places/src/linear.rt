@@ -1,10 +1,10 @@
 // Sums, differences, multiples and the derivative, place by place.
 // A function `.._places` works on arrays whose places from n on are 0 and fills the array z.
 ghost use mathlib.Core.Path.{_≡_};
-ghost use Prim.Native.Nat.{ℕ, _+_, _<_, _≤_};
+ghost use Prim.Native.Nat.{ℕ, _+_, _≤_};
 ghost use lib.ListN.{getD};
 ghost use Rattle.base_places.specs.Places.{Places, Within, Top};
-ghost use Rattle.base_field.specs.Named.{ops};
+ghost use Rattle.base_field.specs.Named.{name, ops, IsField, Ok};
 use base_field::Field;
 
 // The size: the places from `from` on are 0.
@@ -25,9 +25,9 @@ pub fn top(c: &[u32; 129], from: usize) -> usize
 
 // z becomes x + y.
 pub fn add_places(f: Field, x: &[u32; 129], y: &[u32; 129], n: usize, z: &mut [u32; 129])
-    requires { ⌜ (f .q < 4096) × (n ≤ 129) ⌝ }
-    requires { ⌜ Within (f .q) (now x) n ⌝ }
-    requires { ⌜ Within (f .q) (now y) n ⌝ }
+    requires { ⌜ IsField f × (n ≤ 129) ⌝ }
+    requires { ⌜ Within (name f) (now x) n ⌝ }
+    requires { ⌜ Within (name f) (now y) n ⌝ }
     ensures { λ _. ⌜ Places (now (z .exit)) (λ i. ops f .add (getD (now (x .entry)) i 0) (getD (now (y .entry)) i 0)) ⌝ }
 {
     *z = [0u32; 129];
@@ -40,9 +40,9 @@ pub fn add_places(f: Field, x: &[u32; 129], y: &[u32; 129], n: usize, z: &mut [u
 
 // z becomes x − y.
 pub fn sub_places(f: Field, x: &[u32; 129], y: &[u32; 129], n: usize, z: &mut [u32; 129])
-    requires { ⌜ (f .q < 4096) × (n ≤ 129) ⌝ }
-    requires { ⌜ Within (f .q) (now x) n ⌝ }
-    requires { ⌜ Within (f .q) (now y) n ⌝ }
+    requires { ⌜ IsField f × (n ≤ 129) ⌝ }
+    requires { ⌜ Within (name f) (now x) n ⌝ }
+    requires { ⌜ Within (name f) (now y) n ⌝ }
     ensures { λ _. ⌜ Places (now (z .exit)) (λ i. ops f .sub (getD (now (x .entry)) i 0) (getD (now (y .entry)) i 0)) ⌝ }
 {
     *z = [0u32; 129];
@@ -55,8 +55,8 @@ pub fn sub_places(f: Field, x: &[u32; 129], y: &[u32; 129], n: usize, z: &mut [u
 
 // z becomes k·x.
 pub fn scale_places(f: Field, k: u32, x: &[u32; 129], n: usize, z: &mut [u32; 129])
-    requires { ⌜ (f .q < 4096) × (n ≤ 129) × (k < f .q) ⌝ }
-    requires { ⌜ Within (f .q) (now x) n ⌝ }
+    requires { ⌜ IsField f × (n ≤ 129) × Ok f k ⌝ }
+    requires { ⌜ Within (name f) (now x) n ⌝ }
     ensures { λ _. ⌜ Places (now (z .exit)) (λ i. ops f .mul k (getD (now (x .entry)) i 0)) ⌝ }
 {
     *z = [0u32; 129];
@@ -69,8 +69,8 @@ pub fn scale_places(f: Field, k: u32, x: &[u32; 129], n: usize, z: &mut [u32; 12
 
 // z becomes the derivative of x: at i the coefficient at i + 1, times i + 1.
 pub fn derivative_places(f: Field, x: &[u32; 129], n: usize, z: &mut [u32; 129])
-    requires { ⌜ (f .q < 4096) × (n ≤ 129) ⌝ }
-    requires { ⌜ Within (f .q) (now x) n ⌝ }
+    requires { ⌜ IsField f × (n ≤ 129) ⌝ }
+    requires { ⌜ Within (name f) (now x) n ⌝ }
     ensures { λ _. ⌜ Places (now (z .exit)) (λ i. ops f .mul (i + 1) (getD (now (x .entry)) (i + 1) 0)) ⌝ }
 {
     *z = [0u32; 129];

@@ -5,7 +5,7 @@ ghost use lib.ListN.{getD};
 ghost use Rattle.spec_definitions.specs.Polynomials.{mul as mulOf};
 ghost use Rattle.base_places.specs.Places.{Places, Within};
 ghost use Rattle.base_places.specs.Terms.{Terms};
-ghost use Rattle.base_field.specs.Named.{ops};
+ghost use Rattle.base_field.specs.Named.{name, ops, IsField};
 use base_field::Field;
 
 // By how much a is above b, 0 where it is not.
@@ -17,10 +17,10 @@ pub fn excess(a: usize, b: usize) -> usize
 
 // The coefficient at k of x, of m places, times y, of n places, as a sum that is not reduced. 129·4,095² is below 2³².
 pub fn terms(f: Field, x: &[u32; 129], y: &[u32; 129], k: usize, m: usize, n: usize) -> u32
-    requires { ⌜ (f .q < 4096) × (k < 129) × (m ≤ 129) ⌝ }
-    requires { ⌜ Within (f .q) (now x) m ⌝ }
-    requires { ⌜ Within (f .q) (now y) n ⌝ }
-    ensures { λ r. ⌜ Terms (f .q) (now (x .entry)) (now (y .entry)) k r ⌝ }
+    requires { ⌜ IsField f × (k < 129) × (m ≤ 129) ⌝ }
+    requires { ⌜ Within (name f) (now x) m ⌝ }
+    requires { ⌜ Within (name f) (now y) n ⌝ }
+    ensures { λ r. ⌜ Terms (name f) (now (x .entry)) (now (y .entry)) k r ⌝ }
 {
     let end = k + 1 - excess(k + 1, m);
     let mut sum: u32 = 0;
@@ -34,9 +34,9 @@ pub fn terms(f: Field, x: &[u32; 129], y: &[u32; 129], k: usize, m: usize, n: us
 
 // The coefficient at k of x, of m places, times y, of n places.
 pub fn dot(f: Field, x: &[u32; 129], y: &[u32; 129], k: usize, m: usize, n: usize) -> u32
-    requires { ⌜ (f .q < 4096) × (k < 129) × (m ≤ 129) ⌝ }
-    requires { ⌜ Within (f .q) (now x) m ⌝ }
-    requires { ⌜ Within (f .q) (now y) n ⌝ }
+    requires { ⌜ IsField f × (k < 129) × (m ≤ 129) ⌝ }
+    requires { ⌜ Within (name f) (now x) m ⌝ }
+    requires { ⌜ Within (name f) (now y) n ⌝ }
     ensures { λ r. ⌜ r ≡ getD (mulOf (ops f) (now (x .entry)) (now (y .entry))) k 0 ⌝ }
 {
     terms(f, x, y, k, m, n) % f.q
@@ -44,9 +44,9 @@ pub fn dot(f: Field, x: &[u32; 129], y: &[u32; 129], k: usize, m: usize, n: usiz
 
 // z becomes x, of m places, times y, of n places.
 pub fn mul_places(f: Field, x: &[u32; 129], y: &[u32; 129], m: usize, n: usize, z: &mut [u32; 129])
-    requires { ⌜ (f .q < 4096) × (m ≤ 129) × (n ≤ 129) × (m + n ≤ 130) ⌝ }
-    requires { ⌜ Within (f .q) (now x) m ⌝ }
-    requires { ⌜ Within (f .q) (now y) n ⌝ }
+    requires { ⌜ IsField f × (m ≤ 129) × (n ≤ 129) × (m + n ≤ 130) ⌝ }
+    requires { ⌜ Within (name f) (now x) m ⌝ }
+    requires { ⌜ Within (name f) (now y) n ⌝ }
     ensures { λ _. ⌜ Places (now (z .exit)) (λ i. getD (mulOf (ops f) (now (x .entry)) (now (y .entry))) i 0) ⌝ }
 {
     *z = [0u32; 129];

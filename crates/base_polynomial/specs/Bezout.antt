@@ -6,7 +6,7 @@ use Prim.Native.Nat.{ℕ, _+_, _<_, _≤_}
 use native.Mathlib.Omega.{arith}
 use lib.ListN.{length}
 use Rattle.math_ring.specs.Order.{le-or-lt}
-use Rattle.spec_definitions.specs.Field.{modulo}
+use Rattle.spec_definitions.specs.Field.{modulo, prime}
 use Rattle.spec_definitions.specs.Polynomials.{Bezout, trim, sub, mul, lead, quo, rem, monic, gcd, bezout}
 use Rattle.spec_bridge.specs.Model.{Inverts}
 use Rattle.spec_bridge.specs.Trim.{trim-nil}
@@ -23,7 +23,7 @@ use Rattle.base_polynomial.specs.Result.{Result, result, held-size, resu
 abbrev pub factors : ℕ → List ℕ → ℕ → List ℕ → ℕ → Bezout ℕ
 factors q a m b n = bezout (modulo q) (poly a m) (poly b n)
 
-module _ (q : ℕ) (p : Prime q) (a : List ℕ) (m : ℕ) (held-a : Held q a m) (b : List ℕ) (n : ℕ) (held-b : Held q b n) where
+module _ (q : ℕ) (p : Prime q) (a : List ℕ) (m : ℕ) (held-a : Held (prime q) a m) (b : List ℕ) (n : ℕ) (held-b : Held (prime q) b n) where
   pos : 0 < q
   pos = held-positive q a m held-a
 
@@ -44,16 +44,16 @@ module _ (q : ℕ) (p : Prime q) (a : List ℕ) (m : ℕ) (held-a : Held q a m) 
   v-short = let x = size-a in let s = held-a .short in bezout-v-length (model q pos) I (poly a m) (poly b n) 129 (omega arith) (omega arith)
 
   module _ (c : List ℕ) (size : ℕ) where
-    pub result-u : Is q c size (factors q a m b n .u) → Result q c size (factors q a m b n .u)
+    pub result-u : Is (prime q) c size (factors q a m b n .u) → Result q c size (factors q a m b n .u)
     result-u r = result q c size _ r u-short (trim-bezout-u (model q pos) I (poly a m) (poly b n)) (oks-bezout-u (model q pos) I (poly a m) (poly b n))
 
-    pub result-v : Is q c size (factors q a m b n .v) → Result q c size (factors q a m b n .v)
+    pub result-v : Is (prime q) c size (factors q a m b n .v) → Result q c size (factors q a m b n .v)
     result-v r = result q c size _ r v-short (trim-bezout-v (model q pos) I (poly a m) (poly b n)) (oks-bezout-v (model q pos) I (poly a m) (poly b n))
 
-    pub result-factor-gcd : Is q c size (factors q a m b n .gcd) → Result q c size (gcd (modulo q) (poly a m) (poly b n))
-    result-factor-gcd r = result-gcd q a m held-a b n held-b c size p (subst (λ (l : List ℕ). Is q c size l) (bezout-gcd (model q pos) I (poly a m) (poly b n)) r)
+    pub result-factor-gcd : Is (prime q) c size (factors q a m b n .gcd) → Result q c size (gcd (modulo q) (poly a m) (poly b n))
+    result-factor-gcd r = result-gcd q a m held-a b n held-b c size p (subst (λ (l : List ℕ). Is (prime q) c size l) (bezout-gcd (model q pos) I (poly a m) (poly b n)) r)
 
-    pub size-v : 0 < m → Is q c size (factors q a m b n .v) → size ≤ m
+    pub size-v : 0 < m → Is (prime q) c size (factors q a m b n .v) → size ≤ m
     size-v h r =
         let x = size-a in
         let e = r .size-is in
@@ -97,8 +97,8 @@ module _ (q : ℕ) (p : Prime q) (a : List ℕ) (m : ℕ) (held-a : Held q a m) 
     some-v = ap (λ (e : Bezout ℕ). e .v) next
 
 -- one turn: from the records of quotient, remainder and of the factors of b and the remainder
-module _ (q : ℕ) (p : Prime q) (a : List ℕ) (m : ℕ) (held-a : Held q a m) (b : List ℕ) (n : ℕ) (held-b : Held q b n) (some : 0 < n) where
-  module _ (w : List ℕ) (w-size : ℕ) (w-is : Is q w w-size (quo (modulo q) (poly a m) (poly b n))) (r : List ℕ) (r-size : ℕ) (r-is : Is q r r-size (rem (modulo q) (poly a m) (poly b n))) where
+module _ (q : ℕ) (p : Prime q) (a : List ℕ) (m : ℕ) (held-a : Held (prime q) a m) (b : List ℕ) (n : ℕ) (held-b : Held (prime q) b n) (some : 0 < n) where
+  module _ (w : List ℕ) (w-size : ℕ) (w-is : Is (prime q) w w-size (quo (modulo q) (poly a m) (poly b n))) (r : List ℕ) (r-size : ℕ) (r-is : Is (prime q) r r-size (rem (modulo q) (poly a m) (poly b n))) where
     remainder : Result q r r-size (rem (modulo q) (poly a m) (poly b n))
     remainder = result-rem q a m held-a b n held-b r r-size p r-is
 
@@ -108,7 +108,7 @@ module _ (q : ℕ) (p : Prime q) (a : List ℕ) (m : ℕ) (held-a : Held q a m) 
     pub turn-u : factors q a m b n .u ≡ factors q b n r r-size .v
     turn-u = some-u q p a m held-a b n held-b some (poly r r-size) (remainder .is)
 
-    module _ (u : List ℕ) (u-size : ℕ) (u-is : Is q u u-size (factors q b n r r-size .u)) (v : List ℕ) (v-size : ℕ) (v-is : Is q v v-size (factors q b n r r-size .v)) where
+    module _ (u : List ℕ) (u-size : ℕ) (u-is : Is (prime q) u u-size (factors q b n r r-size .u)) (v : List ℕ) (v-size : ℕ) (v-is : Is (prime q) v v-size (factors q b n r r-size .v)) where
       -- the factors of b and the remainder
       pub turn-last-u : Result q u u-size (factors q b n r r-size .u)
       turn-last-u = result-u q p b n held-b r r-size (remainder .held) u u-size u-is
@@ -125,7 +125,7 @@ module _ (q : ℕ) (p : Prime q) (a : List ℕ) (m : ℕ) (held-a : Held q a m) 
           let t = held-b .short in
           omega arith
 
-      module _ (c : List ℕ) (c-size : ℕ) (c-is : Is q c c-size (mul (modulo q) (poly w w-size) (poly v v-size))) where
+      module _ (c : List ℕ) (c-size : ℕ) (c-is : Is (prime q) c c-size (mul (modulo q) (poly w w-size) (poly v v-size))) where
         quotient : Result q w w-size (quo (modulo q) (poly a m) (poly b n))
         quotient = result-quo q a m held-a b n held-b w w-size some w-is
 

@@ -4,7 +4,7 @@ use mathlib.Core.List.{List, []}
 use Prim.Native.Nat.{ℕ, _+_, _-_, _%_, _<_, _≤_}
 use native.Mathlib.Omega.{arith}
 use lib.ListN.{length, getD, List·getD-eq-default}
-use Rattle.spec_definitions.specs.Field.{modulo, inverse}
+use Rattle.spec_definitions.specs.Field.{modulo, inverse, prime}
 use Rattle.spec_definitions.specs.Polynomials.{Split, trim, lead, divide, quo, rem}
 use Rattle.spec_bridge.specs.Trim.{at-trim, trim-nil, series-ext}
 use Rattle.spec_bridge.specs.Division.{divide-quo-oks, trim-quo, trim-rem, oks-rem, rem-less, rem-by-zero}
@@ -18,7 +18,7 @@ use Rattle.base_places.specs.Places.{Places, Top}
 use Rattle.base_polynomial.specs.Linear.{is-result, lead-place}
 use Rattle.base_places.specs.Divided.{Divided}
 
-module _ (q : ℕ) (a : List ℕ) (m : ℕ) (held-a : Held q a m) (b : List ℕ) (n : ℕ) (held-b : Held q b n) where
+module _ (q : ℕ) (a : List ℕ) (m : ℕ) (held-a : Held (prime q) a m) (b : List ℕ) (n : ℕ) (held-b : Held (prime q) b n) where
   pos : 0 < q
   pos = held-positive q a m held-a
 
@@ -32,8 +32,8 @@ module _ (q : ℕ) (a : List ℕ) (m : ℕ) (held-a : Held q a m) (b : List ℕ)
   pub quo-zero : Prime q → n ≡ 0 → quo (modulo q) (poly a m) (poly b n) ≡ []
   quo-zero p h = quo-by-zero (model q pos) (inverts q pos p) (poly a m) (poly b n) (trim-nil (model q pos) (poly b n) (size-b ∙ h))
 
-  pub is-rem-zero : n ≡ 0 → Is q a m (rem (modulo q) (poly a m) (poly b n))
-  is-rem-zero h = subst (λ (l : List ℕ). Is q a m l) (sym whole) (record { places = held-a .places; size-is = sym (length-poly q a m held-a) })
+  pub is-rem-zero : n ≡ 0 → Is (prime q) a m (rem (modulo q) (poly a m) (poly b n))
+  is-rem-zero h = subst (λ (l : List ℕ). Is (prime q) a m l) (sym whole) (record { places = held-a .places; size-is = sym (length-poly q a m held-a) })
     where
       reduced : (i : ℕ) → getD (poly a m) i 0 < q
       reduced i = subst (λ (v : ℕ). v < q) (sym (at-poly q a m held-a i)) (held-a .reduced i)
@@ -41,7 +41,7 @@ module _ (q : ℕ) (a : List ℕ) (m : ℕ) (held-a : Held q a m) (b : List ℕ)
       whole : rem (modulo q) (poly a m) (poly b n) ≡ poly a m
       whole = series-ext (model q pos) _ _ (trim-rem (model q pos) (poly a m) (poly b n)) (held-a .trimmed) (oks-rem (model q pos) (poly a m) (poly b n)) reduced (rem-by-zero (model q pos) (poly a m) (poly b n) (trim-nil (model q pos) (poly b n) (size-b ∙ h)))
 
-  module _ (u : ℕ) (u-is : u ≡ inverse q (getD b (n - 1) 0)) (x z : List ℕ) (d : Divided q u (poly b n) (poly a m) x z) where
+  module _ (u : ℕ) (u-is : u ≡ inverse q (getD b (n - 1) 0)) (x z : List ℕ) (d : Divided (prime q) u (poly b n) (poly a m) x z) where
     same : divide (modulo q) u (poly b n) (poly a m) ≡ divide (modulo q) (inverse q (lead (modulo q) (poly b n))) (trim (modulo q) (poly b n)) (poly a m)
     same = ap₂ (λ (v : ℕ) (l : List ℕ). divide (modulo q) v l (poly a m)) (u-is ∙ ap (inverse q) (sym (lead-place q b n held-b))) (sym (held-b .trimmed))
 
@@ -68,8 +68,8 @@ module _ (q : ℕ) (a : List ℕ) (m : ℕ) (held-a : Held q a m) (b : List ℕ)
         let l = rem-less (model q pos) (inverts q pos p) (poly a m) (poly b n) (omega arith) in
         rem-at i ∙ List·getD-eq-default (rem (modulo q) (poly a m) (poly b n)) 0 (omega arith)
 
-    pub is-quo : (size : ℕ) → Top z size → Is q z size (quo (modulo q) (poly a m) (poly b n))
+    pub is-quo : (size : ℕ) → Top z size → Is (prime q) z size (quo (modulo q) (poly a m) (poly b n))
     is-quo size t = is-result q pos z size _ (trim-quo (model q pos) (poly a m) (poly b n)) (record { long = d .long-z; at = quo-at }) t
 
-    pub is-rem : (w : List ℕ) (size : ℕ) → Places w (λ i. getD x i 0 % q) → Top w size → Is q w size (rem (modulo q) (poly a m) (poly b n))
+    pub is-rem : (w : List ℕ) (size : ℕ) → Places w (λ i. getD x i 0 % q) → Top w size → Is (prime q) w size (rem (modulo q) (poly a m) (poly b n))
     is-rem w size p t = is-result q pos w size _ (trim-rem (model q pos) (poly a m) (poly b n)) (record { long = p .long; at = λ i. p .at i ∙ rem-at i }) t

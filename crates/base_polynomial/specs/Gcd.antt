@@ -3,7 +3,7 @@ use mathlib.Core.Path.{_≡_, _∙_}
 use mathlib.Core.List.{List}
 use Prim.Native.Nat.{ℕ, _<_}
 use native.Mathlib.Omega.{arith}
-use Rattle.spec_definitions.specs.Field.{modulo}
+use Rattle.spec_definitions.specs.Field.{modulo, prime}
 use Rattle.spec_definitions.specs.Polynomials.{rem, monic, gcd}
 use Rattle.spec_bridge.specs.Trim.{trim-nil}
 use Rattle.spec_bridge.specs.Gcd.{gcd-zero, gcd-rule}
@@ -13,7 +13,7 @@ use Rattle.base_polynomial.specs.Record.{poly, Held}
 use Rattle.base_polynomial.specs.Held.{held-positive}
 use Rattle.base_polynomial.specs.Result.{held-size}
 
-module _ (q : ℕ) (p : Prime q) (a : List ℕ) (m : ℕ) (b : List ℕ) (n : ℕ) (held-b : Held q b n) where
+module _ (q : ℕ) (p : Prime q) (a : List ℕ) (m : ℕ) (b : List ℕ) (n : ℕ) (held-b : Held (prime q) b n) where
   pos : 0 < q
   pos = held-positive q b n held-b
 

@@ -10,3 +10,4 @@ pub mod Division
 pub mod Gcd
 pub mod Bezout
 pub mod Whole
+pub mod Over

@@ -11,7 +11,7 @@ use lib.ListN.{length, getD, List·getD-eq-default}
 use Rattle.math_ring.specs.Order.{le-or-lt}
 use Rattle.math_ring.specs.Residues.{Fq, FqRing}
 use Rattle.math_algebra.specs.Derivative.{derivative-at}
-use Rattle.spec_definitions.specs.Field.{modulo}
+use Rattle.spec_definitions.specs.Field.{FieldName, modulo, prime}
 use Rattle.spec_definitions.specs.Polynomials.{trim, add, sub, scale, lead, times, derivative}
 use Rattle.spec_bridge.specs.Model.{series}
 use Rattle.spec_bridge.specs.Trim.{length-le, lead-is}
@@ -29,17 +29,17 @@ top-length q pos c n l t p h =
     let low : length l ≤ n = length-le (model q pos) l n t (λ i k. ap (model q pos .φ) (sym (p .at i) ∙ h .past i k)) in
     ⊎-elim (λ k. (let w : n ≤ length l = k in omega arith)) (λ k. absurd (h .last (omega arith) (p .at (n - 1) ∙ List·getD-eq-default l 0 {n = n - 1} (omega arith)))) (le-or-lt n (length l))
 
-pub is-result : (q : ℕ) (pos : 0 < q) (c : List ℕ) (n : ℕ) (l : List ℕ) → trim (modulo q) l ≡ l → Places c (λ i. getD l i 0) → Top c n → Is q c n l
+pub is-result : (q : ℕ) (pos : 0 < q) (c : List ℕ) (n : ℕ) (l : List ℕ) → trim (modulo q) l ≡ l → Places c (λ i. getD l i 0) → Top c n → Is (prime q) c n l
 is-result q pos c n l t p h =
     let e : n ≡ length l = top-length q pos c n l t p h in
     let s : n ≤ 129 = h .short in
     is-of q c n l (p .long) e (omega arith) (p .at)
 
-pub is-zero : (q : ℕ) → Is q zeros 0 []
-is-zero q = is-of q zeros 0 [] length-zeros refl (omega arith) at-zeros
+pub is-zero : (f : FieldName) → Is f zeros 0 []
+is-zero f = is-of (f .q) zeros 0 [] length-zeros refl (omega arith) at-zeros
 
 -- a held record as the loops read it
-pub held-within : (q : ℕ) (c : List ℕ) (size n : ℕ) → Held q c size → size ≤ n → Within q c n
+pub held-within : (q : ℕ) (c : List ℕ) (size n : ℕ) → Held (prime q) c size → size ≤ n → Within (prime q) c n
 held-within q c size n h s =
     record {
       reduced = h .reduced;
@@ -57,33 +57,33 @@ unfolding times
 times-modulo q zero a = sym (ap (λ (m : ℕ). m % q) (zero-mul a) ∙ zero-mod q)
 times-modulo q (suc k) a = ap (modulo q .add a) (times-modulo q k a) ∙ add-mod-mod a (k * a) q ∙ ap (λ (m : ℕ). m % q) (add-comm a (k * a) ∙ sym (suc-mul k a))
 
-module _ (q : ℕ) (a : List ℕ) (a-size : ℕ) (held-a : Held q a a-size) (c : List ℕ) (n : ℕ) (t : Top c n) where
+module _ (q : ℕ) (a : List ℕ) (a-size : ℕ) (held-a : Held (prime q) a a-size) (c : List ℕ) (n : ℕ) (t : Top c n) where
   pos : 0 < q
   pos = held-positive q a a-size held-a
 
-  module _ (b : List ℕ) (b-size : ℕ) (held-b : Held q b b-size) where
-    pub is-add : Places c (λ i. modulo q .add (getD a i 0) (getD b i 0)) → Is q c n (add (modulo q) (poly a a-size) (poly b b-size))
+  module _ (b : List ℕ) (b-size : ℕ) (held-b : Held (prime q) b b-size) where
+    pub is-add : Places c (λ i. modulo q .add (getD a i 0) (getD b i 0)) → Is (prime q) c n (add (modulo q) (poly a a-size) (poly b b-size))
     is-add p =
         is-result q pos c n _ (trim-add (model q pos) (poly a a-size) (poly b b-size))
         (record { long = p .long; at = λ i. p .at i ∙ sym (at-add (model q pos) (poly a a-size) (poly b b-size) i ∙ ap₂ (modulo q .add) (at-poly q a a-size held-a i) (at-poly q b b-size held-b i)) }) t
 
-    pub is-sub : Places c (λ i. modulo q .sub (getD a i 0) (getD b i 0)) → Is q c n (sub (modulo q) (poly a a-size) (poly b b-size))
+    pub is-sub : Places c (λ i. modulo q .sub (getD a i 0) (getD b i 0)) → Is (prime q) c n (sub (modulo q) (poly a a-size) (poly b b-size))
     is-sub p =
         is-result q pos c n _ (trim-sub (model q pos) (poly a a-size) (poly b b-size))
         (record { long = p .long; at = λ i. p .at i ∙ sym (at-sub (model q pos) (poly a a-size) (poly b b-size) i ∙ ap₂ (modulo q .sub) (at-poly q a a-size held-a i) (at-poly q b b-size held-b i)) }) t
 
-  pub is-scale : (k : ℕ) → Places c (λ i. modulo q .mul k (getD a i 0)) → Is q c n (scale (modulo q) k (poly a a-size))
+  pub is-scale : (k : ℕ) → Places c (λ i. modulo q .mul k (getD a i 0)) → Is (prime q) c n (scale (modulo q) k (poly a a-size))
   is-scale k p =
       is-result q pos c n _ (trim-scale (model q pos) k (poly a a-size))
       (record { long = p .long; at = λ i. p .at i ∙ sym (at-scale (model q pos) k (poly a a-size) i ∙ ap (modulo q .mul k) (at-poly q a a-size held-a i)) }) t
 
-  pub is-derivative : Places c (λ i. modulo q .mul (i + 1) (getD a (i + 1) 0)) → Is q c n (derivative (modulo q) (poly a a-size))
+  pub is-derivative : Places c (λ i. modulo q .mul (i + 1) (getD a (i + 1) 0)) → Is (prime q) c n (derivative (modulo q) (poly a a-size))
   is-derivative p =
       is-result q pos c n _ (trim-derivative (model q pos) (poly a a-size))
       (record { long = p .long; at = λ i. p .at i ∙ sym (at-derivative q pos (poly a a-size) i ∙ times-modulo q (suc i) _ ∙ ap₂ (modulo q .mul) (sym (add-one i)) (at-poly q a a-size held-a (suc i) ∙ ap (λ (k : ℕ). getD a k 0) (sym (add-one i)))) }) t
 
 -- the leading coefficient stands before the size; the zero polynomial has 0 there too
-pub lead-place : (q : ℕ) (a : List ℕ) (a-size : ℕ) → Held q a a-size → lead (modulo q) (poly a a-size) ≡ getD a (a-size - 1) 0
+pub lead-place : (q : ℕ) (a : List ℕ) (a-size : ℕ) → Held (prime q) a a-size → lead (modulo q) (poly a a-size) ≡ getD a (a-size - 1) 0
 lead-place q a a-size h =
     lead-is (model q (held-positive q a a-size h)) (poly a a-size) ∙ at-poly q a a-size h (length (trim (modulo q) (poly a a-size)) - 1)
     ∙ ap (λ (m : ℕ). getD a (m - 1) 0) (ap length (h .trimmed) ∙ length-poly q a a-size h)

@@ -1,23 +1,2 @@
--- What the contracts say of a record of 129 coefficients with its size: the polynomial that it stands for.
-use mathlib.Core.Path.{_≡_}
-use mathlib.Core.List.{List}
-use Prim.Native.Nat.{ℕ, _<_, _≤_}
-use lib.ListN.{length, getD, take}
-use Rattle.spec_definitions.specs.Field.{modulo}
-use Rattle.spec_definitions.specs.Polynomials.{trim, pad}
-
--- the polynomial of a record: its first `size` coefficients
-abbrev pub poly : List ℕ → ℕ → List ℕ
-poly c size = take size c
-
--- a record as every function keeps it: coefficients below q, zeros from the size on, none at the end before it
-pub record Held (q : ℕ) (c : List ℕ) (size : ℕ) : Type 0 where
-  pub places : c ≡ pad (modulo q) 129 (poly c size)
-  pub short : size ≤ 129
-  pub trimmed : trim (modulo q) (poly c size) ≡ poly c size
-  pub reduced : (i : ℕ) → getD c i 0 < q
-
--- the record is the one that stands for the polynomial l
-pub record Is (q : ℕ) (c : List ℕ) (size : ℕ) (l : List ℕ) : Type 0 where
-  pub places : c ≡ pad (modulo q) 129 l
-  pub size-is : size ≡ length l
+-- Re-exports of base_places: records of 129 places.
+pub use Rattle.base_places.specs.Record.{poly, Held, Is}

@@ -1,2 +1,2 @@
--- The words of crate `places` for coefficients that are not reduced, passed on.
+-- Re-exports of base_places: coefficients that are not reduced.
 pub use Rattle.base_places.specs.Row.{Bounded, Ends, at-take}

@@ -2,17 +2,15 @@
 use mathlib.Core.List.{List}
 use Prim.Native.Nat.{ℕ}
 use Rattle.base_field.specs.declared.Field.{Field}
+use Rattle.base_field.specs.Named.{name}
 use Rattle.base_polynomial.specs.declared.Poly.{Poly}
-use Rattle.base_polynomial.specs.Record as places
-
--- its polynomial
-abbrev pub poly : Poly → List ℕ
-poly a = places.poly (a .c) (a .size)
+use Rattle.base_polynomial.specs.Over as over
+pub use Rattle.base_polynomial.specs.Over.{poly}
 
 -- a record as every function keeps it
 abbrev pub Held : Field → Poly → Type 0
-Held f a = places.Held (f .q) (a .c) (a .size)
+Held f a = over.Held (name f) a
 
 -- it is the record that stands for the polynomial l
 abbrev pub Is : Field → Poly → List ℕ → Type 0
-Is f a l = places.Is (f .q) (a .c) (a .size) l
+Is f a l = over.Is (name f) a l

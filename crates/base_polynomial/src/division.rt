@@ -3,10 +3,9 @@ ghost use mathlib.Core.Path.{_≡_};
 ghost use Prim.Native.Nat.{ℕ, _<_, _≤_, _%_};
 ghost use lib.ListN.{getD};
 ghost use Rattle.spec_definitions.specs.Polynomials.{quo as quoOf, rem as remOf};
-ghost use Rattle.spec_bridge.specs.Prime.{Prime};
 ghost use Rattle.base_places.specs.Places.{Places, Top};
 ghost use Rattle.base_polynomial.specs.Whole.{poly, Held, Is};
-ghost use Rattle.base_field.specs.Named.{ops};
+ghost use Rattle.base_field.specs.Named.{ops, IsField};
 use crate::Poly;
 use crate::linear::zero;
 use base_field::Field;
@@ -22,7 +21,7 @@ pub struct Split {
 
 // x modulo q, whose places from n on are 0 modulo q.
 fn residue(f: Field, x: &[u32; 129], n: usize) -> Poly
-    requires { ⌜ (0 < f .q) × (n ≤ 129) ⌝ }
+    requires { ⌜ IsField f × (n ≤ 129) ⌝ }
     requires { ⌜ ((i : ℕ) → n ≤ i → getD (now x) i 0 % f .q ≡ 0) ⌝ }
     ensures { λ r. ⌜ Places (r .c) (λ i. getD (now (x .entry)) i 0 % f .q) × Top (r .c) (r .size) ⌝ }
 {
@@ -34,7 +33,7 @@ fn residue(f: Field, x: &[u32; 129], n: usize) -> Poly
 
 // Division by a polynomial that is not 0.
 pub fn div_by(f: Field, a: Poly, b: Poly) -> Split
-    requires { ⌜ Prime (f .q) × (f .q < 4096) × (0 < b .size) ⌝ }
+    requires { ⌜ IsField f × (0 < b .size) ⌝ }
     requires { ⌜ Held f a ⌝ }
     requires { ⌜ Held f b ⌝ }
     ensures { λ r. ⌜ Is f (r .quo) (quoOf (ops f) (poly a) (poly b)) ⌝ }
@@ -54,7 +53,7 @@ pub fn div_by(f: Field, a: Poly, b: Poly) -> Split
 
 // Division with remainder; by 0 the quotient is 0 and the remainder is a.
 pub fn div_rem(f: Field, a: Poly, b: Poly) -> Split
-    requires { ⌜ Prime (f .q) × (f .q < 4096) ⌝ }
+    requires { ⌜ IsField f ⌝ }
     requires { ⌜ Held f a ⌝ }
     requires { ⌜ Held f b ⌝ }
     ensures { λ r. ⌜ Is f (r .quo) (quoOf (ops f) (poly a) (poly b)) ⌝ }

@@ -1,10 +1,8 @@
 // The greatest common divisor by Euclid's rule, alone and with Bezout's factors.
 ghost use mathlib.Core.List.{[], _∷_};
-ghost use Prim.Native.Nat.{_<_};
 ghost use Rattle.spec_definitions.specs.Polynomials.{trim, lead as leadOf, monic as monicOf, gcd as gcdOf, bezout as bezoutOf};
-ghost use Rattle.spec_bridge.specs.Prime.{Prime};
 ghost use Rattle.base_polynomial.specs.Whole.{poly, Held, Is};
-ghost use Rattle.base_field.specs.Named.{ops};
+ghost use Rattle.base_field.specs.Named.{ops, IsField, Ok};
 use crate::Bezout;
 use crate::Poly;
 use crate::division::div_by;
@@ -19,7 +17,7 @@ use base_places::linear::top;
 
 // The greatest common divisor of a and b is that of b and the remainder of a by b; it is a made monic where b is 0.
 pub fn gcd(f: Field, a: Poly, b: Poly) -> Poly
-    requires { ⌜ Prime (f .q) × (f .q < 4096) ⌝ }
+    requires { ⌜ IsField f ⌝ }
     requires { ⌜ Held f a ⌝ }
     requires { ⌜ Held f b ⌝ }
     ensures { λ r. ⌜ Is f r (gcdOf (ops f) (poly a) (poly b)) ⌝ }
@@ -35,7 +33,7 @@ pub fn gcd(f: Field, a: Poly, b: Poly) -> Poly
 
 // The constant c.
 pub fn constant(f: Field, c: u32) -> Poly
-    requires { ⌜ c < f .q ⌝ }
+    requires { ⌜ IsField f × Ok f c ⌝ }
     ensures { λ r. ⌜ Is f r (trim (ops f) (c ∷ [])) ⌝ }
 {
     let mut z = [0u32; 129];
@@ -46,7 +44,7 @@ pub fn constant(f: Field, c: u32) -> Poly
 
 // Of a and 0.
 fn bezout_zero(f: Field, a: Poly) -> Bezout
-    requires { ⌜ f .q < 4096 ⌝ }
+    requires { ⌜ IsField f ⌝ }
     requires { ⌜ Held f a ⌝ }
     ensures { λ r. ⌜ Is f (r .gcd) (monicOf (ops f) (poly a)) ⌝ }
     ensures { λ r. ⌜ Is f (r .u) (trim (ops f) (ops f .inv (leadOf (ops f) (poly a)) ∷ [])) ⌝ }
@@ -61,7 +59,7 @@ fn bezout_zero(f: Field, a: Poly) -> Bezout
 
 // Of a and b: from those of b and the remainder of a by b.
 pub fn bezout(f: Field, a: Poly, b: Poly) -> Bezout
-    requires { ⌜ Prime (f .q) × (f .q < 4096) ⌝ }
+    requires { ⌜ IsField f ⌝ }
     requires { ⌜ Held f a ⌝ }
     requires { ⌜ Held f b ⌝ }
     ensures { λ r. ⌜ Is f (r .gcd) (bezoutOf (ops f) (poly a) (poly b) .gcd) ⌝ }

@@ -4,7 +4,8 @@ pub mod gcd;
 pub mod linear;
 pub mod product;
 
-// Coefficients below q, constant term first, zeros from `size` on; the place before it is not 0.
+// A polynomial: its coefficients, constant term first.
+// Invariant (`Held`): the coefficients are below q, they are 0 from `size` on, and the one before that place is not 0.
 pub struct Poly {
     pub c: [u32; 129],
     pub size: usize,

@@ -1,11 +1,12 @@
 // Sums, differences, multiples and the derivative.
 ghost use mathlib.Core.Path.{_≡_};
-ghost use Prim.Native.Nat.{ℕ, _<_, _≤_};
+ghost use Prim.Native.Nat.{ℕ, _≤_};
 ghost use mathlib.Core.List.{[]};
+ghost use Rattle.spec_definitions.specs.Field.{FieldName};
 ghost use Rattle.spec_definitions.specs.Polynomials.{add as addOf, sub as subOf, scale as scaleOf, lead as leadOf, monic as monicOf, derivative as derivativeOf};
 ghost use Rattle.base_polynomial.specs.Record.{Is as IsAt};
 ghost use Rattle.base_polynomial.specs.Whole.{poly, Held, Is};
-ghost use Rattle.base_field.specs.Named.{ops};
+ghost use Rattle.base_field.specs.Named.{ops, IsField, Ok};
 use crate::Poly;
 use base_field::Field;
 pub use base_places::linear::add_places;
@@ -23,7 +24,7 @@ fn larger(m: usize, n: usize) -> usize
 
 // The zero polynomial.
 pub fn zero() -> Poly
-    ensures { λ r. ⌜ ((q : ℕ) → IsAt q (r .c) (r .size) []) ⌝ }
+    ensures { λ r. ⌜ ((f : FieldName) → IsAt f (r .c) (r .size) []) ⌝ }
 {
     Poly {
         c: [0u32; 129],
@@ -33,7 +34,7 @@ pub fn zero() -> Poly
 
 // a + b.
 pub fn add(f: Field, a: Poly, b: Poly) -> Poly
-    requires { ⌜ f .q < 4096 ⌝ }
+    requires { ⌜ IsField f ⌝ }
     requires { ⌜ Held f a ⌝ }
     requires { ⌜ Held f b ⌝ }
     ensures { λ r. ⌜ Is f r (addOf (ops f) (poly a) (poly b)) ⌝ }
@@ -47,7 +48,7 @@ pub fn add(f: Field, a: Poly, b: Poly) -> Poly
 
 // a − b.
 pub fn sub(f: Field, a: Poly, b: Poly) -> Poly
-    requires { ⌜ f .q < 4096 ⌝ }
+    requires { ⌜ IsField f ⌝ }
     requires { ⌜ Held f a ⌝ }
     requires { ⌜ Held f b ⌝ }
     ensures { λ r. ⌜ Is f r (subOf (ops f) (poly a) (poly b)) ⌝ }
@@ -61,7 +62,7 @@ pub fn sub(f: Field, a: Poly, b: Poly) -> Poly
 
 // k·a.
 pub fn scale(f: Field, k: u32, a: Poly) -> Poly
-    requires { ⌜ (f .q < 4096) × (k < f .q) ⌝ }
+    requires { ⌜ IsField f × Ok f k ⌝ }
     requires { ⌜ Held f a ⌝ }
     ensures { λ r. ⌜ Is f r (scaleOf (ops f) k (poly a)) ⌝ }
 {
@@ -83,7 +84,7 @@ pub fn lead(f: Field, a: Poly) -> u32
 
 // a over its leading coefficient.
 pub fn monic(f: Field, a: Poly) -> Poly
-    requires { ⌜ f .q < 4096 ⌝ }
+    requires { ⌜ IsField f ⌝ }
     requires { ⌜ Held f a ⌝ }
     ensures { λ r. ⌜ Is f r (monicOf (ops f) (poly a)) ⌝ }
 {
@@ -93,7 +94,7 @@ pub fn monic(f: Field, a: Poly) -> Poly
 
 // The derivative of a.
 pub fn derivative(f: Field, a: Poly) -> Poly
-    requires { ⌜ f .q < 4096 ⌝ }
+    requires { ⌜ IsField f ⌝ }
     requires { ⌜ Held f a ⌝ }
     ensures { λ r. ⌜ Is f r (derivativeOf (ops f) (poly a)) ⌝ }
 {

@@ -1,8 +1,8 @@
 // Products.
-ghost use Prim.Native.Nat.{_+_, _<_, _≤_};
+ghost use Prim.Native.Nat.{_+_, _≤_};
 ghost use Rattle.spec_definitions.specs.Polynomials.{mul as mulOf};
 ghost use Rattle.base_polynomial.specs.Whole.{poly, Held, Is};
-ghost use Rattle.base_field.specs.Named.{ops};
+ghost use Rattle.base_field.specs.Named.{ops, IsField};
 use crate::Poly;
 use base_field::Field;
 use base_places::linear::top;
@@ -13,7 +13,7 @@ pub use base_places::product::terms;
 
 // The product, where it has at most 129 coefficients.
 pub fn mul(f: Field, a: Poly, b: Poly) -> Poly
-    requires { ⌜ (f .q < 4096) × (a .size + b .size ≤ 130) ⌝ }
+    requires { ⌜ IsField f × (a .size + b .size ≤ 130) ⌝ }
     requires { ⌜ Held f a ⌝ }
     requires { ⌜ Held f b ⌝ }
     ensures { λ r. ⌜ Is f r (mulOf (ops f) (poly a) (poly b)) ⌝ }

@@ -1,5 +1,4 @@
 // The call `lookup`: the record of a listing at a distance, as a part of the caller's own list.
-use base_counters::Distance;
 ghost use mathlib.Core.Path.{_≡_};
 ghost use mathlib.Core.Bool.{true, false, not};
 ghost use Prim.Native.Nat.{_+_, _*_, _-_, _<_, _≤_};
@@ -10,9 +9,10 @@ ghost use Rattle.spec_definitions.specs.Lookup.{recordKinds, rightKinds, rising
 ghost use Rattle.call_lookup.specs.Kinds.{kindsOk};
 ghost use Rattle.call_lookup.specs.Records.{Records};
 ghost use Rattle.call_lookup.specs.Passes.{distanceFrom};
-
-// The number of values of a word: the 4 bits above them are its kind.
-const VALUES: u32 = 268435456;
+use base_counters::Distance;
+use base_words::joined;
+use base_words::kind;
+use base_words::value;
 
 // Whether n is even and 2 to 64.
 fn degree_ok(n: u64) -> bool
@@ -54,7 +54,7 @@ fn record_kinds_ok(list: &[u32], at: usize, n: usize) -> bool
 {
     let mut j: usize = 0;
     while j < n + 4 {
-        if !kind_ok(n, j, list[at + j] / VALUES) {
+        if !kind_ok(n, j, kind(list[at + j])) {
             return false;
         }
         j += 1;
@@ -78,11 +78,11 @@ fn kinds_ok(list: &[u32], n: usize) -> bool
 }
 
 // The distance in the record that starts at at.
-fn distance_at(list: &[u32], at: usize) -> u64
+fn distance_at(list: &[u32], at: usize) -> Distance
     requires { ⌜ at + 2 < length (now list) ⌝ }
-    ensures { λ r. ⌜ r ≡ distanceFrom (now (list .entry)) at ⌝ }
+    ensures { λ r. ⌜ r .0 ≡ distanceFrom (now (list .entry)) at ⌝ }
 {
-    (list[at + 1] % VALUES) as u64 * VALUES as u64 + (list[at + 2] % VALUES) as u64
+    Distance(joined(value(list[at + 1]), value(list[at + 2])))
 }
 
 // Whether each distance is above the one before it.
@@ -92,7 +92,9 @@ fn rising(list: &[u32], n: usize) -> bool
 {
     let mut at: usize = 0;
     while at + (n + 4) < list.len() {
-        if distance_at(list, at + (n + 4)) <= distance_at(list, at) {
+        let next = distance_at(list, at + (n + 4));
+        let here = distance_at(list, at);
+        if next.0 <= here.0 {
             return false;
         }
         at += n + 4;
@@ -117,20 +119,22 @@ fn listing_ok(list: &[u32], n: u64) -> bool
     if !kinds_ok(list, degree) {
         return false;
     }
-    if distance_at(list, 0) != 0 {
+    let first = distance_at(list, 0);
+    if first.0 != 0 {
         return false;
     }
     rising(list, degree)
 }
 
 // Where the last record with distance at most y starts, in words: from the end down, to the first record at 0.
-fn last_within(list: &[u32], n: usize, y: u64) -> usize
+fn last_within(list: &[u32], n: usize, y: Distance) -> usize
     requires { ⌜ Records (now list) n ⌝ }
-    ensures { λ r. ⌜ r ≡ lastWithin (now (list .entry)) n y (recordCount (now (list .entry)) n - 1) * (n + 4) ⌝ }
+    ensures { λ r. ⌜ r ≡ lastWithin (now (list .entry)) n (y .0) (recordCount (now (list .entry)) n - 1) * (n + 4) ⌝ }
 {
     let mut at: usize = list.len() - (n + 4);
     while 0 < at {
-        if distance_at(list, at) <= y {
+        let here = distance_at(list, at);
+        if here.0 <= y.0 {
             return at;
         }
         at -= n + 4;
@@ -156,7 +160,7 @@ pub fn place(list: &[u32], n: u64, y: Distance) -> Part
         };
     }
     let degree = n as usize;
-    let offset = last_within(list, degree, y.0);
+    let offset = last_within(list, degree, y);
     let length = degree + 4;
     Part { offset, length }
 }

@@ -3,9 +3,9 @@ ghost use Prim.Native.Nat.{_+_, _<_, _≤_};
 ghost use Rattle.spec_bridge.specs.Prime.{Prime};
 ghost use Rattle.base_polynomial.specs.Whole.{Held};
 use base_field::Field;
-use base_field::LARGEST;
-use base_polynomial::Poly;
+use base_field::field_of;
 use libc::STDOUT_FILENO;
+use base_polynomial::Poly;
 
 // n coefficients from a linear congruence that starts at `seed`.
 fn sample(f: Field, seed: u32, n: usize) -> Poly
@@ -112,11 +112,7 @@ fn run(q: u32, m: usize, n: usize, seed: u32)
     requires { ⌜ (m ≤ 65) × (n ≤ 65) × (seed < 1000) ⌝ }
 {
     if base_field::primes::is_odd_prime(q) {
-        let f = Field {
-            q,
-            reciprocal: LARGEST / q,
-        };
-        samples(f, m, n, seed);
+        samples(field_of(q), m, n, seed);
     }
 }
 

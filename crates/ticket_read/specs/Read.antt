@@ -1,100 +1,70 @@
 -- What any list of words is read as: the number of the first refusal with the ticket, whose values are all zero where it is refused.
-use Prim.Native.Nat.{ℕ, zero, suc, _+_, _≤_, _<_}
+use Prim.Native.Nat.{ℕ, zero, suc}
 use native.Mathlib.Omega.{arith}
-use mathlib.Core.Path.{_≡_, refl, sym, ap, _∙_, subst}
+use mathlib.Core.Path.{_≡_, refl, sym, ap, _∙_, subst, subst₂}
 use mathlib.Core.List.{List, []}
-use lib.ListN.{length, getD}
-use Rattle.spec_definitions.specs.Words.{value}
-use Rattle.spec_definitions.specs.Ticket.{Ticket, ticketOf, wrongPrime, wrongDegree, wrongLayout, refusalOf}
-use Rattle.spec_laws.specs.Admitted.{passed, prime-of}
-use Rattle.base_polynomial.specs.Record.{Is}
-use Rattle.ticket_tests.specs.Radicand.{coefficients}
-use Rattle.ticket_tests.specs.Refusal.{head-long, degree-most, layout-length}
+use Rattle.spec_definitions.specs.Field.{FieldName, prime}
+use Rattle.spec_definitions.specs.Ticket.{Ticket, ticket, ticketOf, refusalOf}
+use Rattle.base_field.specs.Named.{name, IsField}
+use Rattle.base_polynomial.specs.declared.Poly.{Poly}
+use Rattle.base_polynomial.specs.Over as over
+use Rattle.base_polynomial.specs.Whole.{Is}
+use Rattle.base_field.specs.declared.Field.{Field}
+use Rattle.ticket_read.specs.declared.Ticket.{Ticket as Said}
 
 pub record Read : Type 0 where
   pub number : ℕ
   pub ticket : Ticket
 
-abbrev pub zeroTicket : Ticket
-zeroTicket = record { q = 0; n = 0; D = []; b = 0 }
-
 -- the ticket t where nothing refuses it
 unfoldable pub unless : ℕ → Ticket → Ticket
 unless zero t = t
-unless (suc k) t = zeroTicket
+unless (suc k) t = ticket (prime 0) 0 [] 0
 
-unfoldable pub readOf : List ℕ → Read
-readOf w = record { number = refusalOf w; ticket = unless (refusalOf w) (ticketOf w) }
+-- a ticket refused by the number k, or not where it is 0
+abbrev pub read : ℕ → Ticket → Read
+read k t = record { number = k; ticket = unless k t }
 
--- the values are those of the reading r, with D as a record of 129 places
-pub record Stands (r : Read) (number q n : ℕ) (c : List ℕ) (size b : ℕ) : Type 0 where
-  pub number-is : number ≡ r .number
-  pub q-is : q ≡ r .ticket .q
-  pub n-is : n ≡ r .ticket .n
-  pub D-is : Is q c size (r .ticket .D)
-  pub b-is : b ≡ r .ticket .b
+abbrev pub readOf : List ℕ → Read
+readOf w = read (refusalOf w) (ticketOf w)
 
-unless-none : (k : ℕ) (t : Ticket) → k ≡ 0 → unless k t ≡ t
+-- the values are those of the reading r; where it is accepted the field is one
+pub record Stands (r : Read) (t : Said) : Type 0 where
+  pub number-is : t .number ≡ r .number
+  pub field-is : name (t .field) ≡ r .ticket .field
+  pub n-is : t .n ≡ r .ticket .n
+  pub D-is : Is (t .field) (t .radicand) (r .ticket .D)
+  pub b-is : t .budget ≡ r .ticket .b
+  pub is-field : t .number ≡ 0 → IsField (t .field)
+
+-- whatever the ticket is, k refuses it
+abbrev pub Refused : ℕ → Said → Type 0
+Refused k r = (t : Ticket) → Stands (read k t) r
+
+pub unless-none : (k : ℕ) (t : Ticket) → k ≡ 0 → unless k t ≡ t
 unfolding unless
 unless-none zero t e = refl
 unless-none (suc k) t e = absurd (omega arith)
 
-unless-some : (k : ℕ) (t : Ticket) → (k ≡ 0 → ⊥) → unless k t ≡ zeroTicket
+-- another name for the same reading
+pub stands-path : {k j : ℕ} {t u : Ticket} {r : Said} → k ≡ j → t ≡ u → Stands (read k t) r → Stands (read j u) r
+stands-path {r = r} e f s = subst₂ (λ (k : ℕ) (t : Ticket). Stands (read k t) r) e f s
+
+-- a refusal's zeros
+pub stands-refused : (k : ℕ) → (k ≡ 0 → ⊥) → {d : Poly} → ((f : FieldName) → over.Is f d []) → Refused k (record { number = k; field = record { q = 0; reciprocal = 0 }; n = 0; radicand = d; budget = 0 })
 unfolding unless
-unless-some zero t h = absurd (h refl)
-unless-some (suc k) t h = refl
+stands-refused zero h z t = absurd (h refl)
+stands-refused (suc k) h z t = record { number-is = refl; field-is = refl; n-is = refl; D-is = z (prime 0); b-is = refl; is-field = λ e. absurd (omega arith) }
 
-module _ (w : List ℕ) where
-  pub read-number : readOf w .number ≡ refusalOf w
-  unfolding readOf
-  read-number = refl
-
-  pub read-accepted : refusalOf w ≡ 0 → readOf w .ticket ≡ ticketOf w
-  unfolding readOf
-  read-accepted e = unless-none (refusalOf w) (ticketOf w) e
-
-  pub read-refused : (refusalOf w ≡ 0 → ⊥) → readOf w .ticket ≡ zeroTicket
-  unfolding readOf
-  read-refused h = unless-some (refusalOf w) (ticketOf w) h
-
-  module _ (k : ℕ) (k-is : k ≡ refusalOf w) where
-    pub stands-refused : (k ≡ 0 → ⊥) → (c : List ℕ) (size : ℕ) → Is 0 c size [] → Stands (readOf w) k 0 0 c size 0
-    stands-refused h c size is =
-        let e : readOf w .ticket ≡ zeroTicket = read-refused (λ z. h (k-is ∙ z)) in
-        record {
-          number-is = k-is ∙ sym read-number;
-          q-is = ap (λ (t : Ticket). t .q) (sym e);
-          n-is = ap (λ (t : Ticket). t .n) (sym e);
-          D-is = subst (λ (t : Ticket). Is 0 c size (t .D)) (sym e) is;
-          b-is = ap (λ (t : Ticket). t .b) (sym e);
-        }
-
-    -- the words that are read are there
-    pub long : k ≡ 0 → 7 ≤ length w
-    long none = head-long w (passed w (sym k-is ∙ none) .head)
-
-    -- q is not 0
-    pub some-q : k ≡ 0 → (q : ℕ) → q ≡ value (getD w 0 0) → 0 < q
-    unfolding ticketOf
-    some-q none q q-is = let p = prime-of q (ap wrongPrime q-is ∙ passed w (sym k-is ∙ none) .prime) in let two = p .prime .two in omega arith
-
-    module _ (none : k ≡ 0) (n : ℕ) (n-is : n ≡ value (getD w 1 0)) where
-      pub most : n ≤ 64
-      unfolding ticketOf
-      most = degree-most n (ap wrongDegree n-is ∙ passed w (sym k-is ∙ none) .degree)
-
-      pub full : length w ≡ n + 5
-      unfolding ticketOf
-      full = layout-length n w (ap (λ (m : ℕ). wrongLayout m w) n-is ∙ passed w (sym k-is ∙ none) .layout)
-
-      pub stands-accepted : (q b : ℕ) (c : List ℕ) (size : ℕ) → q ≡ value (getD w 0 0) → Is q c size (coefficients n w) → b ≡ value (getD w (n + 3) 0) → Stands (readOf w) k q n c size b
-      unfolding ticketOf
-      stands-accepted q b c size q-is is b-is =
-          let e : readOf w .ticket ≡ ticketOf w = read-accepted (sym k-is ∙ none) in
-          record {
-            number-is = k-is ∙ sym read-number;
-            q-is = q-is ∙ ap (λ (t : Ticket). t .q) (sym e);
-            n-is = n-is ∙ ap (λ (t : Ticket). t .n) (sym e);
-            D-is = subst (λ (t : Ticket). Is q c size (t .D)) (sym e) (subst (λ (m : ℕ). Is q c size (coefficients m w)) n-is is);
-            b-is = b-is ∙ ap (λ (m : ℕ). value (getD w (m + 3) 0)) n-is ∙ ap (λ (t : Ticket). t .b) (sym e);
-          }
+-- the values of a ticket that is accepted
+pub stands-accepted : {f : Field} → IsField f → {n : ℕ} {d : Poly} {D : List ℕ} → Is f d D → {b c : ℕ} → b ≡ c → {k : ℕ} → 0 ≡ k → Stands (read k (ticket (name f) n D c)) (record { number = 0; field = f; n = n; radicand = d; budget = b })
+stands-accepted {f} h {n} {d} {D} is {b} {c} e {k} z =
+    let s = unless-none k (ticket (name f) n D c) (sym z) in
+    record {
+      number-is = z;
+      field-is = ap (λ (t : Ticket). t .field) (sym s);
+      n-is = ap (λ (t : Ticket). t .n) (sym s);
+      D-is = subst (λ (t : Ticket). Is f d (t .D)) (sym s) is;
+      b-is = e ∙ ap (λ (t : Ticket). t .b) (sym s);
+      is-field = λ z. h;
+    }

@@ -1,21 +1,26 @@
 // The job ticket: any words are read as a field, a degree, the polynomial D and a budget, or refused by the number of the first test that applies.
 
 ghost use mathlib.Core.Path.{_≡_};
-ghost use Rattle.spec_definitions.specs.Ticket.{refusalOf};
-ghost use Rattle.ticket_read.specs.Read.{readOf, Stands};
+ghost use Prim.Native.Nat.{_+_, _<_, _≤_};
+ghost use lib.ListN.{length, getD};
+ghost use Rattle.spec_definitions.specs.Words.{value as valueOf};
+ghost use Rattle.spec_definitions.specs.Ticket.{ticket, firstOf};
+ghost use Rattle.base_field.specs.Named.{name, IsField};
+ghost use Rattle.ticket_tests.specs.Radicand.{coefficients};
+ghost use Rattle.ticket_tests.specs.Refusal.{radicandTests};
+ghost use Rattle.ticket_read.specs.Read.{read, readOf, Stands, Refused};
 use base_field::Field;
-use base_field::LARGEST;
-use base_field::primes::is_odd_prime;
+use base_field::field_of;
 use base_polynomial::Poly;
 use base_polynomial::linear::zero;
-use ticket_tests::head::wrong_degree;
+use base_words::value;
 use ticket_tests::head::wrong_head;
-use ticket_tests::layout::wrong_layout;
+use ticket_tests::order::layout_refusal;
 use ticket_tests::radicand::radicand;
 use ticket_tests::radicand::radicand_refusal;
-use ticket_tests::words::value;
 
-// What a ticket says. `number` is that of the first refusal, 1 to 7, with all other values zero, or 0.
+// What a ticket says. Invariant (`Stands`): `number` is that of the first refusal, 1 to 7, with all other values zero, or 0;
+// then the field is one, and D has the ticket's coefficients.
 pub struct Ticket {
     pub number: u32,
     pub field: Field,
@@ -24,62 +29,55 @@ pub struct Ticket {
     pub budget: u64,
 }
 
-// Tested in this order; the first that applies is returned, 0 where none does.
-fn refusal(words: &[u32]) -> u32
-    ensures { λ r. ⌜ r ≡ refusalOf (now (words .entry)) ⌝ }
+// A refusal, with zeros.
+fn refused(number: u32) -> Ticket
+    requires { ⌜ 0 < number ⌝ }
+    ensures { λ r. ⌜ Refused number r ⌝ }
 {
-    if wrong_head(words) {
-        return 1;
+    Ticket {
+        number,
+        field: Field {
+            q: 0,
+            reciprocal: 0,
+        },
+        n: 0,
+        radicand: zero(),
+        budget: 0,
     }
-    let q = value(words[0]);
-    if !is_odd_prime(q) {
-        return 2;
-    }
-    let n = value(words[1]) as usize;
-    if wrong_degree(n) {
-        return 3;
-    }
-    if wrong_layout(n, words) {
-        return 4;
-    }
+}
+
+// D and the budget, from words that passed the tests 1 to 4; the tests 5 to 7 on D.
+fn read_radicand(f: Field, n: usize, words: &[u32]) -> Ticket
+    requires { ⌜ IsField f × (n ≤ 64) × (length (now words) ≡ n + 5) ⌝ }
+    ensures { λ r. ⌜ Stands (read (firstOf (radicandTests (name f) n (coefficients n (now (words .entry))))) (ticket (name f) n (coefficients n (now (words .entry))) (valueOf (getD (now (words .entry)) (n + 3) 0)))) r ⌝ }
+{
     let d = radicand(n, words);
-    let field = Field {
-        q,
-        reciprocal: LARGEST / q,
-    };
-    radicand_refusal(field, n, d)
+    let number = radicand_refusal(f, n, d);
+    if number != 0 {
+        return refused(number);
+    }
+    let budget = value(words[n + 3]) as u64;
+    Ticket {
+        number: 0,
+        field: f,
+        n,
+        radicand: d,
+        budget,
+    }
 }
 
 // The ticket that words of any number and any values say.
 pub fn read_ticket(words: &[u32]) -> Ticket
-    ensures { λ r. ⌜ Stands (readOf (now (words .entry))) (r .number) (r .field .q) (r .n) (r .radicand .c) (r .radicand .size) (r .budget) ⌝ }
+    ensures { λ r. ⌜ Stands (readOf (now (words .entry))) r ⌝ }
 {
-    let number = refusal(words);
-    if number != 0 {
-        return Ticket {
-            number,
-            field: Field {
-                q: 0,
-                reciprocal: 0,
-            },
-            n: 0,
-            radicand: zero(),
-            budget: 0,
-        };
+    if wrong_head(words) {
+        return refused(1);
     }
     let q = value(words[0]);
     let n = value(words[1]) as usize;
-    let radicand = radicand(n, words);
-    let budget = value(words[n + 3]) as u64;
-    let field = Field {
-        q,
-        reciprocal: LARGEST / q,
-    };
-    Ticket {
-        number,
-        field,
-        n,
-        radicand,
-        budget,
+    let number = layout_refusal(q, n, words);
+    if number != 0 {
+        return refused(number);
     }
+    read_radicand(field_of(q), n, words)
 }

@@ -6,35 +6,34 @@ use mathlib.Core.Bool.{not}
 use mathlib.Core.List.{List}
 use lib.Dec.{eqb}
 use lib.ListN.{length}
-use Rattle.spec_definitions.specs.Field.{modulo}
+use Rattle.spec_definitions.specs.Field.{FieldName, ops}
 use Rattle.spec_definitions.specs.Polynomials.{trim, size, gcd, derivative}
 use Rattle.spec_definitions.specs.Ticket.{notSquarefree}
 use Rattle.spec_bridge.specs.Prime.{Prime}
 use Rattle.spec_bridge.specs.Residues.{model, inverts}
 use Rattle.spec_bridge.specs.Derivative.{trim-derivative, oks-derivative, length-derivative}
 use Rattle.spec_bridge.specs.Bezout.{trim-gcd}
-use Rattle.base_polynomial.specs.Record.{poly, Held, Is}
-use Rattle.base_polynomial.specs.Held.{held-positive, is-held, is-poly}
-use Rattle.base_polynomial.specs.Result.{held-size}
+use Rattle.base_polynomial.specs.declared.Poly.{Poly}
+use Rattle.base_polynomial.specs.Over.{poly, Held, Is, Result, result, held-positive, held-size}
 
-module _ (q : ℕ) (a : List ℕ) (m : ℕ) (held-a : Held q a m) (c : List ℕ) (n : ℕ) (is : Is q c n (derivative (modulo q) (poly a m))) where
-  pos : 0 < q
-  pos = held-positive q a m held-a
+module _ {f : FieldName} {d : Poly} (held : Held f d) {e : Poly} (is : Is f e (derivative (ops f) (poly d))) where
+  pos : 0 < f .q
+  pos = held-positive held
 
-  short : length (derivative (modulo q) (poly a m)) ≤ 129
-  short =
-      let s : m ≤ 129 = held-a .short in
-      let e : length (trim (modulo q) (poly a m)) ≡ m = held-size q a m held-a in
-      let l : length (derivative (modulo q) (poly a m)) ≤ length (trim (modulo q) (poly a m)) - 1 = length-derivative (model q pos) (poly a m) in
-      omega arith
+  derivative-result : Result f e (derivative (ops f) (poly d))
+  derivative-result =
+      let s = held .short in
+      let z = held-size held in
+      let l = length-derivative (model (f .q) pos) (poly d) in
+      result is (omega arith) (trim-derivative (model (f .q) pos) (poly d)) (oks-derivative (model (f .q) pos) (poly d))
 
-  pub held-derivative : Held q c n
-  held-derivative = is-held q c n _ is short (trim-derivative (model q pos) (poly a m)) (oks-derivative (model q pos) (poly a m))
+  pub held-derivative : Held f e
+  held-derivative = derivative-result .held
 
-  pub not-squarefree-test : Prime q → (g : List ℕ) (k : ℕ) → Is q g k (gcd (modulo q) (poly a m) (poly c n)) → not (eqb k 1) ≡ notSquarefree q (poly a m)
+  pub not-squarefree-test : Prime (f .q) → {g : Poly} → Is f g (gcd (ops f) (poly d) (poly e)) → not (eqb (g .size) 1) ≡ notSquarefree f (poly d)
   unfolding notSquarefree size
-  not-squarefree-test p g k r =
+  not-squarefree-test p r =
       ap (λ (s : ℕ). not (eqb s 1))
       (r .size-is
-      ∙ ap (λ (l : List ℕ). length (gcd (modulo q) (poly a m) l)) (is-poly q c n _ is short)
-      ∙ ap length (sym (trim-gcd (model q pos) (inverts q pos p) (poly a m) (derivative (modulo q) (poly a m)))))
+      ∙ ap (λ (l : List ℕ). length (gcd (ops f) (poly d) l)) (derivative-result .is)
+      ∙ ap length (sym (trim-gcd (model (f .q) pos) (inverts (f .q) pos p) (poly d) (derivative (ops f) (poly d)))))

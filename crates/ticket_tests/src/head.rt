@@ -1,11 +1,12 @@
 // The first two words: their kinds, and which n are allowed.
 ghost use mathlib.Core.Path.{_≡_};
+ghost use mathlib.Core.List.{[], _∷_};
 ghost use Rattle.spec_definitions.specs.Ticket.{wrongHead, wrongDegree};
-use crate::words::kind;
+use base_words::kind;
 
 // Fewer than 7 words, or word 0 isn't kind 1, or word 1 isn't kind 2.
 pub fn wrong_head(words: &[u32]) -> bool
-    ensures { λ r. ⌜ r ≡ wrongHead (now (words .entry)) ⌝ }
+    ensures { λ r. ⌜ r ≡ wrongHead (1 ∷ []) (now (words .entry)) ⌝ }
 {
     if words.len() < 7 {
         return true;

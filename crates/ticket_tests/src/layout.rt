@@ -6,8 +6,8 @@ ghost use Prim.Native.Nat.{_+_, _<_, _≤_};
 ghost use lib.ListN.{length, getD, drop};
 ghost use Rattle.spec_definitions.specs.Words.{kind as kindOf, same};
 ghost use Rattle.spec_definitions.specs.Ticket.{laterKinds, wrongLayout};
-use crate::words::kind;
-use crate::words::value;
+use base_words::kind;
+use base_words::value;
 
 // The kind of the word i places after the first two: n + 1 coefficients, the budget, the end.
 fn later_kind(n: usize, i: usize) -> u32

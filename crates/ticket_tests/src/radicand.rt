@@ -1,23 +1,24 @@
 // The polynomial D: its coefficients read from the words, and the tests on them.
 ghost use mathlib.Core.Path.{_≡_};
-ghost use Prim.Native.Nat.{ℕ, _+_, _<_, _≤_};
+ghost use Prim.Native.Nat.{_+_, _<_, _≤_};
 ghost use lib.ListN.{length};
+ghost use Rattle.spec_definitions.specs.Field.{FieldName};
 ghost use Rattle.spec_definitions.specs.Ticket.{wrongCoefficient, wrongLead, notSquarefree, firstOf};
-ghost use Rattle.spec_bridge.specs.Prime.{Prime};
-ghost use Rattle.base_polynomial.specs.Record.{Is as IsAt};
+ghost use Rattle.base_field.specs.Named.{name, IsField};
+ghost use Rattle.base_polynomial.specs.Over as over;
 ghost use Rattle.base_polynomial.specs.Whole.{poly, Held, Is};
 ghost use Rattle.ticket_tests.specs.Radicand.{coefficients};
 ghost use Rattle.ticket_tests.specs.Refusal.{radicandTests};
-use crate::words::value;
 use base_field::Field;
 use base_polynomial::Poly;
 use base_polynomial::gcd::gcd;
 use base_polynomial::linear::derivative;
+use base_words::value;
 
 // The values of the n + 1 words after the first two.
 pub fn radicand(n: usize, words: &[u32]) -> Poly
     requires { ⌜ (n ≤ 64) × (n + 3 ≤ length (now words)) ⌝ }
-    ensures { λ r. ⌜ ((q : ℕ) → IsAt q (r .c) (r .size) (coefficients n (now (words .entry)))) ⌝ }
+    ensures { λ r. ⌜ ((f : FieldName) → over.Is f r (coefficients n (now (words .entry)))) ⌝ }
 {
     let mut c = [0u32; 129];
     let mut i: usize = 0;
@@ -30,8 +31,8 @@ pub fn radicand(n: usize, words: &[u32]) -> Poly
 
 // A coefficient is q or more.
 fn wrong_coefficient(f: Field, d: Poly) -> bool
-    requires { ⌜ (0 < f .q) × (d .size ≤ 129) ⌝ }
-    ensures { λ r. ⌜ r ≡ wrongCoefficient (f .q) (poly d) ⌝ }
+    requires { ⌜ IsField f × (d .size ≤ 129) ⌝ }
+    ensures { λ r. ⌜ r ≡ wrongCoefficient (name f) (poly d) ⌝ }
 {
     let c = d.c;
     let size = d.size;
@@ -56,9 +57,9 @@ fn wrong_lead(n: usize, d: Poly) -> bool
 
 // The square of some polynomial of degree 1 or more divides D: gcd(D, D′) is not constant.
 fn not_squarefree(f: Field, d: Poly) -> bool
-    requires { ⌜ Prime (f .q) × (f .q < 4096) ⌝ }
+    requires { ⌜ IsField f ⌝ }
     requires { ⌜ Held f d ⌝ }
-    ensures { λ r. ⌜ r ≡ notSquarefree (f .q) (poly d) ⌝ }
+    ensures { λ r. ⌜ r ≡ notSquarefree (name f) (poly d) ⌝ }
 {
     let e = derivative(f, d);
     let g = gcd(f, d, e);
@@ -67,10 +68,10 @@ fn not_squarefree(f: Field, d: Poly) -> bool
 
 // The first of the tests 5, 6 and 7 that applies, 0 where none does.
 pub fn radicand_refusal(f: Field, n: usize, d: Poly) -> u32
-    requires { ⌜ Prime (f .q) × (f .q < 4096) ⌝ }
+    requires { ⌜ IsField f ⌝ }
     requires { ⌜ (n ≤ 64) × (d .size ≡ n + 1) ⌝ }
     requires { ⌜ Is f d (poly d) ⌝ }
-    ensures { λ r. ⌜ r ≡ firstOf (radicandTests (f .q) n (poly d)) ⌝ }
+    ensures { λ r. ⌜ r ≡ firstOf (radicandTests (name f) n (poly d)) ⌝ }
 {
     if wrong_coefficient(f, d) {
         return 5;

@@ -45,7 +45,7 @@ inverse-inverse-requires t c κs =
     let s = c .before .args in
     let z : 0 < s .a = omega arith in
     let h : s .f .q % s .a < s .a = mod-lt (s .f .q) z in
-    (omega arith, (omega arith, omega arith))
+    (omega arith, (c .before .pre .1 .0, omega arith))
 
 inverse-mul-result :
     (t : ℕ) →

@@ -11,7 +11,7 @@ use Rattle.call_lookup.proofs.last_within.Statement.{statement}
 use Rattle.call_lookup.proofs.last_within.Tie as tie
 
 abbrev Inv-loop : tie.InvT-loop
-Inv-loop list n y at₀ at = (at + (n + 4) ≤ length list) × Allowed n × Down list n y at
+Inv-loop list n y at₀ at = (at + (n + 4) ≤ length list) × Allowed n × Down list n (y .0) at
 
 abbrev μ-loop : tie.MeasureT-loop
 μ-loop list n y at₀ at = at
@@ -33,22 +33,22 @@ distance-at-requires c κs = search needs
 
 returns : tie.Need-returns Inv-loop μ-loop
 returns c =
-    let e = c .before .distance-at .ensures in
-    down-found _ _ _ _ (omega arith) (c .before .before .before .loop .inv .2) (omega arith)
+    let e = c .before .before .before .distance-at .ensures in
+    down-found _ _ _ _ (omega arith) (c .before .before .before .before .before .loop .inv .2) (omega arith)
 
 add-at-2 : tie.Need-add-at-2 Inv-loop μ-loop
 add-at-2 c = omega arith
 
 sub-at-2 : tie.Need-sub-at-2 Inv-loop μ-loop
-sub-at-2 c = down-size _ _ _ _ (omega arith) (c .before .before .before .loop .inv .2)
+sub-at-2 c = down-size _ _ _ _ (omega arith) (c .before .before .before .before .before .loop .inv .2)
 
 loop-less : tie.Need-loop-less Inv-loop μ-loop
-loop-less c = let h = down-size _ _ _ _ (omega arith) (c .before .before .before .loop .inv .2) in omega arith
+loop-less c = let h = down-size _ _ _ _ (omega arith) (c .before .before .before .before .before .loop .inv .2) in omega arith
 
 loop-again : tie.Need-loop-again Inv-loop μ-loop
 loop-again c =
-    let l = c .before .before .before .loop in
-    let e = c .before .distance-at .ensures in
+    let l = c .before .before .before .before .before .loop in
+    let e = c .before .before .before .distance-at .ensures in
     let h = down-size _ _ _ _ (omega arith) (l .inv .2) in
     (omega arith, l .inv .1, down-more _ _ _ _ (omega arith) (l .inv .2) (omega arith))
 

@@ -47,16 +47,16 @@ distance-at-requires c κs = let f = first-fits _ _ (records (c .before .before)
 
 returns-5 : tie.Need-returns-5
 returns-5 c =
-    let e = c .before .distance-at .ensures in
-    sym (ap not (refused-first _ _ (records (c .before .before .before .before)) (sym (c .before .before .before .kinds-ok .ensures) ∙ not-false _ (c .before .before .if4 .left)) (λ z. c .if5 .taken (e ∙ z))))
+    let e = c .before .before .distance-at .ensures in
+    sym (ap not (refused-first _ _ (records (c .before .before .before .before .before)) (sym (c .before .before .before .before .kinds-ok .ensures) ∙ not-false _ (c .before .before .before .if4 .left)) (λ z. c .if5 .taken (e ∙ z))))
 
 rising-requires : tie.Need-rising-requires
-rising-requires c κs = records (c .before .before .before .before)
+rising-requires c κs = records (c .before .before .before .before .before)
 
 returns-6 : tie.Need-returns-6
 returns-6 c =
-    let k = c .before .before .before .before in
-    c .rising .ensures ∙ sym (rest-rising _ _ (records (k .before)) (sym (k .kinds-ok .ensures) ∙ not-false _ (c .before .before .before .if4 .left)) (sym (c .before .before .distance-at .ensures) ∙ c .before .if5 .left))
+    let k = c .before .before .before .before .before in
+    c .rising .ensures ∙ sym (rest-rising _ _ (records (k .before)) (sym (k .kinds-ok .ensures) ∙ not-false _ (c .before .before .before .before .if4 .left)) (sym (c .before .before .before .distance-at .ensures) ∙ c .before .if5 .left))
 
 pub listing-ok-spec : {M : Type 1} → statement M
 listing-ok-spec =

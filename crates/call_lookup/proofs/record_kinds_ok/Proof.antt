@@ -24,23 +24,26 @@ loop-holds c = (search needs, allowed _ (c .before .pre .0), λ k h. absurd (ome
 add-loop : tie.Need-add-loop Inv-loop μ-loop
 add-loop c = search needs
 
-add-kind-ok : tie.Need-add-kind-ok Inv-loop μ-loop
-add-kind-ok c = search needs
+add-kind : tie.Need-add-kind Inv-loop μ-loop
+add-kind c = search needs
 
-mul-kind-ok : tie.Need-mul-kind-ok Inv-loop μ-loop
-mul-kind-ok c = search needs
+mul-kind : tie.Need-mul-kind Inv-loop μ-loop
+mul-kind c = search needs
 
-shared-slice-read-kind-ok : tie.Need-shared-slice-read-kind-ok Inv-loop μ-loop
-shared-slice-read-kind-ok c = search needs
+shared-slice-read-kind : tie.Need-shared-slice-read-kind Inv-loop μ-loop
+shared-slice-read-kind c = search needs
+
+kind-requires : tie.Need-kind-requires Inv-loop μ-loop
+kind-requires c κs = search needs
 
 kind-ok-requires : tie.Need-kind-ok-requires Inv-loop μ-loop
 kind-ok-requires c κs = search needs
 
 returns : tie.Need-returns Inv-loop μ-loop
-unfolding kind
 returns c =
-    let s = c .before .before .before .before .before .before in
-    sym (kinds-wrong _ _ _ (s .pre .0) (s .pre .1) (c .before .before .before .before .loop .j) (omega arith) (eqb-false _ _ (sym (c .before .kind-ok .ensures) ∙ not-true _ (c .if1 .taken))))
+    let l = c .before .before .before .before .before in
+    let s = l .before .before in
+    sym (kinds-wrong _ _ _ (s .pre .0) (s .pre .1) (l .loop .j) (omega arith) (λ e. eqb-false _ _ (sym (c .before .kind-ok .ensures) ∙ not-true _ (c .if1 .taken)) (c .before .before .kind .ensures ∙ e)))
 
 add-j : tie.Need-add-j Inv-loop μ-loop
 add-j c = search needs
@@ -49,10 +52,9 @@ loop-less : tie.Need-loop-less Inv-loop μ-loop
 loop-less c = search needs
 
 loop-again : tie.Need-loop-again Inv-loop μ-loop
-unfolding kind
 loop-again c =
-    let l = c .before .before .before .before .loop in
-    (search needs, l .inv .1, below-more _ _ (l .inv .2) (eqb-true _ _ (sym (c .before .kind-ok .ensures) ∙ not-false _ (c .if1 .left))))
+    let l = c .before .before .before .before .before .loop in
+    (search needs, l .inv .1, below-more _ _ (l .inv .2) (sym (c .before .before .kind .ensures) ∙ eqb-true _ _ (sym (c .before .kind-ok .ensures) ∙ not-false _ (c .if1 .left))))
 
 returns-2 : tie.Need-returns-2 Inv-loop μ-loop
 returns-2 c =
@@ -67,9 +69,10 @@ record-kinds-ok-spec =
     μ-loop
     loop-holds
     add-loop
-    add-kind-ok
-    mul-kind-ok
-    shared-slice-read-kind-ok
+    add-kind
+    mul-kind
+    shared-slice-read-kind
+    kind-requires
     kind-ok-requires
     returns
     add-j

@@ -47,10 +47,10 @@ distance-at-requires-2 c κs = search needs
 
 returns : tie.Need-returns Inv-loop μ-loop
 returns c =
-    let s = c .before .before .before .before .before .before in
-    let d = c .before .before .distance-at .ensures in
-    let e = c .before .distance-at2 .ensures in
-    sym (rising-refuse _ _ (s .pre) _ (c .before .before .before .before .loop .inv .2) (omega arith) (omega arith))
+    let s = c .before .before .before .before .before .before .before .before in
+    let d = c .before .before .before .before .distance-at .ensures in
+    let e = c .before .before .before .distance-at2 .ensures in
+    sym (rising-refuse _ _ (s .pre) _ (c .before .before .before .before .before .before .loop .inv .2) (omega arith) (omega arith))
 
 add-at : tie.Need-add-at Inv-loop μ-loop
 add-at c = search needs
@@ -63,10 +63,10 @@ loop-less c = omega arith
 
 loop-again : tie.Need-loop-again Inv-loop μ-loop
 loop-again c =
-    let s = c .before .before .before .before .before .before in
-    let l = c .before .before .before .before .loop in
-    let d = c .before .before .distance-at .ensures in
-    let e = c .before .distance-at2 .ensures in
+    let s = c .before .before .before .before .before .before .before .before in
+    let l = c .before .before .before .before .before .before .loop in
+    let d = c .before .before .before .before .distance-at .ensures in
+    let e = c .before .before .before .distance-at2 .ensures in
     let n = rising-more _ _ (s .pre) _ (l .inv .2) (omega arith) in
     (next-fits _ _ (s .pre) _ (l .inv .2) (omega arith), l .inv .1, n)
 

@@ -11,12 +11,6 @@ use Rattle.test_polynomial.proofs.run.Tie as tie
 is-odd-prime-requires : tie.Need-is-odd-prime-requires
 is-odd-prime-requires c κs = search needs
 
-div-t7 : tie.Need-div-t7
-div-t7 c =
-    let q = c .before .before .args .q in
-    let o = odd-prime-true q (sym (c .before .is-odd-prime .ensures) ∙ c .if1 .taken) in
-    omega (arith, o .prime .two)
-
 samples-requires : tie.Need-samples-requires
 samples-requires c κs =
     let q = c .before .before .args .q in
@@ -31,4 +25,4 @@ returns-2 : tie.Need-returns-2
 returns-2 c = search needs
 
 pub run-spec : {M : Type 1} → statement M
-run-spec = tie.close (tie.spec is-odd-prime-requires div-t7 samples-requires returns returns-2)
+run-spec = tie.close (tie.spec is-odd-prime-requires samples-requires returns returns-2)

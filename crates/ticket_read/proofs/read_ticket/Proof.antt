@@ -1,43 +1,60 @@
--- The number is the refusal's, and where it is 0 the words that are read are there, so that each value is the definition's.
+-- Each test that passes leaves the definition's refusal to the next; the values that are read are the ticket's parts.
 use Prim.Native.Nat.{ℕ, _+_, _≤_}
 use native.Mathlib.Omega.{arith}
-use mathlib.Core.Path.{_≡_}
-use mathlib.Core.List.{List}
-use lib.ListN.{length}
+use mathlib.Core.Path.{_≡_, refl, sym, ap, _∙_}
+use mathlib.Core.Bool.{false}
+use mathlib.Core.List.{List, [], _∷_}
+use lib.ListN.{length, getD}
 use denote.Ref.{now}
 use borrow.Author.Needs.{needs}
-use Rattle.ticket_read.specs.Read.{long, some-q, most, full, stands-refused, stands-accepted}
+use Rattle.spec_definitions.specs.Field.{FieldName, prime}
+use Rattle.spec_definitions.specs.Words.{value}
+use Rattle.spec_definitions.specs.Ticket.{ticket, wrongHead, firstOf}
+use Rattle.spec_laws.specs.Admitted.{field-of}
+use Rattle.base_field.specs.Named.{IsField, made}
+use Rattle.ticket_tests.specs.Radicand.{coefficients}
+use Rattle.ticket_tests.specs.Refusal.{radicandTests, LaidOut, laid-out, refused-1, refused-by-layout, refused-by-radicand, ticket-parts, head-long, degree-most, layout-length}
+use Rattle.ticket_read.specs.Read.{stands-path}
 use Rattle.ticket_read.proofs.read_ticket.Statement.{statement}
 use Rattle.ticket_read.proofs.read_ticket.Tie as tie
 
--- ---- n and the words, where the number is 0
-abbrev ws : tie.After-value2 → List ℕ
-ws c = now (c .before .before .before .before .before .before .before .args .words)
+-- ---- what the tests that passed say
+abbrev ws : tie.Else1 → List ℕ
+ws c = now (c .before .before .before .args .words)
 
-most-of : (c : tie.After-value2) → c .value2 .result ≤ 64
-most-of c = most (ws c) _ (c .before .before .before .before .before .refusal .ensures) (c .before .before .before .before .if1 .left) _ (c .value2 .ensures)
+head-passed : (c : tie.Else1) → wrongHead (1 ∷ []) (ws c) ≡ false
+head-passed c = sym (c .before .wrong-head .ensures) ∙ c .if1 .left
 
-full-of : (c : tie.After-value2) → length (ws c) ≡ c .value2 .result + 5
-full-of c = full (ws c) _ (c .before .before .before .before .before .refusal .ensures) (c .before .before .before .before .if1 .left) _ (c .value2 .ensures)
+long : (c : tie.Else1) → 7 ≤ length (ws c)
+long c = head-long _ (head-passed c)
+
+abbrev heads : tie.After-value2 → tie.Else1
+heads c = c .before .before .before .before
+
+laid : (c : tie.Else2) → LaidOut (c .before .before .before .before .value .result) (c .before .before .value2 .result) (ws (heads (c .before .before)))
+laid c = laid-out _ _ _ (sym (c .before .layout-refusal .ensures) ∙ c .if2 .left)
+
+made-field : (c : tie.After-field-of) → IsField (c .field-of .result)
+made-field c = made (field-of _ (laid (c .before) .prime)) (c .field-of .ensures)
 
 -- ---- the needs
-refusal-requires : tie.Need-refusal-requires
-refusal-requires c κs = search needs
+wrong-head-requires : tie.Need-wrong-head-requires
+wrong-head-requires c κs = search needs
 
-zero-requires : tie.Need-zero-requires
-zero-requires c κs = search needs
+refused-requires : tie.Need-refused-requires
+refused-requires c κs = search needs
 
 returns : tie.Need-returns
-returns c = stands-refused _ _ (c .before .before .refusal .ensures) (c .before .if1 .taken) _ _ (c .zero .ensures 0)
+returns c = stands-path (sym (refused-1 _ (sym (c .before .before .wrong-head .ensures) ∙ c .before .if1 .taken))) refl (c .refused .ensures _)
 
 shared-slice-read-value : tie.Need-shared-slice-read-value
-shared-slice-read-value c = let l = long _ _ (c .before .before .refusal .ensures) (c .before .if1 .left) in omega arith
+shared-slice-read-value c = let l = long (c .before) in omega arith
 
 value-requires : tie.Need-value-requires
 value-requires c κs = search needs
 
 shared-slice-read-value-2 : tie.Need-shared-slice-read-value-2
-shared-slice-read-value-2 c = let l = long _ _ (c .before .before .before .before .refusal .ensures) (c .before .before .before .if1 .left) in omega arith
+shared-slice-read-value-2 c = let l = long (c .before .before .before) in omega arith
 
 value-requires-2 : tie.Need-value-requires-2
 value-requires-2 c κs = search needs
@@ -45,52 +62,55 @@ value-requires-2 c κs = search needs
 cast-n : tie.Need-cast-n
 cast-n c = search needs
 
-radicand-requires : tie.Need-radicand-requires
-radicand-requires c κs = (most-of c, let e = full-of c in omega arith)
+layout-refusal-requires : tie.Need-layout-refusal-requires
+layout-refusal-requires c κs = search needs
 
-add-value : tie.Need-add-value
-add-value c = let m = most-of (c .before) in omega arith
-
-mul-value : tie.Need-mul-value
-mul-value c = let m = most-of (c .before) in omega arith
-
-shared-slice-read-value-3 : tie.Need-shared-slice-read-value-3
-shared-slice-read-value-3 c = let e = full-of (c .before .before) in omega arith
-
-value-requires-3 : tie.Need-value-requires-3
-value-requires-3 c κs = search needs
-
-cast-budget : tie.Need-cast-budget
-cast-budget c = search needs
-
-div-t12 : tie.Need-div-t12
-div-t12 c =
-    let v = c .before .before .before in
-    let p = some-q (ws v) _ (v .before .before .before .before .before .refusal .ensures) (v .before .before .before .before .if1 .left) _ (v .before .before .value .ensures) in
-    omega arith
+refused-requires-2 : tie.Need-refused-requires-2
+refused-requires-2 c κs = search needs
 
 returns-2 : tie.Need-returns-2
 returns-2 c =
-    let v = c .before .before .before in
-    stands-accepted (ws v) _ (v .before .before .before .before .before .refusal .ensures) (v .before .before .before .before .if1 .left) _ (v .value2 .ensures) _ _ _ _ (v .before .before .value .ensures) (c .before .before .radicand .ensures _) (c .value3 .ensures)
+    let r = c .before .before in
+    let v = r .before in
+    stands-path
+    (r .layout-refusal .ensures ∙ refused-by-layout _ (head-passed (heads v)) _ _ (v .before .before .value .ensures) (v .value2 .ensures) (λ e. c .before .if2 .taken (r .layout-refusal .ensures ∙ e)))
+    refl
+    (c .refused2 .ensures _)
+
+field-of-requires : tie.Need-field-of-requires
+field-of-requires c κs = let h = field-of _ (laid c .prime) .odd in omega arith
+
+read-radicand-requires : tie.Need-read-radicand-requires
+read-radicand-requires c κs = (made-field c, degree-most _ (laid (c .before) .degree), layout-length _ _ (laid (c .before) .layout))
+
+returns-3 : tie.Need-returns-3
+returns-3 c =
+    let m = c .before in
+    let e = m .before in
+    let v = e .before .before in
+    let w : List ℕ = ws (heads v) in
+    let q : ℕ = v .before .before .value .result in
+    let n : ℕ = v .value2 .result in
+    let p = refused-by-radicand w (head-passed (heads v)) q n (v .before .before .value .ensures) (v .value2 .ensures) (laid e) in
+    let t = ticket-parts w (head-passed (heads v)) q n (v .before .before .value .ensures) (v .value2 .ensures) in
+    let same = ap prime (m .field-of .ensures .0) in
+    stands-path (ap (λ (f : FieldName). firstOf (radicandTests f n (coefficients n w))) same ∙ p) (ap (λ (f : FieldName). ticket f n (coefficients n w) (value (getD w (n + 3) 0))) same ∙ sym t) (c .read-radicand .ensures)
 
 pub read-ticket-spec : {M : Type 1} → statement M
 read-ticket-spec =
     tie.close
     (tie.spec
-    refusal-requires
-    zero-requires
+    wrong-head-requires
+    refused-requires
     returns
     shared-slice-read-value
     value-requires
     shared-slice-read-value-2
     value-requires-2
     cast-n
-    radicand-requires
-    add-value
-    mul-value
-    shared-slice-read-value-3
-    value-requires-3
-    cast-budget
-    div-t12
-    returns-2)
+    layout-refusal-requires
+    refused-requires-2
+    returns-2
+    field-of-requires
+    read-radicand-requires
+    returns-3)

@@ -25,7 +25,7 @@ next c =
     let s = c .before .before .before .before .before .before in
     let i = c .before .before .before .loop .i in
     let d = dots-small (s .pre .1 .0) (s .pre .1 .1) (s .args .k) (i + 1) (omega arith) in
-    let w = terms-fit (s .args .f .q) (s .args .k) (s .pre .0 .0) (s .pre .0 .1) in
+    let w = terms-fit (s .args .f .q) (s .args .k) (s .pre .0 .0 .2) (s .pre .0 .1) in
     let e = dots-more (s .args .x .now) (s .args .y .now) (s .args .k) i in
     omega arith
 

@@ -47,7 +47,7 @@ residue-requires : tie.Need-residue-requires
 residue-requires c κs =
     let s = c .before .before .before .before .before .before .before .before .before .before in
     let b = s .pre .1 .1 .short in
-    ((held-positive _ _ _ (s .pre .1 .0), omega arith), rem-past _ _ _ (s .pre .1 .0) _ _ (s .pre .1 .1) _ (c .before .before .before .before .before .before .before .before .inverse .ensures) _ _ (c .before .before .before .clear .ensures .1) (s .pre .0 .0) (search needs))
+    ((s .pre .0 .0, omega arith), rem-past _ _ _ (s .pre .1 .0) _ _ (s .pre .1 .1) _ (c .before .before .before .before .before .before .before .before .inverse .ensures) _ _ (c .before .before .before .clear .ensures .1) (s .pre .0 .0 .0) (search needs))
 
 returns : tie.Need-returns
 returns c =

@@ -2,6 +2,7 @@
 use mathlib.Core.Path.{_≡_, sym, subst}
 use mathlib.Core.List.{List}
 use Prim.Native.Nat.{ℕ}
+use Rattle.spec_definitions.specs.Field.{prime}
 use Rattle.base_polynomial.specs.Record.{Is}
 use Rattle.base_polynomial.specs.Division.{quo-zero, is-rem-zero}
 use borrow.Author.Needs.{needs}
@@ -18,7 +19,7 @@ returns : tie.Need-returns
 returns c =
     let s = c .before .before .before in
     let none : s .args .b .size ≡ 0 = search needs in
-    (subst (λ (l : List ℕ). Is (s .args .f .q) (c .zero .result .c) (c .zero .result .size) l) (sym (quo-zero _ _ _ (s .pre .1 .0) _ _ (s .pre .1 .1) (s .pre .0 .0) none)) (c .zero .ensures _), is-rem-zero _ _ _ (s .pre .1 .0) _ _ (s .pre .1 .1) none)
+    (subst (λ (l : List ℕ). Is (prime (s .args .f .q)) (c .zero .result .c) (c .zero .result .size) l) (sym (quo-zero _ _ _ (s .pre .1 .0) _ _ (s .pre .1 .1) (s .pre .0 .0) none)) (c .zero .ensures _), is-rem-zero _ _ _ (s .pre .1 .0) _ _ (s .pre .1 .1) none)
 
 returns-2 : tie.Need-returns-2
 returns-2 c = search needs

@@ -3,6 +3,7 @@ use mathlib.Core.Path.{_≡_, sym, subst}
 use mathlib.Core.List.{List}
 use native.Mathlib.Omega.{arith}
 use borrow.Author.Needs.{needs}
+use Rattle.spec_definitions.specs.Field.{prime}
 use Rattle.spec_definitions.specs.Polynomials.{sub, mul}
 use Rattle.base_polynomial.specs.Record.{Is}
 use Rattle.base_polynomial.specs.Result.{result-quo, result-rem, size-rem}
@@ -143,7 +144,7 @@ bezout-returns t c =
     let r = c .bezout-zero .result in
     let e = c .bezout-zero .ensures in
     let none : s .args .b .size ≡ 0 = search needs in
-    (subst (λ (l : List ℕ). Is q (r .gcd .c) (r .gcd .size) l) (sym (none-gcd _ p _ _ a _ _ b none)) (e .0), (subst (λ (l : List ℕ). Is q (r .u .c) (r .u .size) l) (sym (none-u _ p _ _ a _ _ b none)) (e .1 .0), subst (λ (l : List ℕ). Is q (r .v .c) (r .v .size) l) (sym (none-v _ p _ _ a _ _ b none)) (e .1 .1)))
+    (subst (λ (l : List ℕ). Is (prime q) (r .gcd .c) (r .gcd .size) l) (sym (none-gcd _ p _ _ a _ _ b none)) (e .0), (subst (λ (l : List ℕ). Is (prime q) (r .u .c) (r .u .size) l) (sym (none-u _ p _ _ a _ _ b none)) (e .1 .0), subst (λ (l : List ℕ). Is (prime q) (r .v .c) (r .v .size) l) (sym (none-v _ p _ _ a _ _ b none)) (e .1 .1)))
 
 bezout-returns-2 : (t : ℕ) → bezout-lts.Need-returns-2 (
   bezout-zero-reads.Asked,
@@ -168,8 +169,8 @@ bezout-returns-2 t c =
     let e = c .before .before .before .before .before .before .bezout .ensures in
     let m = c .before .before .mul .ensures in
     let some : 0 < s .args .b .size = omega (arith, c .before .before .before .before .before .before .before .before .before .if1 .left) in (
-      subst (λ (l : List ℕ). Is q (t .gcd .c) (t .gcd .size) l) (sym (turn-gcd _ p _ _ a _ _ b some _ _ (d .0) _ _ (d .1))) (e .0),
-      (subst (λ (l : List ℕ). Is q (t .v .c) (t .v .size) l) (sym (turn-u _ p _ _ a _ _ b some _ _ (d .0) _ _ (d .1))) (e .1 .1), subst (λ (l : List ℕ). Is q (c .sub .result .c) (c .sub .result .size) l) (sym (turn-v _ p _ _ a _ _ b some _ _ (d .0) _ _ (d .1) _ _ (e .1 .0) _ _ (e .1 .1) _ _ m)) (c .sub .ensures)),
+      subst (λ (l : List ℕ). Is (prime q) (t .gcd .c) (t .gcd .size) l) (sym (turn-gcd _ p _ _ a _ _ b some _ _ (d .0) _ _ (d .1))) (e .0),
+      (subst (λ (l : List ℕ). Is (prime q) (t .v .c) (t .v .size) l) (sym (turn-u _ p _ _ a _ _ b some _ _ (d .0) _ _ (d .1))) (e .1 .1), subst (λ (l : List ℕ). Is (prime q) (c .sub .result .c) (c .sub .result .size) l) (sym (turn-v _ p _ _ a _ _ b some _ _ (d .0) _ _ (d .1) _ _ (e .1 .0) _ _ (e .1 .1) _ _ m)) (c .sub .ensures)),
     )
 
 pub +bezout-spec : {M : Type 1} → statement M

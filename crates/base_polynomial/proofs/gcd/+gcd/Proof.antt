@@ -3,7 +3,7 @@ use mathlib.Core.Path.{sym, ap, _∙_, subst}
 use mathlib.Core.List.{List}
 use native.Mathlib.Omega.{arith}
 use borrow.Author.Needs.{needs}
-use Rattle.spec_definitions.specs.Field.{modulo}
+use Rattle.spec_definitions.specs.Field.{modulo, prime}
 use Rattle.spec_definitions.specs.Polynomials.{gcd as gcdOf}
 use Rattle.base_polynomial.specs.Record.{poly, Is}
 use Rattle.base_polynomial.specs.Result.{result-rem, size-rem}
@@ -75,7 +75,7 @@ gcd-returns : (t : ℕ) → gcd-lts.Need-returns (
 ) (gcd-at t) gcd.Post
 gcd-returns t c =
     let s = c .before .before .before in
-    subst (λ (l : List ℕ). Is (s .args .f .q) (c .monic .result .c) (c .monic .result .size) l) (sym (gcd-none _ (s .pre .1 .0 .0) (s .args .a .c) (s .args .a .size) _ _ (s .pre .1 .1 .1) (search needs))) (c .monic .ensures)
+    subst (λ (l : List ℕ). Is (prime (s .args .f .q)) (c .monic .result .c) (c .monic .result .size) l) (sym (gcd-none _ (s .pre .1 .0 .0) (s .args .a .c) (s .args .a .size) _ _ (s .pre .1 .1 .1) (search needs))) (c .monic .ensures)
 
 gcd-returns-2 : (t : ℕ) → gcd-lts.Need-returns-2 (
   monic-reads.Asked,
@@ -90,7 +90,7 @@ gcd-returns-2 t c =
     let p = s .pre .1 .0 .0 in
     let b = poly (s .args .b .c) (s .args .b .size) in
     let same = result-rem _ _ _ (s .pre .1 .1 .0) _ _ (s .pre .1 .1 .1) _ _ p (c .before .before .div-by .ensures .1) .is in
-    subst (λ (l : List ℕ). Is (s .args .f .q) (c .gcd .result .c) (c .gcd .result .size) l) (ap (gcdOf (modulo (s .args .f .q)) b) same ∙ sym (gcd-some _ p (s .args .a .c) (s .args .a .size) _ _ (s .pre .1 .1 .1) (omega arith))) (c .gcd .ensures)
+    subst (λ (l : List ℕ). Is (prime (s .args .f .q)) (c .gcd .result .c) (c .gcd .result .size) l) (ap (gcdOf (modulo (s .args .f .q)) b) same ∙ sym (gcd-some _ p (s .args .a .c) (s .args .a .size) _ _ (s .pre .1 .1 .1) (omega arith))) (c .gcd .ensures)
 
 pub +gcd-spec : {M : Type 1} → statement M
 +gcd-spec = close μ-gcd λ t. gcd-lts.spec (

@@ -2,7 +2,7 @@
 use mathlib.Core.Path.{sym, ap, _∙_, subst}
 use mathlib.Core.List.{[], _∷_}
 use Prim.Native.Nat.{ℕ, _<_}
-use Rattle.spec_definitions.specs.Field.{modulo}
+use Rattle.spec_definitions.specs.Field.{modulo, prime}
 use Rattle.spec_definitions.specs.Polynomials.{trim, scale, monic}
 use Rattle.spec_bridge.specs.Residues.{inverse-lt}
 use Rattle.base_polynomial.specs.Record.{poly, Is}
@@ -30,7 +30,7 @@ scale-requires c κs =
 constant-requires : tie.Need-constant-requires
 constant-requires c κs =
     let s = c .before .before .before in
-    subst (λ (m : ℕ). m < s .args .f .q) (sym (c .before .inverse .ensures)) (inverse-lt (s .args .f .q) (held-positive _ _ _ (s .pre .1)) _)
+    (s .pre .0, subst (λ (m : ℕ). m < s .args .f .q) (sym (c .before .inverse .ensures)) (inverse-lt (s .args .f .q) (held-positive _ _ _ (s .pre .1)) _))
 
 zero-requires : tie.Need-zero-requires
 zero-requires c κs = search needs
@@ -40,9 +40,9 @@ unfolding monic
 returns c =
     let s = c .before .before .before .before .before .args in
     let e = c .before .before .before .inverse .ensures ∙ ap (modulo (s .f .q) .inv) (c .before .before .before .before .lead .ensures) in (
-      subst (λ (u : ℕ). Is (s .f .q) (c .before .before .scale .result .c) (c .before .before .scale .result .size) (scale (modulo (s .f .q)) u (poly (s .a .c) (s .a .size)))) e (c .before .before .scale .ensures),
+      subst (λ (u : ℕ). Is (prime (s .f .q)) (c .before .before .scale .result .c) (c .before .before .scale .result .size) (scale (modulo (s .f .q)) u (poly (s .a .c) (s .a .size)))) e (c .before .before .scale .ensures),
       (
-        subst (λ (u : ℕ). Is (s .f .q) (c .before .constant .result .c) (c .before .constant .result .size) (trim (modulo (s .f .q)) (u ∷ []))) e (c .before .constant .ensures),
+        subst (λ (u : ℕ). Is (prime (s .f .q)) (c .before .constant .result .c) (c .before .constant .result .size) (trim (modulo (s .f .q)) (u ∷ []))) e (c .before .constant .ensures),
         c .zero .ensures _,
       ),
     )

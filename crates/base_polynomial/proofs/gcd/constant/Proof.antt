@@ -40,7 +40,7 @@ top-requires c κs =
 returns : tie.Need-returns
 returns c =
     let s = c .before .before in
-    is-result (s .args .f .q) (omega arith) _ _ _ (trim-idem (model (s .args .f .q) (omega arith)) _) (trimmed-place (s .args .f .q) (s .args .c) (s .pre)) (c .top .ensures)
+    is-result (s .args .f .q) (omega arith) _ _ _ (trim-idem (model (s .args .f .q) (omega arith)) _) (trimmed-place (s .args .f .q) (s .args .c) (s .pre .1)) (c .top .ensures)
 
 pub constant-spec : {M : Type 1} → statement M
 constant-spec = tie.close (tie.spec array-write-z top-requires returns)

@@ -2,7 +2,7 @@
 use Prim.Native.Nat.{ℕ, _<_}
 use mathlib.Core.Path.{sym, ap, _∙_, subst}
 use borrow.Author.Needs.{needs}
-use Rattle.spec_definitions.specs.Field.{modulo}
+use Rattle.spec_definitions.specs.Field.{modulo, prime}
 use Rattle.spec_definitions.specs.Polynomials.{monic, scale}
 use Rattle.spec_bridge.specs.Residues.{inverse-lt}
 use Rattle.base_polynomial.specs.Record.{poly, Is}
@@ -31,7 +31,7 @@ unfolding monic
 returns c =
     let s = c .before .before .before .args in
     let e = c .before .inverse .ensures ∙ ap (modulo (s .f .q) .inv) (c .before .before .lead .ensures) in
-    subst (λ (u : ℕ). Is (s .f .q) (c .scale .result .c) (c .scale .result .size) (scale (modulo (s .f .q)) u (poly (s .a .c) (s .a .size)))) e (c .scale .ensures)
+    subst (λ (u : ℕ). Is (prime (s .f .q)) (c .scale .result .c) (c .scale .result .size) (scale (modulo (s .f .q)) u (poly (s .a .c) (s .a .size)))) e (c .scale .ensures)
 
 pub monic-spec : {M : Type 1} → statement M
 monic-spec = tie.close (tie.spec lead-requires inverse-requires scale-requires returns)

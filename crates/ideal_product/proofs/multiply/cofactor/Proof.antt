@@ -4,10 +4,10 @@ use native.Mathlib.Omega.{arith}
 use mathlib.Core.Path.{ap, _∙_, subst}
 use mathlib.Core.List.{List}
 use borrow.Author.Needs.{needs}
-use Rattle.spec_definitions.specs.Field.{modulo}
+use Rattle.spec_definitions.specs.Field.{FieldName, ops}
 use Rattle.spec_definitions.specs.Polynomials.{sub, quo, rem}
-use Rattle.base_polynomial.specs.Record.{poly, Is}
-use Rattle.base_polynomial.specs.Result.{result-mul, result-sub}
+use Rattle.base_field.specs.Named.{name}
+use Rattle.base_polynomial.specs.Over.{poly, Is, result-mul, result-sub}
 use Rattle.ideal_product.proofs.multiply.cofactor.Statement.{statement}
 use Rattle.ideal_product.proofs.multiply.cofactor.Tie as tie
 
@@ -15,26 +15,26 @@ mul-requires : tie.Need-mul-requires
 mul-requires c κs = search needs
 
 sub-requires : tie.Need-sub-requires
-sub-requires c κs = let s = c .before in let p = s .pre .1 .2 in (search needs, (s .pre .1 .0, result-mul _ _ _ p _ _ p _ _ (omega arith) (c .mul .ensures) .held))
+sub-requires c κs = let s = c .before in let p = s .pre .1 .2 in (search needs, (s .pre .1 .0, result-mul p p (omega arith) (c .mul .ensures) .held))
 
 div-rem-requires : tie.Need-div-rem-requires
 div-rem-requires c κs =
     let s = c .before .before in
     let p = s .pre .1 .2 in
-    let m = result-mul _ _ _ p _ _ p _ _ (omega arith) (c .before .mul .ensures) in
-    (search needs, (result-sub _ _ _ (s .pre .1 .0) _ _ _ _ (m .held) (c .sub .ensures) .held, s .pre .1 .1))
+    let m = result-mul p p (omega arith) (c .before .mul .ensures) in
+    (search needs, (result-sub (s .pre .1 .0) (m .held) (c .sub .ensures) .held, s .pre .1 .1))
 
 returns : tie.Need-returns
 returns c =
     let s = c .before .before .before in
-    let q : ℕ = s .args .f .q in
+    let f : FieldName = name (s .args .f) in
     let p = s .pre .1 .2 in
-    let m = result-mul _ _ _ p _ _ p _ _ (omega arith) (c .before .before .mul .ensures) in
-    let n = result-sub _ _ _ (s .pre .1 .0) _ _ _ _ (m .held) (c .before .sub .ensures) in
-    let e = n .is ∙ ap (sub (modulo q) (poly (s .args .radicand .c) (s .args .radicand .size))) (m .is) in
-    let b : List ℕ = poly (s .args .q .c) (s .args .q .size) in (
-      subst (λ (l : List ℕ). Is q (c .div-rem .result .quo .c) (c .div-rem .result .quo .size) (quo (modulo q) l b)) e (c .div-rem .ensures .0),
-      subst (λ (l : List ℕ). Is q (c .div-rem .result .rem .c) (c .div-rem .result .rem .size) (rem (modulo q) l b)) e (c .div-rem .ensures .1),
+    let m = result-mul p p (omega arith) (c .before .before .mul .ensures) in
+    let n = result-sub (s .pre .1 .0) (m .held) (c .before .sub .ensures) in
+    let e = n .is ∙ ap (sub (ops f) (poly (s .args .radicand))) (m .is) in
+    let b : List ℕ = poly (s .args .q) in (
+      subst (λ (l : List ℕ). Is f (c .div-rem .result .quo) (quo (ops f) l b)) e (c .div-rem .ensures .0),
+      subst (λ (l : List ℕ). Is f (c .div-rem .result .rem) (rem (ops f) l b)) e (c .div-rem .ensures .1),
     )
 
 pub cofactor-spec : {M : Type 1} → statement M

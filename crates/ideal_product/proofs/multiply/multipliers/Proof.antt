@@ -13,7 +13,7 @@ add-requires c κs = search needs
 bezout-requires-2 : tie.Need-bezout-requires-2
 bezout-requires-2 c κs =
     let s = c .before .before .before in
-    let p = s .pre .0 .0 in
+    let p = s .pre .0 .0 .0 in
     let h = s .pre .1 in
     let g = c .before .before .bezout .ensures .0 in
     let t = c .before .add .ensures in
@@ -22,17 +22,17 @@ bezout-requires-2 c κs =
 mul-requires : tie.Need-mul-requires
 mul-requires c κs =
     let s = c .before .before .before .before .before .before in
-    let p = s .pre .0 .0 in
+    let p = s .pre .0 .0 .0 in
     let h = s .pre .1 in
     let b = c .before .before .before .before .before .bezout .ensures in
     let t = c .before .before .before .before .add .ensures in
     let e = c .before .before .bezout2 .ensures in
-    ((search needs, U-fits p (h .0 .0) (h .0 .1) (h .1 .0) (h .1 .1) (b .0) t (e .1 .0) (b .1 .0) (s .pre .0 .2) (s .pre .0 .3) (s .pre .0 .4)), (second-result p (h .0 .0) (h .0 .1) (h .1 .0) (h .1 .1) (b .0) t (e .1 .0) (b .1 .0) .held, first-result p (h .0 .0) (h .0 .1) (h .1 .0) (h .1 .1) (b .0) t (e .1 .0) (b .1 .0) .held))
+    ((search needs, U-fits p (h .0 .0) (h .0 .1) (h .1 .0) (h .1 .1) (b .0) t (e .1 .0) (b .1 .0) (s .pre .0 .1) (s .pre .0 .2) (s .pre .0 .3)), (second-result p (h .0 .0) (h .0 .1) (h .1 .0) (h .1 .1) (b .0) t (e .1 .0) (b .1 .0) .held, first-result p (h .0 .0) (h .0 .1) (h .1 .0) (h .1 .1) (b .0) t (e .1 .0) (b .1 .0) .held))
 
 returns : tie.Need-returns
 returns c =
     let s = c .before .before .before .before .before .before .before .before .before in
-    let p = s .pre .0 .0 in
+    let p = s .pre .0 .0 .0 in
     let h = s .pre .1 in
     let b = c .before .before .before .before .before .before .before .before .bezout .ensures in
     let t = c .before .before .before .before .before .before .before .add .ensures in

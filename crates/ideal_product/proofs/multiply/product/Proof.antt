@@ -7,19 +7,21 @@ use Rattle.ideal_product.proofs.multiply.product.Tie as tie
 
 multipliers-requires : tie.Need-multipliers-requires
 multipliers-requires c κs =
-    let h = c .pre .0 .0 in
+    let i = c .pre .0 .0 in
+    let h = c .pre .0 .1 in
     let x = c .pre .1 .0 in
     let y = c .pre .1 .1 in
     let g = h .genus-most in
     let y-q = operand-q-size h y in
     let x-p = operand-p-size h x in
     let y-p = operand-p-size h y in
-    ((h .prime, h .small, omega arith, omega arith, omega arith), ((operand-q h x, operand-p h x), (operand-q h y, operand-p h y)))
+    ((i, omega arith, omega arith, omega arith), ((operand-q h x, operand-p h x), (operand-q h y, operand-p h y)))
 
 norm-requires : tie.Need-norm-requires
 norm-requires c κs =
     let a = c .before .before in
-    let h = a .pre .0 .0 in
+    let i = a .pre .0 .0 in
+    let h = a .pre .0 .1 in
     let x = a .pre .1 .0 in
     let y = a .pre .1 .1 in
     let g = h .genus-most in
@@ -27,21 +29,23 @@ norm-requires c κs =
     let y-q = operand-q-size h y in
     let s = c .before .multipliers .ensures .0 in
     let s-q = S-bounds h x y s in
-    ((h .prime, h .small, omega arith, omega arith, omega arith), (operand-q h x, operand-q h y, S-result h x y s .held))
+    ((i, omega arith, omega arith, omega arith), (operand-q h x, operand-q h y, S-result h x y s .held))
 
 cofactor-requires : tie.Need-cofactor-requires
 cofactor-requires c κs =
     let a = c .before .before .before in
-    let h = a .pre .0 .0 in
+    let i = a .pre .0 .0 in
+    let h = a .pre .0 .1 in
     let x = a .pre .1 .0 in
     let g = h .genus-most in
     let x-p = operand-p-size h x in
-    ((h .prime, h .small, omega arith), (a .pre .0 .1, operand-q h x, operand-p h x))
+    ((i, omega arith), (a .pre .0 .2, operand-q h x, operand-p h x))
 
 bracket-requires : tie.Need-bracket-requires
 bracket-requires c κs =
     let a = c .before .before .before .before .before .before .before in
-    let h = a .pre .0 .0 in
+    let i = a .pre .0 .0 in
+    let h = a .pre .0 .1 in
     let x = a .pre .1 .0 in
     let y = a .pre .1 .1 in
     let g = h .genus-most in
@@ -52,12 +56,13 @@ bracket-requires c κs =
     let u-q = U-bound h x y (m .1 .0) in
     let w-q = W-bound h x y (m .1 .1) in
     let v-q = cofactor-bound h x y v in
-    ((h .small, omega arith, omega arith, omega arith, omega arith, omega arith), ((operand-p h x, operand-p h y), (U-result h x y (m .1 .0) .held, W-result h x y (m .1 .1) .held, cofactor-result h x y v .held)))
+    ((i, omega arith, omega arith, omega arith, omega arith, omega arith), ((operand-p h x, operand-p h y), (U-result h x y (m .1 .0) .held, W-result h x y (m .1 .1) .held, cofactor-result h x y v .held)))
 
 residue-requires : tie.Need-residue-requires
 residue-requires c κs =
     let a = c .before .before .before .before .before .before .before .before in
-    let h = a .pre .0 .0 in
+    let i = a .pre .0 .0 in
+    let h = a .pre .0 .1 in
     let x = a .pre .1 .0 in
     let y = a .pre .1 .1 in
     let g = h .genus-most in
@@ -67,12 +72,13 @@ residue-requires c κs =
     let v = c .before .before .before .before .cofactor .ensures .0 in
     let s-q = S-bounds h x y (m .0) in
     let b-q = bracket-bound h x y (m .0) n (m .1 .0) (m .1 .1) v (c .bracket .ensures) in
-    ((h .prime, h .small, s-q .0, omega arith), ((operand-q h x, operand-p h x), (S-result h x y (m .0) .held, bracket-result h x y (m .0) n (m .1 .0) (m .1 .1) v (c .bracket .ensures) .held, Q-result h x y (m .0) n .held)))
+    ((i, s-q .0, omega arith), ((operand-q h x, operand-p h x), (S-result h x y (m .0) .held, bracket-result h x y (m .0) n (m .1 .0) (m .1 .1) v (c .bracket .ensures) .held, Q-result h x y (m .0) n .held)))
 
 returns : tie.Need-returns
 returns c =
     let a = c .before .before .before .before .before .before .before .before .before in
-    let h = a .pre .0 .0 in
+    let i = a .pre .0 .0 in
+    let h = a .pre .0 .1 in
     let x = a .pre .1 .0 in
     let y = a .pre .1 .1 in
     let m = c .before .before .before .before .before .before .before .before .multipliers .ensures in

@@ -8,10 +8,10 @@ derivative-requires : tie.Need-derivative-requires
 derivative-requires c κs = search needs
 
 gcd-requires : tie.Need-gcd-requires
-gcd-requires c κs = (c .before .pre .0, (c .before .pre .1, held-derivative _ _ _ (c .before .pre .1) _ _ (c .derivative .ensures)))
+gcd-requires c κs = (c .before .pre .0, (c .before .pre .1, held-derivative (c .before .pre .1) (c .derivative .ensures)))
 
 returns : tie.Need-returns
-returns c = not-squarefree-test _ _ _ (c .before .before .before .pre .1) _ _ (c .before .before .derivative .ensures) (c .before .before .before .pre .0 .0) _ _ (c .before .gcd .ensures)
+returns c = not-squarefree-test (c .before .before .before .pre .1) (c .before .before .derivative .ensures) (c .before .before .before .pre .0 .0) (c .before .gcd .ensures)
 
 pub not-squarefree-spec : {M : Type 1} → statement M
 not-squarefree-spec = tie.close (tie.spec derivative-requires gcd-requires returns)

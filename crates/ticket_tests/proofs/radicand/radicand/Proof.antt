@@ -55,12 +55,12 @@ add-t15 : tie.Need-add-t15 Inv-loop μ-loop
 add-t15 c = search needs
 
 returns : tie.Need-returns Inv-loop μ-loop
-returns c q =
+returns c f =
     let n : ℕ = c .before .before .before .args .n in
     let w : List ℕ = now (c .before .before .before .args .words) in
     let e : length (coefficients n w) ≡ n + 1 = length-coefficients n w (omega arith) in
     let p : Places (c .before .loop .c) (λ i. getD (coefficients n w) i 0) = filled-all _ _ _ (c .before .loop .inv .1) (λ i h. List·getD-eq-default (coefficients n w) 0 {n = i} (omega arith)) in
-    is-of q _ (n + 1) (coefficients n w) (p .long) (sym e) (omega arith) (p .at)
+    is-of (f .q) _ (n + 1) (coefficients n w) (p .long) (sym e) (omega arith) (p .at)
 
 pub radicand-spec : {M : Type 1} → statement M
 radicand-spec =

@@ -2,6 +2,7 @@
 use mathlib.Core.Path.{sym, _∙_}
 use native.Mathlib.Omega.{arith}
 use borrow.Author.Needs.{needs}
+use Rattle.base_field.specs.Named.{named}
 use Rattle.ticket_tests.specs.Radicand.{held-of}
 use Rattle.ticket_tests.specs.Refusal.{refused-5, refused-6, refused-7, refused-none}
 use Rattle.ticket_tests.proofs.radicand.radicand_refusal.Statement.{statement}
@@ -21,11 +22,9 @@ returns-2 c = sym (refused-6 _ _ _ (sym (c .before .before .before .wrong-coeffi
 
 not-squarefree-requires : tie.Need-not-squarefree-requires
 not-squarefree-requires c κs =
-    let s = c .before .before .before .before in
-    let p = s .pre .0 .0 in
-    let two = p .two in (
+    let s = c .before .before .before .before in (
       s .pre .0,
-      held-of _ (omega arith) _ _ (s .args .n) (s .pre .1 .0 .1) (omega arith) (s .pre .1 .1)
+      held-of _ (named _ (s .pre .0)) _ (s .args .n) (s .pre .1 .0 .1) (omega arith) (s .pre .1 .1)
           (sym (c .before .before .before .wrong-coefficient .ensures) ∙ c .before .before .if1 .left)
           (sym (c .before .wrong-lead .ensures) ∙ c .if2 .left),
     )

@@ -30,7 +30,7 @@ unfolding wrongCoefficient
 returns c =
     let d = c .before .before .before .before .before .args .d in
     let long : length (d .c) ≡ 129 = search needs in
-    sym (take-at _ (d .c) (d .size) (omega arith) (omega arith) (c .before .before .before .loop .i) (omega arith) (c .if1 .taken))
+    sym (take-at _ (d .c) (d .size) (omega arith) (omega arith) (c .before .before .before .loop .i) (omega arith) (λ h. let w = c .if1 .taken in omega arith))
 
 add-i : tie.Need-add-i Inv-loop μ-loop
 add-i c = search needs

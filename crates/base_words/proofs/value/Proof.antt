@@ -1,8 +1,8 @@
 -- The value is the remainder by 2^28.
 use mathlib.Core.Path.{refl}
 use Rattle.spec_definitions.specs.Words.{value}
-use Rattle.ticket_tests.proofs.words.value.Statement.{statement}
-use Rattle.ticket_tests.proofs.words.value.Tie as tie
+use Rattle.base_words.proofs.value.Statement.{statement}
+use Rattle.base_words.proofs.value.Tie as tie
 
 returns : tie.Need-returns
 unfolding value

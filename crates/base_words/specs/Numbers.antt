@@ -1,0 +1,11 @@
+-- How many kinds a word may have, and how many numbers two words hold.
+use Prim.Native.Nat.{ℕ}
+pub use Rattle.spec_definitions.specs.Words.{values}
+
+-- 2^4
+abbrev pub kinds : ℕ
+kinds = 16
+
+-- 2^56
+abbrev pub pairs : ℕ
+pairs = 72057594037927936
