@@ -6,20 +6,22 @@ use mathlib.Core.Bool.{Bool, true, false}
 use mathlib.Core.List.{List}
 use lib.Dec.{ltb}
 use borrow.Author.Tests.{lt-ltb, le-ltb}
-use Rattle.spec_definitions.specs.Field.{modulo}
+use Rattle.spec_definitions.specs.Field.{ops}
 use Rattle.spec_definitions.specs.Ticket.{Ticket, genus, ticketOf, refusalOf}
 use Rattle.spec_definitions.specs.Walk.{degreeBefore}
 use Rattle.spec_definitions.specs.Answers.{rootOf}
-use Rattle.base_polynomial.specs.Record.{poly}
+use Rattle.base_field.specs.Named.{name}
+use Rattle.base_polynomial.specs.Whole.{poly}
 use Rattle.walk_state.specs.State.{rootD}
-use Rattle.call_regulator.specs.Accepted.{Accepted}
+use Rattle.ticket_read.specs.declared.Ticket.{Ticket as Said}
+use Rattle.ticket_read.specs.Accepted.{Accepted}
 
 unfoldable pub degreeAfter : List ℕ → ℕ → ℕ
-degreeAfter w steps = elim (ltb steps 268435456) [ true ↦ elim (refusalOf w) [ zero ↦ degreeBefore (modulo (ticketOf w .q)) (ticketOf w .D) (rootOf (ticketOf w)) steps | suc k ↦ 0 ] | false ↦ 0 ]
+degreeAfter w steps = elim (ltb steps 268435456) [ true ↦ elim (refusalOf w) [ zero ↦ degreeBefore (ops (ticketOf w .field)) (ticketOf w .D) (rootOf (ticketOf w)) steps | suc k ↦ 0 ] | false ↦ 0 ]
 
 module _ (w : List ℕ) (steps : ℕ) where
   abbrev after : ℕ → ℕ
-  after r = elim r [ zero ↦ degreeBefore (modulo (ticketOf w .q)) (ticketOf w .D) (rootOf (ticketOf w)) steps | suc k ↦ 0 ]
+  after r = elim r [ zero ↦ degreeBefore (ops (ticketOf w .field)) (ticketOf w .D) (rootOf (ticketOf w)) steps | suc k ↦ 0 ]
 
   abbrev asked : Bool → ℕ
   asked b = elim b [ true ↦ after (refusalOf w) | false ↦ 0 ]
@@ -39,10 +41,10 @@ module _ (w : List ℕ) (steps : ℕ) where
       go zero z = absurd (n z)
       go (suc j) z = refl
 
-  pub accepted-steps : steps < 268435456 → {q n : ℕ} {c : List ℕ} {size b : ℕ} → Accepted w q n c size b → (d : ℕ) → d ≡ degreeBefore (modulo q) (poly c size) (rootD q (genus n) (poly c size)) steps → d ≡ degreeAfter w steps
+  pub accepted-steps : steps < 268435456 → {t : Said} → Accepted w t → (d : ℕ) → d ≡ degreeBefore (ops (name (t .field))) (poly (t .radicand)) (rootD (name (t .field)) (genus (t .n)) (poly (t .radicand))) steps → d ≡ degreeAfter w steps
   unfolding rootOf
-  accepted-steps h a d e = e ∙ ap (λ (t : Ticket). degreeBefore (modulo (t .q)) (t .D) (rootOf t) steps) (sym (a .ticket-is)) ∙ sym (few h ∙ go (refusalOf w) (a .passes))
+  accepted-steps h a d e = e ∙ ap (λ (t : Ticket). degreeBefore (ops (t .field)) (t .D) (rootOf t) steps) (sym (a .ticket-is)) ∙ sym (few h ∙ go (refusalOf w) (a .passes))
     where
-      go : (r : ℕ) → r ≡ 0 → after r ≡ degreeBefore (modulo (ticketOf w .q)) (ticketOf w .D) (rootOf (ticketOf w)) steps
+      go : (r : ℕ) → r ≡ 0 → after r ≡ degreeBefore (ops (ticketOf w .field)) (ticketOf w .D) (rootOf (ticketOf w)) steps
       go zero z = refl
       go (suc j) z = absurd (let k : _≡_ {A = ℕ} (suc j) 0 = z in omega arith)

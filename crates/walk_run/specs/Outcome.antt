@@ -7,7 +7,7 @@ use mathlib.Core.Option.{Option, none, some}
 use lib.Dec.{eqb}
 use lib.ListN.{getD}
 use borrow.Author.Tests.{eqb-true, eqb-false}
-use Rattle.spec_definitions.specs.Field.{modulo}
+use Rattle.spec_definitions.specs.Field.{FieldName, prime, ops, modulo}
 use Rattle.spec_definitions.specs.Ticket.{genus}
 use Rattle.spec_definitions.specs.Walk.{Q, degreeBefore, constantOf}
 use Rattle.spec_definitions.specs.Answers.{found, spent, refused, rootOf, outcomeOf}
@@ -15,7 +15,7 @@ use Rattle.spec_definitions.specs.Answers as answers
 use Rattle.spec_laws.specs.Admitted.{Admitted, surd-of}
 use Rattle.spec_laws.specs.QuasiPeriod.{Quasi, NoQuasi, some-quasi, none-quasi}
 use Rattle.walk_state.specs.State.{rootD}
-pub use Rattle.walk_state.specs.Start.{ticket}
+pub use Rattle.spec_definitions.specs.Ticket.{ticket}
 use Rattle.walk_run.specs.declared.Outcome.{Outcome}
 use Rattle.walk_run.specs.declared.Outcome.the-variants.{Found, Spent, Refused}
 
@@ -24,11 +24,11 @@ meaning (Found R m c) = found (R .0) (m .0) c
 meaning (Spent k e) = spent (k .0) (e .0)
 meaning (Refused j) = refused j
 
--- (−1)^m·c modulo q
-unfoldable pub signed : ℕ → ℕ → ℕ → ℕ
-signed q m c = elim (eqb (m % 2) 0) [ true ↦ c | false ↦ modulo q .sub 0 c ]
+-- (−1)^m·c in the field
+unfoldable pub signed : FieldName → ℕ → ℕ → ℕ
+signed f m c = elim (eqb (m % 2) 0) [ true ↦ c | false ↦ ops f .sub 0 c ]
 
-pub signed-even : (q m c : ℕ) → m % 2 ≡ 0 → signed q m c ≡ c
+pub signed-even : (q m c : ℕ) → m % 2 ≡ 0 → signed (prime q) m c ≡ c
 unfolding signed
 signed-even q m c e = go (eqb (m % 2) 0) refl
   where
@@ -36,7 +36,7 @@ signed-even q m c e = go (eqb (m % 2) 0) refl
     go true k = refl
     go false k = absurd (eqb-false (m % 2) 0 k e)
 
-pub signed-odd : (q m c : ℕ) → (m % 2 ≡ 0 → ⊥) → signed q m c ≡ modulo q .sub 0 c
+pub signed-odd : (q m c : ℕ) → (m % 2 ≡ 0 → ⊥) → signed (prime q) m c ≡ modulo q .sub 0 c
 unfolding signed
 signed-odd q m c n = go (eqb (m % 2) 0) refl
   where
@@ -44,14 +44,14 @@ signed-odd q m c n = go (eqb (m % 2) 0) refl
     go true k = absurd (n (eqb-true (m % 2) 0 k))
     go false k = refl
 
-module _ (q n : ℕ) (D : List ℕ) (h : Admitted q (genus n) D) (b : ℕ) where
+module _ (q n : ℕ) (D : List ℕ) (h : Admitted (prime q) (genus n) D) (b : ℕ) where
   abbrev d : List ℕ
-  d = rootD q (genus n) D
+  d = rootD (prime q) (genus n) D
 
-  pub found-is : (m : ℕ) → Quasi (modulo q) D d b m → outcomeOf (ticket q n D b) ≡ found (degreeBefore (modulo q) D d m) m (signed q m (getD (Q (modulo q) D d m) 0 0))
+  pub found-is : (m : ℕ) → Quasi (modulo q) D d b m → outcomeOf (ticket (prime q) n D b) ≡ found (degreeBefore (modulo q) D d m) m (signed (prime q) m (getD (Q (modulo q) D d m) 0 0))
   unfolding outcomeOf rootOf constantOf signed
   found-is m k = ap (λ (x : Option ℕ). elim x [ none ↦ spent b (degreeBefore (modulo q) D d b) | some m ↦ found (degreeBefore (modulo q) D d m) m (constantOf (modulo q) D d m) ]) (some-quasi (surd-of h) b m k)
 
-  pub spent-is : NoQuasi (modulo q) D d b → outcomeOf (ticket q n D b) ≡ spent b (degreeBefore (modulo q) D d b)
+  pub spent-is : NoQuasi (modulo q) D d b → outcomeOf (ticket (prime q) n D b) ≡ spent b (degreeBefore (modulo q) D d b)
   unfolding outcomeOf rootOf
   spent-is k = ap (λ (x : Option ℕ). elim x [ none ↦ spent b (degreeBefore (modulo q) D d b) | some m ↦ found (degreeBefore (modulo q) D d m) m (constantOf (modulo q) D d m) ]) (none-quasi (surd-of h) b k)

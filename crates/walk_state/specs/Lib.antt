@@ -2,5 +2,3 @@ pub mod Table
 pub mod Root
 pub mod State
 pub mod Start
-pub mod Walked
-pub mod Turn

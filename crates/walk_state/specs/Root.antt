@@ -10,7 +10,7 @@ use mathlib.Core.List.{List}
 use lib.ListN.{length, getD, take, set, length-set, List·getD-eq-default}
 use lib.Seq.{getD-set-same, getD-set-other, getD-take, length-take-le, ext-getD}
 use Rattle.math_ring.specs.Order.{le-or-lt}
-use Rattle.spec_definitions.specs.Field.{modulo}
+use Rattle.spec_definitions.specs.Field.{prime, modulo}
 use Rattle.spec_definitions.specs.Polynomials.{pad, add, sub, mul, monomial, rootIn, root}
 use Rattle.spec_bridge.specs.Model.{series, add-zer-right}
 use Rattle.spec_bridge.specs.Trim.{length-trim}
@@ -76,7 +76,7 @@ module _ (q : ℕ) (pos : 0 < q) where
 -- ---- d so far: the coefficients of x^e to x^h stand in z
 pub record Rooted (q : ℕ) (D : List ℕ) (h e : ℕ) (z : List ℕ) : Type 0 where
   pub long : length z ≡ 129
-  pub within : Within q z (h + 1)
+  pub within : Within (prime q) z (h + 1)
   pub lead : getD z h 0 ≡ 1
   pub low : (i : ℕ) → i < e → getD z i 0 ≡ 0
   pub turns : rootIn (modulo q) D h e (take (h + 1) z) ≡ root (modulo q) D h

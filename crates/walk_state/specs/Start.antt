@@ -7,9 +7,9 @@ use mathlib.Core.Path.{_≡_, sym, ap, _∙_, subst}
 use mathlib.Core.List.{List, [], _∷_}
 use lib.ListN.{length, getD, set}
 use lib.Seq.{ext-getD}
-use Rattle.spec_definitions.specs.Field.{modulo, inverse}
+use Rattle.spec_definitions.specs.Field.{prime, FieldName, ops, modulo}
 use Rattle.spec_definitions.specs.Polynomials.{trim, pad, add, root}
-use Rattle.spec_definitions.specs.Ticket.{Ticket, genus}
+use Rattle.spec_definitions.specs.Ticket.{genus}
 use Rattle.spec_bridge.specs.Arithmetic.{at-add}
 use Rattle.spec_bridge.specs.Lengths.{length-add}
 use Rattle.spec_bridge.specs.Residues.{model, pos}
@@ -19,18 +19,15 @@ use Rattle.base_polynomial.specs.Record.{poly, Held}
 use Rattle.base_polynomial.specs.Held.{at-poly}
 use Rattle.base_polynomial.specs.Pad.{length-pad, at-pad}
 use Rattle.base_polynomial.specs.Places.{Places, Within, zeros}
+use Rattle.walk_step.specs.Step.{Inverses}
 use Rattle.walk_state.specs.Root.{root-cong}
 use Rattle.walk_state.specs.State.{rootD, pad-within}
 
--- the ticket of the parts
-abbrev pub ticket : ℕ → ℕ → List ℕ → ℕ → Ticket
-ticket q n D b = record { q = q; n = n; D = D; b = b }
-
--- the table of inverses, d and s = 2d
-pub record Prepared (q g : ℕ) (D table d s : List ℕ) : Type 0 where
-  pub inverses : (a : ℕ) → a < q → getD table a 0 ≡ inverse q a
-  pub root-is : d ≡ pad (modulo q) 129 (rootD q g D)
-  pub twice-is : s ≡ pad (modulo q) 129 (add (modulo q) (rootD q g D) (rootD q g D))
+-- the table of inverses, d and twice = 2d
+pub record Prepared (f : FieldName) (g : ℕ) (D table d twice : List ℕ) : Type 0 where
+  pub inverses : Inverses f table
+  pub root-is : d ≡ pad (ops f) 129 (rootD f g D)
+  pub twice-is : twice ≡ pad (ops f) 129 (add (ops f) (rootD f g D) (rootD f g D))
 
 -- n/2 = g + 1
 pub half-degree : (n : ℕ) → 2 ≤ n → n / 2 ≡ suc (genus n)
@@ -45,15 +42,15 @@ pub one-is : (q : ℕ) → 1 < q → set zeros 0 1 ≡ pad (modulo q) 129 (1 % q
 unfolding pad
 one-is q h = ap (λ (x : ℕ). x ∷ pad (modulo q) 128 []) (sym (mod-eq-of-lt h))
 
-module _ (q n : ℕ) (c : List ℕ) (size : ℕ) (h : Admitted q (genus n) (poly c size)) (k : Held q c size) (two : 2 ≤ n) where
+module _ (q n : ℕ) (c : List ℕ) (size : ℕ) (h : Admitted (prime q) (genus n) (poly c size)) (k : Held (prime q) c size) (two : 2 ≤ n) where
   abbrev d : List ℕ
-  d = rootD q (genus n) (poly c size)
+  d = rootD (prime q) (genus n) (poly c size)
 
   pub root-places : (x : List ℕ) → x ≡ pad (modulo q) 129 (root (modulo q) c (n / 2)) → x ≡ pad (modulo q) 129 d
   root-places x e = e ∙ ap (pad (modulo q) 129) (ap (root (modulo q) c) (half-degree n two) ∙ root-cong q (pos q (h .prime)) c (poly c size) (λ i. sym (at-poly q c size k i)) (suc (genus n)))
 
-  pub root-within : (x : List ℕ) → x ≡ pad (modulo q) 129 d → Within q x (suc (suc (genus n)))
-  root-within x e = subst (λ (l : List ℕ). Within q l (suc (suc (genus n)))) (sym e) (pad-within q d _ (let l = d-length (surd-of h) in omega arith) (let g = h .genus-most in omega arith) (surd-of h .reduced))
+  pub root-within : (x : List ℕ) → x ≡ pad (modulo q) 129 d → Within (prime q) x (suc (suc (genus n)))
+  root-within x e = subst (λ (l : List ℕ). Within (prime q) l (suc (suc (genus n)))) (sym e) (pad-within q d _ (let l = d-length (surd-of h) in omega arith) (let g = h .genus-most in omega arith) (surd-of h .reduced))
 
   pub twice-places : (x y : List ℕ) → x ≡ pad (modulo q) 129 d → Places y (λ i. modulo q .add (getD x i 0) (getD x i 0)) → y ≡ pad (modulo q) 129 (add (modulo q) d d)
   twice-places x y e p =

@@ -1,3 +1,2 @@
-// The state of the walk in arrays: what the walk starts from, and a turn from one state to the next.
+// The state of the walk of the continued fraction of √D, and what the walk starts from.
 pub mod start;
-pub mod turn;

@@ -1,5 +1,4 @@
 pub mod Step
-pub mod Reciprocal
 pub mod Down
 pub mod Sizes
 pub mod Coefficients

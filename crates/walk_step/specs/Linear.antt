@@ -7,7 +7,7 @@ use mathlib.Core.Path.{_≡_, refl, sym, ap, ap₂, _∙_}
 use mathlib.Core.List.{List, [], _∷_}
 use lib.ListN.{getD}
 use Rattle.math_ring.specs.Residues.{mod-mul-mod, mul-mod-mod}
-use Rattle.spec_definitions.specs.Field.{modulo, inverse}
+use Rattle.spec_definitions.specs.Field.{prime, modulo, inverse}
 use Rattle.spec_definitions.specs.Polynomials.{add, sub, mul}
 use Rattle.spec_bridge.specs.Prime.{Prime}
 use Rattle.spec_bridge.specs.Product.{shifted, rows, rows-mul}
@@ -63,21 +63,21 @@ shifted-less q pos b h zero = pos
 shifted-less q pos b h (suc k) = h k
 
 -- ---- the quotient itself, from the top: what clears s − r at n is a1, what clears s − r − a1·x·b at n − 1 is a0
-module _ {q n : ℕ} {s b r : List ℕ} (p : Prime q) (d : Division q (n + 1) n s b r) where
-  pub linear-past : (i : ℕ) → 2 ≤ i → getD (stepQuo q s b r) i 0 ≡ 0
+module _ {q n : ℕ} {s b r : List ℕ} (p : Prime q) (d : Division (prime q) (n + 1) n s b r) where
+  pub linear-past : (i : ℕ) → 2 ≤ i → getD (stepQuo (prime q) s b r) i 0 ≡ 0
   linear-past i h = quo-past p d i (omega arith)
 
   -- what stands at n, times the inverse of the leading coefficient
-  pub upper-at : ((getD s n 0 + (q - getD r n 0)) * inverse q (getD b (n - 1) 0)) % q ≡ getD (stepQuo q s b r) 1 0
+  pub upper-at : ((getD s n 0 + (q - getD r n 0)) * inverse q (getD b (n - 1) 0)) % q ≡ getD (stepQuo (prime q) s b r) 1 0
   unfolding rows
   upper-at =
       let t : ℕ = getD s n 0 + (q - getD r n 0) in
       sym (mod-mul-mod t (inverse q (getD b (n - 1) 0)) q)
       ∙ quo-at p d [] 1 (λ i h. sym (linear-past i h)) (λ i h. refl) n (t % q) (let l = some p d in omega arith)
-      (rest-is q (positive p d) s r [] b n t 0 0 (d .r-within .reduced n) (rows-mul q (positive p d) [] b 0 n (λ i h. refl)) (omega arith))
+      (rest-is q (positive p d) s r [] b n t 0 0 (d .rest-within .reduced n) (rows-mul q (positive p d) [] b 0 n (λ i h. refl)) (omega arith))
 
-  module _ (a1 : ℕ) (is : a1 ≡ getD (stepQuo q s b r) 1 0) where
-    above : (i : ℕ) → 0 < i → getD (0 ∷ a1 ∷ []) i 0 ≡ getD (stepQuo q s b r) i 0
+  module _ (a1 : ℕ) (is : a1 ≡ getD (stepQuo (prime q) s b r) 1 0) where
+    above : (i : ℕ) → 0 < i → getD (0 ∷ a1 ∷ []) i 0 ≡ getD (stepQuo (prime q) s b r) i 0
     above zero h = absurd (omega arith)
     above (suc zero) h = is
     above (suc (suc i)) h = sym (linear-past (suc (suc i)) (omega arith))
@@ -92,15 +92,15 @@ module _ {q n : ℕ} {s b r : List ℕ} (p : Prime q) (d : Division q (n + 1) n 
     ends (suc (suc i)) h = refl
 
     -- the same at n − 1, where h is the part of a1·x·b without a1
-    pub lower-at : (h y : ℕ) → y ≡ shifted b 1 (n - 1) → h ≡ (y * inverse q (getD b (n - 1) 0)) % q → ((getD s (n - 1) 0 + (q - getD r (n - 1) 0)) * inverse q (getD b (n - 1) 0) + (q - a1) * h) % q ≡ getD (stepQuo q s b r) 0 0
+    pub lower-at : (h y : ℕ) → y ≡ shifted b 1 (n - 1) → h ≡ (y * inverse q (getD b (n - 1) 0)) % q → ((getD s (n - 1) 0 + (q - getD r (n - 1) 0)) * inverse q (getD b (n - 1) 0) + (q - a1) * h) % q ≡ getD (stepQuo (prime q) s b r) 0 0
     lower-at h y f e =
         let x : ℕ = getD s (n - 1) 0 + (q - getD r (n - 1) 0) in
         let u : ℕ = inverse q (getD b (n - 1) 0) in
-        let less : getD (stepQuo q s b r) 1 0 < q = quo-reduced p d 1 in
+        let less : getD (stepQuo (prime q) s b r) 1 0 < q = quo-reduced p d 1 in
         let t : ℕ = x + (q - a1) * y in
         ap (λ (v : ℕ). (x * u + (q - a1) * v) % q) e ∙ scaled q x (q - a1) y u ∙ sym (mod-mul-mod t u q)
         ∙ quo-at p d (0 ∷ a1 ∷ []) 0 above none (n - 1) (t % q) (omega arith)
-        (rest-is q (positive p d) s r (0 ∷ a1 ∷ []) b (n - 1) t (a1 * y) y (d .r-within .reduced (n - 1))
+        (rest-is q (positive p d) s r (0 ∷ a1 ∷ []) b (n - 1) t (a1 * y) y (d .rest-within .reduced (n - 1))
         (ap (λ (v : ℕ). v % q) (ap (λ (v : ℕ). a1 * v) f ∙ one-row) ∙ rows-mul q (positive p d) (0 ∷ a1 ∷ []) b 2 (n - 1) ends)
         (let w = complement q a1 y (omega arith) in omega arith))
       where
@@ -108,15 +108,15 @@ module _ {q n : ℕ} {s b r : List ℕ} (p : Prime q) (d : Division q (n + 1) n 
         one-row = let z : 0 * getD b (n - 1) 0 ≡ 0 = zero-mul _ in let w = two-rows (0 ∷ a1 ∷ []) b (n - 1) in omega arith
 
   -- ---- what the two passes form at k
-  module _ (a0 a1 : ℕ) (is0 : a0 ≡ getD (stepQuo q s b r) 0 0) (is1 : a1 ≡ getD (stepQuo q s b r) 1 0) where
-    pub rest-of-is : (k v y : ℕ) → y ≡ shifted b 1 k → v ≡ (getD s k 0 + (q - getD r k 0) + ((q - a0) * getD b k 0 + (q - a1) * y)) % q → v ≡ getD (nextRem q s b r) k 0
+  module _ (a0 a1 : ℕ) (is0 : a0 ≡ getD (stepQuo (prime q) s b r) 0 0) (is1 : a1 ≡ getD (stepQuo (prime q) s b r) 1 0) where
+    pub rest-of-is : (k v y : ℕ) → y ≡ shifted b 1 k → v ≡ (getD s k 0 + (q - getD r k 0) + ((q - a0) * getD b k 0 + (q - a1) * y)) % q → v ≡ getD (nextRem (prime q) s b r) k 0
     rest-of-is k v y f e =
-        let h0 : getD (stepQuo q s b r) 0 0 < q = quo-reduced p d 0 in
-        let h1 : getD (stepQuo q s b r) 1 0 < q = quo-reduced p d 1 in
-        rem-at p d (stepQuo q s b r) (λ i. refl) k v (e ∙ rest-two q (positive p d) (stepQuo q s b r) linear-past a0 a1 is0 is1 s r b k (getD b k 0) y (omega arith) (omega arith) (d .r-within .reduced k) refl f)
+        let h0 : getD (stepQuo (prime q) s b r) 0 0 < q = quo-reduced p d 0 in
+        let h1 : getD (stepQuo (prime q) s b r) 1 0 < q = quo-reduced p d 1 in
+        rem-at p d (stepQuo (prime q) s b r) (λ i. refl) k v (e ∙ rest-two q (positive p d) (stepQuo (prime q) s b r) linear-past a0 a1 is0 is1 s r b k (getD b k 0) y (omega arith) (omega arith) (d .rest-within .reduced k) refl f)
 
-    pub next-of-is : (before z : List ℕ) → ((i : ℕ) → getD z i 0 ≡ getD (nextRem q s b r) i 0) → (k v y : ℕ) → y ≡ shifted z 1 k + (q - shifted r 1 k) → v ≡ (getD before k 0 + (a0 * (getD z k 0 + (q - getD r k 0)) + a1 * y)) % q → v ≡ getD (nextQ q s before b r) k 0
+    pub next-of-is : (before z : List ℕ) → ((i : ℕ) → getD z i 0 ≡ getD (nextRem (prime q) s b r) i 0) → (k v y : ℕ) → y ≡ shifted z 1 k + (q - shifted r 1 k) → v ≡ (getD before k 0 + (a0 * (getD z k 0 + (q - getD r k 0)) + a1 * y)) % q → v ≡ getD (nextQ (prime q) s before b r) k 0
     next-of-is before z rest k v y f e =
-        let h0 = d .r-within .reduced k in
-        let h1 = shifted-less q (positive p d) r (d .r-within .reduced) k in
-        e ∙ next-two q (positive p d) (stepQuo q s b r) linear-past a0 a1 is0 is1 before z r k _ y (omega arith) (omega arith) refl f ∙ ap (λ (l : List ℕ). getD l k 0) (next-cong p d (stepQuo q s b r) (λ i. refl) before z rest)
+        let h0 = d .rest-within .reduced k in
+        let h1 = shifted-less q (positive p d) r (d .rest-within .reduced) k in
+        e ∙ next-two q (positive p d) (stepQuo (prime q) s b r) linear-past a0 a1 is0 is1 before z r k _ y (omega arith) (omega arith) refl f ∙ ap (λ (l : List ℕ). getD l k 0) (next-cong p d (stepQuo (prime q) s b r) (λ i. refl) before z rest)

@@ -1,166 +1,161 @@
-// One step of the walk where the quotient is a0 + a1·x, the most frequent case: the two coefficients directly, and one pass each for the remainder and the next Q.
-// Each pass keeps the factor at the place before. q − a stands for −a, so that no sum goes below 0.
+// One step of the walk where the quotient is a0 + a1·x, the most frequent case: the two coefficients directly, and one pass each for
+// the remainder and the next Q. Each pass keeps the factor at the place before. q − a stands for −a, so that no sum goes below 0.
 ghost use mathlib.Core.Path.{_≡_};
-ghost use Prim.Native.Nat.{_+_, _*_, _-_, _/_, _%_, _<_, _≤_};
+ghost use Prim.Native.Nat.{_+_, _*_, _-_, _%_, _<_, _≤_};
 ghost use lib.ListN.{getD};
-ghost use Rattle.spec_definitions.specs.Field.{inverse};
-ghost use Rattle.spec_bridge.specs.Prime.{Prime};
 ghost use Rattle.spec_bridge.specs.Product.{shifted};
+ghost use Rattle.base_field.specs.Named.{IsField, Ok, name, ops};
 ghost use Rattle.base_polynomial.specs.Places.{Places};
 ghost use Rattle.walk_step.specs.Step.{stepQuo, nextRem, nextQ, Division, Ready, Moved};
-use crate::reduce::reduce;
 use base_field::Field;
+use base_field::reduce;
 
-// One coefficient of the remainder: x is that of b, y the one before.
-fn rest_of(f: Field, reciprocal: u32, s: u32, r: u32, a0: u32, a1: u32, x: u32, y: u32) -> u32
-    requires { ⌜ (f .q < 4096) × (reciprocal ≡ 4294967295 / f .q) ⌝ }
-    requires { ⌜ (s < f .q) × (r < f .q) × (a0 < f .q) × (a1 < f .q) × (x < f .q) × (y < f .q) ⌝ }
-    ensures { λ v. ⌜ v ≡ (s + (f .q - r) + ((f .q - a0) * x + (f .q - a1) * y)) % f .q ⌝ }
+// One coefficient of the remainder: x is that of Q, y the one before.
+fn rest_of(f: Field, twice: u32, rest: u32, a0: u32, a1: u32, x: u32, y: u32) -> u32
+    requires { ⌜ IsField f ⌝ }
+    requires { ⌜ Ok f twice × Ok f rest × Ok f a0 × Ok f a1 × Ok f x × Ok f y ⌝ }
+    ensures { λ v. ⌜ v ≡ (twice + (f .q - rest) + ((f .q - a0) * x + (f .q - a1) * y)) % f .q ⌝ }
 {
     let q = f.q;
-    reduce(f, reciprocal, s + (q - r) + ((q - a0) * x + (q - a1) * y))
+    reduce(f, twice + (q - rest) + ((q - a0) * x + (q - a1) * y))
 }
 
-// One coefficient of the next Q: x is that of next r − r, y the one before.
-fn next_of(f: Field, reciprocal: u32, before: u32, a0: u32, a1: u32, x: u32, y: u32) -> u32
-    requires { ⌜ (f .q < 4096) × (reciprocal ≡ 4294967295 / f .q) ⌝ }
-    requires { ⌜ (before < f .q) × (a0 < f .q) × (a1 < f .q) × (x ≤ 8190) × (y ≤ 8190) ⌝ }
+// One coefficient of the next Q: x is that of the next remainder less the remainder, y the one before.
+fn next_of(f: Field, before: u32, a0: u32, a1: u32, x: u32, y: u32) -> u32
+    requires { ⌜ IsField f ⌝ }
+    requires { ⌜ Ok f before × Ok f a0 × Ok f a1 × (x ≤ 8190) × (y ≤ 8190) ⌝ }
     ensures { λ v. ⌜ v ≡ (before + (a0 * x + a1 * y)) % f .q ⌝ }
 {
-    reduce(f, reciprocal, before + (a0 * x + a1 * y))
+    reduce(f, before + (a0 * x + a1 * y))
 }
 
 // The place before k, 0 where there is none.
-fn below(b: &[u32; 129], k: usize) -> u32
+fn below(current: &[u32; 129], k: usize) -> u32
     requires { ⌜ k < 129 ⌝ }
-    ensures { λ v. ⌜ v ≡ shifted (now (b .entry)) 1 k ⌝ }
+    ensures { λ v. ⌜ v ≡ shifted (now (current .entry)) 1 k ⌝ }
 {
-    if 0 < k { b[k - 1] } else { 0 }
+    if 0 < k { current[k - 1] } else { 0 }
 }
 
-// z becomes the remainder of s − r by b, whose quotient is a0 + a1·x.
+// remains becomes the remainder of twice − rest by Q, whose quotient is a0 + a1·x.
 fn remainder(
     f: Field,
-    reciprocal: u32,
-    s: &[u32; 129],
-    r: &[u32; 129],
+    twice: &[u32; 129],
+    rest: &[u32; 129],
     a0: u32,
     a1: u32,
-    b: &[u32; 129],
-    n: usize,
-    z: &mut [u32; 129],
+    current: &[u32; 129],
+    size: usize,
+    remains: &mut [u32; 129],
 )
-    requires { ⌜ Prime (f .q) × (f .q < 4096) × (reciprocal ≡ 4294967295 / f .q) ⌝ }
-    requires { ⌜ (0 < n) × (n < 128) × Division (f .q) (n + 1) n (now s) (now b) (now r) ⌝ }
-    requires { ⌜ (a0 ≡ getD (stepQuo (f .q) (now s) (now b) (now r)) 0 0) × (a1 ≡ getD (stepQuo (f .q) (now s) (now b) (now r)) 1 0) ⌝ }
-    ensures { λ _. ⌜ Places (now (z .exit)) (λ i. getD (nextRem (f .q) (now (s .entry)) (now (b .entry)) (now (r .entry))) i 0) ⌝ }
+    requires { ⌜ IsField f ⌝ }
+    requires { ⌜ (0 < size) × (size < 128) × Division (name f) (size + 1) size (now twice) (now current) (now rest) ⌝ }
+    requires { ⌜ (a0 ≡ getD (stepQuo (name f) (now twice) (now current) (now rest)) 0 0) × (a1 ≡ getD (stepQuo (name f) (now twice) (now current) (now rest)) 1 0) ⌝ }
+    ensures { λ _. ⌜ Places (now (remains .exit)) (λ i. getD (nextRem (name f) (now (twice .entry)) (now (current .entry)) (now (rest .entry))) i 0) ⌝ }
 {
-    *z = [0u32; 129];
+    *remains = [0u32; 129];
     let mut y: u32 = 0;
     let mut k: usize = 0;
-    while k < n - 1 {
-        let x = b[k];
-        z[k] = rest_of(f, reciprocal, s[k], r[k], a0, a1, x, y);
+    while k < size - 1 {
+        let x = current[k];
+        remains[k] = rest_of(f, twice[k], rest[k], a0, a1, x, y);
         y = x;
         k += 1;
     }
 }
 
-// w becomes before + (a0 + a1·x)·(z − r), of n + 1 coefficients at most, where z is the next r.
+// after becomes before + (a0 + a1·x)·(remains − rest), of size + 1 coefficients at most.
 fn next(
     f: Field,
-    reciprocal: u32,
-    s: &[u32; 129],
+    twice: &[u32; 129],
     before: &[u32; 129],
     a0: u32,
     a1: u32,
-    b: &[u32; 129],
-    n: usize,
-    z: &[u32; 129],
-    r: &[u32; 129],
-    w: &mut [u32; 129],
+    current: &[u32; 129],
+    size: usize,
+    remains: &[u32; 129],
+    rest: &[u32; 129],
+    after: &mut [u32; 129],
 )
-    requires { ⌜ Prime (f .q) × (f .q < 4096) × (reciprocal ≡ 4294967295 / f .q) ⌝ }
-    requires { ⌜ (0 < n) × (n < 128) × Ready (f .q) (n + 1) n (now s) (now before) (now b) (now r) ⌝ }
-    requires { ⌜ (a0 ≡ getD (stepQuo (f .q) (now s) (now b) (now r)) 0 0) × (a1 ≡ getD (stepQuo (f .q) (now s) (now b) (now r)) 1 0) ⌝ }
-    requires { ⌜ Places (now z) (λ i. getD (nextRem (f .q) (now s) (now b) (now r)) i 0) ⌝ }
-    ensures { λ _. ⌜ Places (now (w .exit)) (λ i. getD (nextQ (f .q) (now (s .entry)) (now (before .entry)) (now (b .entry)) (now (r .entry))) i 0) ⌝ }
+    requires { ⌜ IsField f ⌝ }
+    requires { ⌜ (0 < size) × (size < 128) × Ready (name f) (size + 1) size (now twice) (now before) (now current) (now rest) ⌝ }
+    requires { ⌜ (a0 ≡ getD (stepQuo (name f) (now twice) (now current) (now rest)) 0 0) × (a1 ≡ getD (stepQuo (name f) (now twice) (now current) (now rest)) 1 0) ⌝ }
+    requires { ⌜ Places (now remains) (λ i. getD (nextRem (name f) (now twice) (now current) (now rest)) i 0) ⌝ }
+    ensures { λ _. ⌜ Places (now (after .exit)) (λ i. getD (nextQ (name f) (now (twice .entry)) (now (before .entry)) (now (current .entry)) (now (rest .entry))) i 0) ⌝ }
 {
-    *w = [0u32; 129];
+    *after = [0u32; 129];
     let q = f.q;
     let mut y = q;
     let mut k: usize = 0;
-    while k < n + 1 {
-        let x = z[k] + (q - r[k]);
-        w[k] = next_of(f, reciprocal, before[k], a0, a1, x, y);
+    while k < size + 1 {
+        let x = remains[k] + (q - rest[k]);
+        after[k] = next_of(f, before[k], a0, a1, x, y);
         y = x;
         k += 1;
     }
 }
 
-// a1, which clears s − r at its top place.
+// a1, which clears twice − rest at its top place.
 fn upper(
     f: Field,
-    reciprocal: u32,
-    unit: u32,
-    s: &[u32; 129],
-    r: &[u32; 129],
-    b: &[u32; 129],
-    n: usize,
+    lead_inverse: u32,
+    twice: &[u32; 129],
+    rest: &[u32; 129],
+    current: &[u32; 129],
+    size: usize,
 ) -> u32
-    requires { ⌜ Prime (f .q) × (f .q < 4096) × (reciprocal ≡ 4294967295 / f .q) × (unit ≡ inverse (f .q) (getD (now b) (n - 1) 0)) ⌝ }
-    requires { ⌜ (0 < n) × (n < 128) × Division (f .q) (n + 1) n (now s) (now b) (now r) ⌝ }
-    ensures { λ a. ⌜ a ≡ getD (stepQuo (f .q) (now (s .entry)) (now (b .entry)) (now (r .entry))) 1 0 ⌝ }
+    requires { ⌜ IsField f ⌝ }
+    requires { ⌜ «lead_inverse» ≡ ops f .inv (getD (now current) (size - 1) 0) ⌝ }
+    requires { ⌜ (0 < size) × (size < 128) × Division (name f) (size + 1) size (now twice) (now current) (now rest) ⌝ }
+    ensures { λ a. ⌜ a ≡ getD (stepQuo (name f) (now (twice .entry)) (now (current .entry)) (now (rest .entry))) 1 0 ⌝ }
 {
     let q = f.q;
-    reduce(f, reciprocal, (s[n] + (q - r[n])) * unit)
+    reduce(f, (twice[size] + (q - rest[size])) * lead_inverse)
 }
 
-// a0, which clears s − r − a1·x·b at the place below. Each term is multiplied by the unit on its own, so that one product alone waits for a1.
+// a0, which clears twice − rest − a1·x·Q at the place below. Each term is multiplied by the inverse on its own, so that one product
+// alone waits for a1.
 fn lower(
     f: Field,
-    reciprocal: u32,
-    unit: u32,
-    s: &[u32; 129],
-    r: &[u32; 129],
+    lead_inverse: u32,
+    twice: &[u32; 129],
+    rest: &[u32; 129],
     a1: u32,
-    b: &[u32; 129],
-    n: usize,
+    current: &[u32; 129],
+    size: usize,
 ) -> u32
-    requires { ⌜ Prime (f .q) × (f .q < 4096) × (reciprocal ≡ 4294967295 / f .q) × (unit ≡ inverse (f .q) (getD (now b) (n - 1) 0)) ⌝ }
-    requires { ⌜ (0 < n) × (n < 128) × Division (f .q) (n + 1) n (now s) (now b) (now r) ⌝ }
-    requires { ⌜ a1 ≡ getD (stepQuo (f .q) (now s) (now b) (now r)) 1 0 ⌝ }
-    ensures { λ a. ⌜ a ≡ getD (stepQuo (f .q) (now (s .entry)) (now (b .entry)) (now (r .entry))) 0 0 ⌝ }
+    requires { ⌜ IsField f ⌝ }
+    requires { ⌜ «lead_inverse» ≡ ops f .inv (getD (now current) (size - 1) 0) ⌝ }
+    requires { ⌜ (0 < size) × (size < 128) × Division (name f) (size + 1) size (now twice) (now current) (now rest) ⌝ }
+    requires { ⌜ a1 ≡ getD (stepQuo (name f) (now twice) (now current) (now rest)) 1 0 ⌝ }
+    ensures { λ a. ⌜ a ≡ getD (stepQuo (name f) (now (twice .entry)) (now (current .entry)) (now (rest .entry))) 0 0 ⌝ }
 {
     let q = f.q;
-    let y = below(b, n - 1);
-    let h = reduce(f, reciprocal, y * unit);
-    reduce(
-        f,
-        reciprocal,
-        (s[n - 1] + (q - r[n - 1])) * unit + (q - a1) * h,
-    )
+    let y = below(current, size - 1);
+    let h = reduce(f, y * lead_inverse);
+    reduce(f, (twice[size - 1] + (q - rest[size - 1])) * lead_inverse + (q - a1) * h)
 }
 
-// One step where b has one coefficient less than s − r may have; `unit` is the inverse of its leading coefficient.
+// One step where Q has one coefficient less than twice − rest may have; lead_inverse is the inverse of its leading coefficient.
 pub fn linear(
     f: Field,
-    reciprocal: u32,
-    unit: u32,
-    s: &[u32; 129],
+    lead_inverse: u32,
+    twice: &[u32; 129],
     before: &[u32; 129],
-    b: &[u32; 129],
-    n: usize,
-    r: &[u32; 129],
-    z: &mut [u32; 129],
-    w: &mut [u32; 129],
+    current: &[u32; 129],
+    size: usize,
+    rest: &[u32; 129],
+    remains: &mut [u32; 129],
+    after: &mut [u32; 129],
 )
-    requires { ⌜ Prime (f .q) × (f .q < 4096) × (reciprocal ≡ 4294967295 / f .q) × (unit ≡ inverse (f .q) (getD (now b) (n - 1) 0)) ⌝ }
-    requires { ⌜ (0 < n) × (n < 128) × Ready (f .q) (n + 1) n (now s) (now before) (now b) (now r) ⌝ }
-    ensures { λ _. ⌜ Moved (f .q) (now (s .entry)) (now (before .entry)) (now (b .entry)) (now (r .entry)) (now (z .exit)) (now (w .exit)) ⌝ }
+    requires { ⌜ IsField f ⌝ }
+    requires { ⌜ «lead_inverse» ≡ ops f .inv (getD (now current) (size - 1) 0) ⌝ }
+    requires { ⌜ (0 < size) × (size < 128) × Ready (name f) (size + 1) size (now twice) (now before) (now current) (now rest) ⌝ }
+    ensures { λ _. ⌜ Moved (name f) (now (twice .entry)) (now (before .entry)) (now (current .entry)) (now (rest .entry)) (now (remains .exit)) (now (after .exit)) ⌝ }
 {
-    let a1 = upper(f, reciprocal, unit, s, r, b, n);
-    let a0 = lower(f, reciprocal, unit, s, r, a1, b, n);
-    remainder(f, reciprocal, s, r, a0, a1, b, n, z);
-    next(f, reciprocal, s, before, a0, a1, b, n, z, r, w);
+    let mut a = [0u32; 129];
+    a[1] = upper(f, lead_inverse, twice, rest, current, size);
+    a[0] = lower(f, lead_inverse, twice, rest, a[1], current, size);
+    remainder(f, twice, rest, a[0], a[1], current, size, remains);
+    next(f, twice, before, a[0], a[1], current, size, remains, rest, after);
 }

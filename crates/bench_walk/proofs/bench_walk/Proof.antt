@@ -1,7 +1,7 @@
 -- `bench_walk` meets its contract: what `read_ticket` ensures is what the run asks for.
 use native.Mathlib.Omega.{arith}
 use borrow.Author.Needs.{needs}
-use Rattle.call_regulator.specs.Accepted.{accepted, number-is}
+use Rattle.ticket_read.specs.Accepted.{accepted, number-is, degree-two}
 use Rattle.bench_walk.specs.Steps.{many-steps, refused-steps, accepted-steps}
 use Rattle.bench_walk.proofs.bench_walk.Statement.{statement}
 use Rattle.bench_walk.proofs.bench_walk.Tie as tie
@@ -18,7 +18,7 @@ returns-2 c = refused-steps _ _ (omega arith) _ (number-is _ (c .before .before 
 run-on-requires : tie.Need-run-on-requires
 run-on-requires c κs =
     let a = accepted _ (c .before .before .read-ticket .ensures) (omega arith) in
-    (a .radicand, (a .held, (let h = a .half in omega arith), omega arith))
+    (a .is-field, (a .radicand, (a .held, degree-two a, omega arith)))
 
 returns-3 : tie.Need-returns-3
 returns-3 c = accepted-steps _ _ (omega arith) (accepted _ (c .before .before .before .read-ticket .ensures) (omega arith)) _ (c .run-on .ensures)

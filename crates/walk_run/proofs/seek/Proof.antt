@@ -1,96 +1,203 @@
 -- The budget is spent at the index where the loop returns; where it leaves with an index, Q there is the first that is constant.
-use Prim.Native.Nat.{_-_, _≤_, _<_}
+use Prim.Native.Nat.{ℕ, suc, _+_, _-_, _/_, _≤_, _<_}
 use native.Mathlib.Omega.{arith}
-use mathlib.Core.Path.{refl, ap, _∙_}
+use mathlib.Core.Path.{_≡_, ap, ap₂, _∙_}
+use mathlib.Core.Logic.{⊎-elim}
 use borrow.Author.Needs.{needs}
+use Rattle.spec_definitions.specs.Field.{prime}
 use Rattle.spec_definitions.specs.Ticket.{genus}
 use Rattle.spec_definitions.specs.Answers.{found}
 use Rattle.base_polynomial.specs.Record.{poly}
 use Rattle.walk_state.specs.Start.{half-degree, top-is}
-use Rattle.walk_round.specs.Stride.{NoneTo}
-use Rattle.walk_run.specs.Steps.{Standing, standing-first, standing-next, round-rise, steps-none, last-reduced, outcome-found, outcome-spent}
+use Rattle.walk_run.specs.Outcome.{signed}
+use Rattle.walk_run.specs.Steps.{Seeking, Met, seeking-first, seeking-going, seeking-next, seeking-met, met-at, last-reduced, outcome-found, outcome-spent}
 use Rattle.walk_run.proofs.seek.Statement.{statement}
 use Rattle.walk_run.proofs.seek.Tie as tie
 
 abbrev Inv-loop : tie.InvT-loop
-Inv-loop f n radicand length table d s budget top reciprocal a₀ b₀ c₀ x₀ y₀ z₀ at₀ a b c x y z at =
-    Standing (f .q) (genus n) (poly radicand length) budget a b x at × NoneTo (f .q) (genus n) (poly radicand length) at
+Inv-loop f n radicand size inverses d twice budget top a₀ b₀ c₀ x₀ y₀ z₀ at₀ a b c x y z at =
+    Seeking (prime (f .q)) (genus n) (poly radicand size) budget a b x at
 
 abbrev μ-loop : tie.MeasureT-loop
-μ-loop f n radicand length table d s budget top reciprocal a₀ b₀ c₀ x₀ y₀ z₀ at₀ a b c x y z at = budget - at .index
+μ-loop f n radicand size inverses d twice budget top a₀ b₀ c₀ x₀ y₀ z₀ at₀ a b c x y z at = budget - at .index .0
+
+abbrev start : tie.At-loop Inv-loop μ-loop → tie.Start Inv-loop μ-loop
+start l = l .before .before .before .before .before
+
+top-of : (s : tie.Start Inv-loop μ-loop) → s .args .n / 2 + 1 ≡ suc (suc (genus (s .args .n)))
+top-of s = top-is (s .args .n) (s .pre .1 .1 .0 .1)
 
 add-top : tie.Need-add-top Inv-loop μ-loop
 add-top c =
-    let e = half-degree (c .args .n) (c .pre .1 .0 .1) in
-    let g : genus (c .args .n) ≤ 31 = c .pre .0 .genus-most in
+    let e = half-degree (c .args .n) (c .pre .1 .1 .0 .1) in
+    let g : genus (c .args .n) ≤ 31 = c .pre .1 .0 .genus-most in
     omega arith
 
-div-reciprocal : tie.Need-div-reciprocal Inv-loop μ-loop
-div-reciprocal c = let h : 2 < c .before .args .f .q = c .before .pre .0 .odd in omega arith
-
-array-write-b : tie.Need-array-write-b Inv-loop μ-loop
-array-write-b c = search needs
+begin-requires : tie.Need-begin-requires Inv-loop μ-loop
+begin-requires c κs = search needs
 
 loop-holds : tie.Need-loop-holds Inv-loop μ-loop
 loop-holds c =
-    let s = c .before .before .before in
-    (standing-first (s .args .radicand .now) (s .args .length) (s .args .budget) (s .pre .0) (s .pre .1 .0 .0) (s .pre .1 .1), λ j k m. absurd (omega arith))
+    let s = c .before .before .before .before in
+    seeking-first (s .args .radicand .now) (s .args .size) (s .args .budget) (s .pre .1 .0) (s .pre .1 .1 .0 .0) (s .pre .1 .1 .1) (c .begin .ensures)
+
+spent-requires : tie.Need-spent-requires Inv-loop μ-loop
+spent-requires c κs = search needs
 
 returns : tie.Need-returns Inv-loop μ-loop
 returns c =
-    let s = c .before .before .before .before .before .before in
-    let l = c .before .before .loop in
-    outcome-spent (s .args .n) (l .at) (s .pre .0) (l .inv .0 .degree-is) (l .inv .1) (s .args .budget) (omega arith)
+    let o = c .before in
+    let l = o .before .before in
+    let s = start l in
+    c .spent .ensures ∙ outcome-spent (s .args .n) (s .pre .1 .0) (l .loop .inv) (o .if1 .taken)
 
-round-requires : tie.Need-round-requires Inv-loop μ-loop
-round-requires c κs =
-    let s = c .before .before .before .before .before .before .before .before .before .before .before .before in
-    let l = c .before .before .before .before .before .before .before .before .loop in
-    let less : l .at .index < s .args .budget = omega (arith, l .inv .0 .reached, c .before .before .before .before .before .before .if1 .left) in (
-      (refl, less, s .pre .1 .0 .2),
-      record {
-        g = genus (s .args .n);
-        D = poly (s .args .radicand .now) (s .args .length);
-        d = s .args .d .now;
-        top-is = top-is (s .args .n) (s .pre .1 .0 .1);
-        admitted = s .pre .0;
-        prepared = s .pre .1 .1;
-        on = l .inv .0 .on (c .before .before .before .before .before .before .if1 .left);
-      },
-    )
+stride-requires : tie.Need-stride-requires Inv-loop μ-loop
+stride-requires c κs =
+    let o = c .before .before .before .before .before in
+    let l = o .before .before in
+    let s = start l in
+    let h = s .pre .1 .0 in
+    let p = s .pre .1 .1 .1 in
+    let e = top-of s in
+    (s .pre .0, seeking-going h e p (l .loop .inv) (o .if1 .left) (s .pre .1 .1 .0 .2))
 
-loop-less : tie.Need-loop-less Inv-loop μ-loop
-loop-less c =
-    let s = c .before .before .before .before .before .before .before .before .before .before .before .before .before .before .before in
-    let l = c .before .before .before .before .before .before .before .before .before .before .before .loop in
-    let less : l .at .index < s .args .budget = omega (arith, l .inv .0 .reached, c .before .before .before .before .before .before .before .before .before .if1 .left) in
-    let m = round-rise (s .pre .0) (top-is (s .args .n) (s .pre .1 .0 .1)) (s .pre .1 .1) (l .inv .0 .on (c .before .before .before .before .before .before .before .before .before .if1 .left)) less (c .before .before .round .ensures) in
-    omega arith
-
-loop-again : tie.Need-loop-again Inv-loop μ-loop
-loop-again c =
-    let s = c .before .before .before .before .before .before .before .before .before .before .before .before .before .before .before in
-    let l = c .before .before .before .before .before .before .before .before .before .before .before .loop in
-    let less : l .at .index < s .args .budget = omega (arith, l .inv .0 .reached, c .before .before .before .before .before .before .before .before .before .if1 .left) in
-    let t = l .inv .0 .on (c .before .before .before .before .before .before .before .before .before .if1 .left) in
-    let r = c .before .before .round .ensures in
-    (standing-next (s .pre .0) (top-is (s .args .n) (s .pre .1 .0 .1)) (s .pre .1 .1) t less r (c .if2 .left), steps-none (s .pre .0) (top-is (s .args .n) (s .pre .1 .0 .1)) (s .pre .1 .1) refl t (l .inv .1) (r .steps) (c .if2 .left))
-
-constant-requires : tie.Need-constant-requires Inv-loop μ-loop
-constant-requires c κs =
-    let s = c .before .before .before .before .before .before .before .before .before .before .before .before .before .before .before in
-    let l = c .before .before .before .before .before .before .before .before .before .before .before .loop in
-    (s .pre .0 .small, last-reduced (s .pre .0) (top-is (s .args .n) (s .pre .1 .0 .1)) (s .pre .1 .1) (l .inv .0 .on (c .before .before .before .before .before .before .before .before .before .if1 .left)) (c .before .before .round .ensures .steps))
+spent-requires-2 : tie.Need-spent-requires-2 Inv-loop μ-loop
+spent-requires-2 c κs = search needs
 
 returns-2 : tie.Need-returns-2 Inv-loop μ-loop
 returns-2 c =
-    let s = c .before .before .before .before .before .before .before .before .before .before .before .before .before .before .before .before in
-    let l = c .before .before .before .before .before .before .before .before .before .before .before .before .loop in
-    let less : l .at .index < s .args .budget = omega (arith, l .inv .0 .reached, c .before .before .before .before .before .before .before .before .before .before .if1 .left) in
-    let t = l .inv .0 .on (c .before .before .before .before .before .before .before .before .before .before .if1 .left) in
-    let k = c .before .before .before .round .result in
-    let r = c .before .before .before .round .ensures in
-    ap (found (k .degree) (k .index)) (c .constant .ensures) ∙ outcome-found (s .args .n) (s .pre .0) (top-is (s .args .n) (s .pre .1 .0 .1)) (s .pre .1 .1) t (l .inv .1) less (r .steps) (c .before .if2 .taken)
+    let v = c .before in
+    let i = v .before .before in
+    let k = i .before .before in
+    let o = k .before .before .before .before .before .before in
+    let l = o .before .before in
+    let s = start l in
+    let h = s .pre .1 .0 in
+    let p = s .pre .1 .1 .1 in
+    let e = top-of s in
+    let t2 = seeking-next h e p (l .loop .inv) (o .if1 .left) (k .stride .ensures) (i .if2 .left) in
+    c .spent2 .ensures ∙ outcome-spent (s .args .n) h t2 (v .if3 .taken)
+
+stride-requires-2 : tie.Need-stride-requires-2 Inv-loop μ-loop
+stride-requires-2 c κs =
+    let o2 = c .before .before .before .before .before in
+    let i = o2 .before .before in
+    let k = i .before .before in
+    let o = k .before .before .before .before .before .before in
+    let l = o .before .before in
+    let s = start l in
+    let h = s .pre .1 .0 in
+    let p = s .pre .1 .1 .1 in
+    let e = top-of s in
+    let t2 = seeking-next h e p (l .loop .inv) (o .if1 .left) (k .stride .ensures) (i .if2 .left) in
+    (s .pre .0, seeking-going h e p t2 (o2 .if3 .left) (s .pre .1 .1 .0 .2))
+
+spent-requires-3 : tie.Need-spent-requires-3 Inv-loop μ-loop
+spent-requires-3 c κs = search needs
+
+returns-3 : tie.Need-returns-3 Inv-loop μ-loop
+returns-3 c =
+    let v = c .before in
+    let i2 = v .before .before in
+    let k2 = i2 .before .before in
+    let o2 = k2 .before .before .before .before .before .before in
+    let i = o2 .before .before in
+    let k = i .before .before in
+    let o = k .before .before .before .before .before .before in
+    let l = o .before .before in
+    let s = start l in
+    let h = s .pre .1 .0 in
+    let p = s .pre .1 .1 .1 in
+    let e = top-of s in
+    let t2 = seeking-next h e p (l .loop .inv) (o .if1 .left) (k .stride .ensures) (i .if2 .left) in
+    let t3 = seeking-next h e p t2 (o2 .if3 .left) (k2 .stride2 .ensures) (i2 .if4 .left) in
+    c .spent3 .ensures ∙ outcome-spent (s .args .n) h t3 (v .if5 .taken)
+
+stride-requires-3 : tie.Need-stride-requires-3 Inv-loop μ-loop
+stride-requires-3 c κs =
+    let o3 = c .before .before .before .before .before in
+    let i2 = o3 .before .before in
+    let k2 = i2 .before .before in
+    let o2 = k2 .before .before .before .before .before .before in
+    let i = o2 .before .before in
+    let k = i .before .before in
+    let o = k .before .before .before .before .before .before in
+    let l = o .before .before in
+    let s = start l in
+    let h = s .pre .1 .0 in
+    let p = s .pre .1 .1 .1 in
+    let e = top-of s in
+    let t2 = seeking-next h e p (l .loop .inv) (o .if1 .left) (k .stride .ensures) (i .if2 .left) in
+    let t3 = seeking-next h e p t2 (o2 .if3 .left) (k2 .stride2 .ensures) (i2 .if4 .left) in
+    (s .pre .0, seeking-going h e p t3 (o3 .if5 .left) (s .pre .1 .1 .0 .2))
+
+loop-less : tie.Need-loop-less Inv-loop μ-loop
+loop-less c =
+    let k3 = c .before .before in
+    let o3 = k3 .before .before .before .before .before .before in
+    let i2 = o3 .before .before in
+    let k2 = i2 .before .before in
+    let o2 = k2 .before .before .before .before .before .before in
+    let i = o2 .before .before in
+    let k = i .before .before in
+    let o = k .before .before .before .before .before .before in
+    let l = o .before .before in
+    omega (arith, l .loop .inv .reached, o .if1 .left, k .stride .ensures .index-is, k2 .stride2 .ensures .index-is, k3 .stride3 .ensures .index-is)
+
+loop-again : tie.Need-loop-again Inv-loop μ-loop
+loop-again c =
+    let k3 = c .before .before in
+    let o3 = k3 .before .before .before .before .before .before in
+    let i2 = o3 .before .before in
+    let k2 = i2 .before .before in
+    let o2 = k2 .before .before .before .before .before .before in
+    let i = o2 .before .before in
+    let k = i .before .before in
+    let o = k .before .before .before .before .before .before in
+    let l = o .before .before in
+    let s = start l in
+    let h = s .pre .1 .0 in
+    let p = s .pre .1 .1 .1 in
+    let e = top-of s in
+    let t2 = seeking-next h e p (l .loop .inv) (o .if1 .left) (k .stride .ensures) (i .if2 .left) in
+    let t3 = seeking-next h e p t2 (o2 .if3 .left) (k2 .stride2 .ensures) (i2 .if4 .left) in
+    seeking-next h e p t3 (o3 .if5 .left) (k3 .stride3 .ensures) (c .if6 .left)
+
+-- the start from where the three ways out of the loop meet
+abbrev from-join : tie.Joined2 Inv-loop μ-loop → tie.Start Inv-loop μ-loop
+from-join c = start (c .before .before .before .before .before .before .before .before .before .before)
+
+-- where the loop is left, after any of its three steps
+met : (c : tie.Joined2 Inv-loop μ-loop) → (let s = from-join c in Met (prime (s .args .f .q)) (genus (s .args .n)) (poly (s .args .radicand .now) (s .args .size)) (s .args .budget) (c .if2 .at) × (c .if2 .first ≡ c .if2 .at .index .0))
+met c =
+    let k = c .before .before in
+    let o = k .before .before .before .before .before .before in
+    let l = o .before .before in
+    let s = start l in
+    let h = s .pre .1 .0 in
+    let p = s .pre .1 .1 .1 in
+    let e = top-of s in
+    ⊎-elim (λ v. met-at (v .1) (v .2) (seeking-met h e p (l .loop .inv) (o .if1 .left) (k .stride .ensures) (v .0 .taken)))
+    (λ v. ⊎-elim
+    (λ v. met-at (v .11) (v .12) (seeking-met h e p (seeking-next h e p (l .loop .inv) (o .if1 .left) (k .stride .ensures) (v .0 .left)) (v .2 .left) (v .8 .ensures) (v .10 .taken)))
+    (λ v. met-at (v .21) (v .22)
+    (seeking-met h e p (seeking-next h e p (seeking-next h e p (l .loop .inv) (o .if1 .left) (k .stride .ensures) (v .0 .left)) (v .2 .left) (v .8 .ensures) (v .10 .left)) (v .12 .left) (v .18 .ensures) (v .20 .taken)))
+    v)
+    (c .if2 .came)
+
+constant-requires : tie.Need-constant-requires Inv-loop μ-loop
+constant-requires c κs =
+    let j = c .before in
+    let s = from-join j in
+    (s .pre .0, last-reduced (s .pre .1 .0) (met j .0))
+
+returns-4 : tie.Need-returns-4 Inv-loop μ-loop
+returns-4 c =
+    let j = c .before .before in
+    let s = from-join j in
+    let at = j .if2 .at in
+    let m = met j in
+    ap₂ (found (at .degree .0)) (m .1) (c .constant .ensures ∙ ap (λ (i : ℕ). signed (prime (s .args .f .q)) i (at .last)) (m .1)) ∙ outcome-found (s .args .n) (s .pre .1 .0) (m .0)
 
 pub seek-spec : {M : Type 1} → statement M
 seek-spec =
@@ -99,12 +206,18 @@ seek-spec =
     Inv-loop
     μ-loop
     add-top
-    div-reciprocal
-    array-write-b
+    begin-requires
     loop-holds
+    spent-requires
     returns
-    round-requires
+    stride-requires
+    spent-requires-2
+    returns-2
+    stride-requires-2
+    spent-requires-3
+    returns-3
+    stride-requires-3
     loop-less
     loop-again
     constant-requires
-    returns-2)
+    returns-4)

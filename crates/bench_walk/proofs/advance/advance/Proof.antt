@@ -1,82 +1,136 @@
--- Each round takes the state and the degree on, to the last step.
-use Prim.Native.Nat.{_-_, _≤_, _<_}
+-- Each step takes the state and the degree on, to the last.
+use Prim.Native.Nat.{suc, _+_, _-_, _/_, _≤_}
 use native.Mathlib.Omega.{arith}
-use mathlib.Core.Path.{_≡_, refl, ap, _∙_}
+use mathlib.Core.Path.{_≡_}
 use borrow.Author.Needs.{needs}
+use Rattle.spec_definitions.specs.Field.{prime}
 use Rattle.spec_definitions.specs.Ticket.{genus}
-use Rattle.spec_definitions.specs.Field.{modulo}
-use Rattle.spec_definitions.specs.Walk.{degreeBefore}
 use Rattle.base_polynomial.specs.Record.{poly}
 use Rattle.walk_state.specs.Start.{half-degree, top-is}
-use Rattle.walk_run.specs.Steps.{Standing, standing-first, standing-next, round-rise, round-some}
+use Rattle.bench_walk.specs.Advance.{Advancing, advancing-first, advancing-going, advancing-next, advanced}
 use Rattle.bench_walk.proofs.advance.advance.Statement.{statement}
 use Rattle.bench_walk.proofs.advance.advance.Tie as tie
 
 abbrev Inv-loop : tie.InvT-loop
-Inv-loop f n radicand length table d s steps top reciprocal a₀ b₀ c₀ x₀ y₀ z₀ at₀ a b c x y z at =
-    Standing (f .q) (genus n) (poly radicand length) steps a b x at
+Inv-loop f n radicand size inverses d twice steps top a₀ b₀ c₀ x₀ y₀ z₀ at₀ a b c x y z at =
+    Advancing (prime (f .q)) (genus n) (poly radicand size) steps a b x at
 
 abbrev μ-loop : tie.MeasureT-loop
-μ-loop f n radicand length table d s steps top reciprocal a₀ b₀ c₀ x₀ y₀ z₀ at₀ a b c x y z at = steps - at .index
+μ-loop f n radicand size inverses d twice steps top a₀ b₀ c₀ x₀ y₀ z₀ at₀ a b c x y z at = steps - at .index .0
+
+abbrev start : tie.At-loop Inv-loop μ-loop → tie.Start Inv-loop μ-loop
+start l = l .before .before .before .before .before
+
+top-of : (s : tie.Start Inv-loop μ-loop) → s .args .n / 2 + 1 ≡ suc (suc (genus (s .args .n)))
+top-of s = top-is (s .args .n) (s .pre .1 .1 .0 .1)
 
 add-top : tie.Need-add-top Inv-loop μ-loop
 add-top c =
-    let e = half-degree (c .args .n) (c .pre .1 .0 .1) in
-    let g : genus (c .args .n) ≤ 31 = c .pre .0 .genus-most in
+    let e = half-degree (c .args .n) (c .pre .1 .1 .0 .1) in
+    let g : genus (c .args .n) ≤ 31 = c .pre .1 .0 .genus-most in
     omega arith
 
-div-reciprocal : tie.Need-div-reciprocal Inv-loop μ-loop
-div-reciprocal c = let h : 2 < c .before .args .f .q = c .before .pre .0 .odd in omega arith
-
-array-write-b : tie.Need-array-write-b Inv-loop μ-loop
-array-write-b c = search needs
+begin-requires : tie.Need-begin-requires Inv-loop μ-loop
+begin-requires c κs = search needs
 
 loop-holds : tie.Need-loop-holds Inv-loop μ-loop
 loop-holds c =
-    let s = c .before .before .before in
-    standing-first (s .args .radicand .now) (s .args .length) (s .args .steps) (s .pre .0) (s .pre .1 .0 .0) (s .pre .1 .1)
+    let s = c .before .before .before .before in
+    advancing-first (s .args .radicand .now) (s .args .size) (s .args .steps) (s .pre .1 .0) (s .pre .1 .1 .0 .0) (s .pre .1 .1 .1) (c .begin .ensures)
 
-round-requires : tie.Need-round-requires Inv-loop μ-loop
-round-requires c κs =
-    let s = c .before .before .before .before .before .before .before .before .before .before .before .before in
-    let l = c .before .before .before .before .before .before .before .before .loop in
-    let less : l .at .index < s .args .steps = omega arith in
-    let t = l .inv .on (λ e. omega arith) in (
-      (refl, less, s .pre .1 .0 .2),
-      record {
-        g = genus (s .args .n);
-        D = poly (s .args .radicand .now) (s .args .length);
-        d = s .args .d .now;
-        top-is = top-is (s .args .n) (s .pre .1 .0 .1);
-        admitted = s .pre .0;
-        prepared = s .pre .1 .1;
-        on = t;
-      },
-    )
+returns : tie.Need-returns Inv-loop μ-loop
+returns c = advanced (c .before .before .loop .inv) (c .if1 .taken)
+
+stride-requires : tie.Need-stride-requires Inv-loop μ-loop
+stride-requires c κs =
+    let o = c .before .before .before .before .before in
+    let l = o .before .before in
+    let s = start l in
+    let h = s .pre .1 .0 in
+    let p = s .pre .1 .1 .1 in
+    let e = top-of s in
+    (s .pre .0, advancing-going h e p (l .loop .inv) (o .if1 .left) (s .pre .1 .1 .0 .2))
+
+returns-2 : tie.Need-returns-2 Inv-loop μ-loop
+returns-2 c =
+    let k = c .before .before in
+    let o = k .before .before .before .before .before .before in
+    let l = o .before .before in
+    let s = start l in
+    let h = s .pre .1 .0 in
+    let p = s .pre .1 .1 .1 in
+    let e = top-of s in
+    advanced (advancing-next h e p (l .loop .inv) (o .if1 .left) (k .stride .ensures)) (c .if2 .taken)
+
+stride-requires-2 : tie.Need-stride-requires-2 Inv-loop μ-loop
+stride-requires-2 c κs =
+    let o2 = c .before .before .before .before .before in
+    let k = o2 .before .before in
+    let o = k .before .before .before .before .before .before in
+    let l = o .before .before in
+    let s = start l in
+    let h = s .pre .1 .0 in
+    let p = s .pre .1 .1 .1 in
+    let e = top-of s in
+    let t2 = advancing-next h e p (l .loop .inv) (o .if1 .left) (k .stride .ensures) in
+    (s .pre .0, advancing-going h e p t2 (o2 .if2 .left) (s .pre .1 .1 .0 .2))
+
+returns-3 : tie.Need-returns-3 Inv-loop μ-loop
+returns-3 c =
+    let k2 = c .before .before in
+    let o2 = k2 .before .before .before .before .before .before in
+    let k = o2 .before .before in
+    let o = k .before .before .before .before .before .before in
+    let l = o .before .before in
+    let s = start l in
+    let h = s .pre .1 .0 in
+    let p = s .pre .1 .1 .1 in
+    let e = top-of s in
+    let t2 = advancing-next h e p (l .loop .inv) (o .if1 .left) (k .stride .ensures) in
+    let t3 = advancing-next h e p t2 (o2 .if2 .left) (k2 .stride2 .ensures) in
+    advanced t3 (c .if3 .taken)
+
+stride-requires-3 : tie.Need-stride-requires-3 Inv-loop μ-loop
+stride-requires-3 c κs =
+    let o3 = c .before .before .before .before .before in
+    let k2 = o3 .before .before in
+    let o2 = k2 .before .before .before .before .before .before in
+    let k = o2 .before .before in
+    let o = k .before .before .before .before .before .before in
+    let l = o .before .before in
+    let s = start l in
+    let h = s .pre .1 .0 in
+    let p = s .pre .1 .1 .1 in
+    let e = top-of s in
+    let t2 = advancing-next h e p (l .loop .inv) (o .if1 .left) (k .stride .ensures) in
+    let t3 = advancing-next h e p t2 (o2 .if2 .left) (k2 .stride2 .ensures) in
+    (s .pre .0, advancing-going h e p t3 (o3 .if3 .left) (s .pre .1 .1 .0 .2))
 
 loop-less : tie.Need-loop-less Inv-loop μ-loop
 loop-less c =
-    let s = c .before .before .before .before .before .before .before .before .before .before .before .before .before in
-    let l = c .before .before .before .before .before .before .before .before .before .loop in
-    let less : l .at .index < s .args .steps = omega arith in
-    let t = l .inv .on (λ e. omega arith) in
-    let m = round-rise (s .pre .0) (top-is (s .args .n) (s .pre .1 .0 .1)) (s .pre .1 .1) t less (c .round .ensures) in
-    omega arith
+    let o3 = c .before .before .before .before .before .before in
+    let k2 = o3 .before .before in
+    let o2 = k2 .before .before .before .before .before .before in
+    let k = o2 .before .before in
+    let o = k .before .before .before .before .before .before in
+    let l = o .before .before in
+    omega (arith, l .loop .inv .reached, o .if1 .left, k .stride .ensures .index-is, k2 .stride2 .ensures .index-is, c .stride3 .ensures .index-is)
 
 loop-again : tie.Need-loop-again Inv-loop μ-loop
 loop-again c =
-    let s = c .before .before .before .before .before .before .before .before .before .before .before .before .before in
-    let l = c .before .before .before .before .before .before .before .before .before .loop in
-    let less : l .at .index < s .args .steps = omega arith in
-    let t = l .inv .on (λ e. omega arith) in
-    standing-next (s .pre .0) (top-is (s .args .n) (s .pre .1 .0 .1)) (s .pre .1 .1) t less (c .round .ensures) (round-some (s .pre .0) (top-is (s .args .n) (s .pre .1 .0 .1)) (s .pre .1 .1) t less (c .round .ensures))
-
-returns : tie.Need-returns Inv-loop μ-loop
-returns c =
-    let s = c .before .before .before .before .before .before in
-    let l = c .before .before .loop in
-    let e : l .at .index ≡ s .args .steps = omega (arith, l .inv .reached) in
-    l .inv .degree-is ∙ ap (degreeBefore (modulo (s .args .f .q)) _ _) e
+    let o3 = c .before .before .before .before .before .before in
+    let k2 = o3 .before .before in
+    let o2 = k2 .before .before .before .before .before .before in
+    let k = o2 .before .before in
+    let o = k .before .before .before .before .before .before in
+    let l = o .before .before in
+    let s = start l in
+    let h = s .pre .1 .0 in
+    let p = s .pre .1 .1 .1 in
+    let e = top-of s in
+    let t2 = advancing-next h e p (l .loop .inv) (o .if1 .left) (k .stride .ensures) in
+    let t3 = advancing-next h e p t2 (o2 .if2 .left) (k2 .stride2 .ensures) in
+    advancing-next h e p t3 (o3 .if3 .left) (c .stride3 .ensures)
 
 pub advance-spec : {M : Type 1} → statement M
 advance-spec =
@@ -85,10 +139,13 @@ advance-spec =
     Inv-loop
     μ-loop
     add-top
-    div-reciprocal
-    array-write-b
+    begin-requires
     loop-holds
-    round-requires
+    returns
+    stride-requires
+    returns-2
+    stride-requires-2
+    returns-3
+    stride-requires-3
     loop-less
-    loop-again
-    returns)
+    loop-again)

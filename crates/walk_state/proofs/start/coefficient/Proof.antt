@@ -36,7 +36,7 @@ sub-requires : tie.Need-sub-requires
 sub-requires c κs =
     let s = c .before .before in
     let z : 0 < s .args .f .q = omega arith in
-    (search needs, s .pre .1 .0 (s .args .e + s .args .h), subst (λ (m : ℕ). m < s .args .f .q) (sym (c .before .dot .ensures)) (oks-mul (model (s .args .f .q) z) (s .args .d .now) (s .args .d .now) (s .args .e + s .args .h)))
+    (search needs, s .pre .1 .1 .0 (s .args .e + s .args .h), subst (λ (m : ℕ). m < s .args .f .q) (sym (c .before .dot .ensures)) (oks-mul (model (s .args .f .q) z) (s .args .d .now) (s .args .d .now) (s .args .e + s .args .h)))
 
 inverse-requires : tie.Need-inverse-requires
 inverse-requires c κs = search needs
@@ -45,7 +45,7 @@ mul-requires : tie.Need-mul-requires
 mul-requires c κs =
     let s = c .before .before .before .before in
     let z : 0 < s .args .f .q = omega arith in
-    (search needs, subst (λ (m : ℕ). m < s .args .f .q) (sym (c .before .sub .ensures)) (mod-lt _ z), subst (λ (m : ℕ). m < s .args .f .q) (sym (c .inverse .ensures)) (inverse-below (s .args .f .q) 2 (s .pre .0 .0)))
+    (search needs, subst (λ (m : ℕ). m < s .args .f .q) (sym (c .before .sub .ensures)) (mod-lt _ z), subst (λ (m : ℕ). m < s .args .f .q) (sym (c .inverse .ensures)) (inverse-below (s .args .f .q) 2 (s .pre .0 .1)))
 
 returns : tie.Need-returns
 returns c =

@@ -21,11 +21,11 @@ returns : tie.Need-returns
 returns c =
     let s = c .before .before in
     let e : s .args .k - 1 + 1 ≡ s .args .k = omega arith in
-    sym (shifted-next (s .args .b .now) (s .args .k - 1)) ∙ ap (shifted (s .args .b .now) 1) e
+    sym (shifted-next (s .args .current .now) (s .args .k - 1)) ∙ ap (shifted (s .args .current .now) 1) e
 
 returns-2 : tie.Need-returns-2
 unfolding shifted
-returns-2 c = sym (ap (shifted (c .before .args .b .now) 1) (let e : c .before .args .k ≡ 0 = omega arith in e))
+returns-2 c = sym (ap (shifted (c .before .args .current .now) 1) (let e : c .before .args .k ≡ 0 = omega arith in e))
 
 pub below-spec : {M : Type 1} → statement M
 below-spec = tie.close (tie.spec sub-result mul-result element-copy-out-result returns returns-2)

@@ -11,13 +11,13 @@ use Rattle.walk_step.specs.Linear.{shifted-less, lower-at}
 use Rattle.walk_step.proofs.linear.lower.Statement.{statement}
 use Rattle.walk_step.proofs.linear.lower.Tie as tie
 
-unit-less : (c : tie.Start) → c .args .unit < c .args .f .q
-unit-less c = rw (c .pre .0 .3) (inverse-lt (c .args .f .q) (positive (c .pre .0 .0) (c .pre .1 .0 .2)) (getD (c .args .b .now) (c .args .n - 1) 0))
+inverse-less : (c : tie.Start) → c .args .lead-inverse < c .args .f .q
+inverse-less c = rw (c .pre .1 .0) (inverse-lt (c .args .f .q) (positive (c .pre .0 .0) (c .pre .1 .1 .0 .2)) (getD (c .args .current .now) (c .args .size - 1) 0))
 
-small : (c : tie.Start) → (getD (c .args .s .now) (c .args .n - 1) 0 + (c .args .f .q - getD (c .args .r .now) (c .args .n - 1) 0)) * c .args .unit ≤ 8190 * 4095
+small : (c : tie.Start) → (getD (c .args .twice .now) (c .args .size - 1) 0 + (c .args .f .q - getD (c .args .rest .now) (c .args .size - 1) 0)) * c .args .lead-inverse ≤ 8190 * 4095
 small c =
-    let hs = c .pre .1 .0 .2 .s-within .reduced (c .args .n - 1) in
-    let u = unit-less c in
+    let hs = c .pre .1 .1 .0 .2 .twice-within .reduced (c .args .size - 1) in
+    let u = inverse-less c in
     mul-le-mul {n₂ = 8190} {m₂ = 4095} (omega arith) (omega arith)
 
 -- a1 and what is multiplied by its opposite are below q
@@ -25,7 +25,7 @@ product : (c : tie.Start) (h : ℕ) → h < c .args .f .q → (c .args .f .q - c
 product c h l = mul-le-mul {n₂ = 4095} {m₂ = 4095} (omega arith) (omega arith)
 
 residue : (c : tie.After-reduce) → c .reduce .result < c .before .before .args .f .q
-residue c = rw (c .reduce .ensures) (mod-lt _ (positive (c .before .before .pre .0 .0) (c .before .before .pre .1 .0 .2)))
+residue c = rw (c .reduce .ensures) (mod-lt _ (positive (c .before .before .pre .0 .0) (c .before .before .pre .1 .1 .0 .2)))
 
 sub-below : tie.Need-sub-below
 sub-below c = search needs
@@ -36,10 +36,10 @@ below-requires c κs = search needs
 mul-reduce : tie.Need-mul-reduce
 mul-reduce c =
     let s = c .before in
-    let d = s .pre .1 .0 .2 in
-    let hy : c .below .result < s .args .f .q = rw (c .below .ensures) (shifted-less (s .args .f .q) (positive (s .pre .0 .0) d) (s .args .b .now) (d .b-within .reduced) (s .args .n - 1)) in
-    let u = unit-less s in
-    let m : c .below .result * s .args .unit ≤ 4095 * 4095 = mul-le-mul {n₂ = 4095} {m₂ = 4095} (omega arith) (omega arith) in
+    let d = s .pre .1 .1 .0 .2 in
+    let hy : c .below .result < s .args .f .q = rw (c .below .ensures) (shifted-less (s .args .f .q) (positive (s .pre .0 .0) d) (s .args .current .now) (d .current-within .reduced) (s .args .size - 1)) in
+    let u = inverse-less s in
+    let m : c .below .result * s .args .lead-inverse ≤ 4095 * 4095 = mul-le-mul {n₂ = 4095} {m₂ = 4095} (omega arith) (omega arith) in
     omega arith
 
 reduce-requires : tie.Need-reduce-requires
@@ -64,10 +64,10 @@ element-copy-out-reduce-2 : tie.Need-element-copy-out-reduce-2
 element-copy-out-reduce-2 c = search needs
 
 sub-reduce-3 : tie.Need-sub-reduce-3
-sub-reduce-3 c = let s = c .before .before .before .before in omega (arith, s .pre .1 .0 .2 .r-within .reduced (s .args .n - 1))
+sub-reduce-3 c = let s = c .before .before .before .before in omega (arith, s .pre .1 .1 .0 .2 .rest-within .reduced (s .args .size - 1))
 
 add-reduce : tie.Need-add-reduce
-add-reduce c = let s = c .before .before .before .before in omega (arith, s .pre .1 .0 .2 .s-within .reduced (s .args .n - 1))
+add-reduce c = let s = c .before .before .before .before in omega (arith, s .pre .1 .1 .0 .2 .twice-within .reduced (s .args .size - 1))
 
 mul-reduce-4 : tie.Need-mul-reduce-4
 mul-reduce-4 c = omega (arith, small (c .before .before .before .before))
@@ -75,7 +75,7 @@ mul-reduce-4 c = omega (arith, small (c .before .before .before .before))
 sub-reduce-4 : tie.Need-sub-reduce-4
 sub-reduce-4 c =
     let s = c .before .before .before .before in
-    let h : s .args .a1 < s .args .f .q = rw (s .pre .1 .1) (quo-reduced (s .pre .0 .0) (s .pre .1 .0 .2) 1) in
+    let h : s .args .a1 < s .args .f .q = rw (s .pre .1 .1 .1) (quo-reduced (s .pre .0 .0) (s .pre .1 .1 .0 .2) 1) in
     omega arith
 
 mul-reduce-5 : tie.Need-mul-reduce-5
@@ -91,11 +91,11 @@ returns : tie.Need-returns
 returns c =
     let s = c .before .before .before .before .before in
     let q = s .args .f .q in
-    let i = s .args .n - 1 in
+    let i = s .args .size - 1 in
     let h = c .before .before .before .reduce .result in
     let b = c .before .before .before .before .below in
-    c .reduce2 .ensures ∙ ap (λ (u : ℕ). ((getD (s .args .s .now) i 0 + (q - getD (s .args .r .now) i 0)) * u + (q - s .args .a1) * h) % q) (s .pre .0 .3)
-    ∙ lower-at (s .pre .0 .0) (s .pre .1 .0 .2) (s .args .a1) (s .pre .1 .1) h (b .result) (b .ensures) (c .before .before .before .reduce .ensures ∙ ap (λ (u : ℕ). (b .result * u) % q) (s .pre .0 .3))
+    c .reduce2 .ensures ∙ ap (λ (u : ℕ). ((getD (s .args .twice .now) i 0 + (q - getD (s .args .rest .now) i 0)) * u + (q - s .args .a1) * h) % q) (s .pre .1 .0)
+    ∙ lower-at (s .pre .0 .0) (s .pre .1 .1 .0 .2) (s .args .a1) (s .pre .1 .1 .1) h (b .result) (b .ensures) (c .before .before .before .reduce .ensures ∙ ap (λ (u : ℕ). (b .result * u) % q) (s .pre .1 .0))
 
 pub lower-spec : {M : Type 1} → statement M
 lower-spec =

@@ -4,6 +4,7 @@ use native.Mathlib.Omega.{arith}
 use mathlib.Core.Path.{_≡_, sym, ap₂}
 use lib.ListN.{getD}
 use borrow.Author.Needs.{needs}
+use Rattle.spec_definitions.specs.Field.{prime}
 use Rattle.spec_bridge.specs.Product.{shifted}
 use Rattle.base_polynomial.specs.Places.{Filled, filled-none, filled-more, filled-all}
 use Rattle.walk_step.specs.Step.{nextQ}
@@ -14,10 +15,10 @@ use Rattle.walk_step.proofs.linear.next.Statement.{statement}
 use Rattle.walk_step.proofs.linear.next.Tie as tie
 
 abbrev Inv-loop : tie.InvT-loop
-Inv-loop f reciprocal s before a0 a1 b n z r w₀ q y₀ k₀ w y k = (k ≤ n + 1) × (y ≡ shifted z 1 k + (q - shifted r 1 k)) × Filled w (λ i. getD (nextQ (f .q) s before b r) i 0) k
+Inv-loop f twice before a0 a1 current size remains rest after₀ q y₀ k₀ after y k = (k ≤ size + 1) × (y ≡ shifted remains 1 k + (q - shifted rest 1 k)) × Filled after (λ i. getD (nextQ (prime (f .q)) twice before current rest) i 0) k
 
 abbrev μ-loop : tie.MeasureT-loop
-μ-loop f reciprocal s before a0 a1 b n z r w₀ q y₀ k₀ w y k = n + 1 - k
+μ-loop f twice before a0 a1 current size remains rest after₀ q y₀ k₀ after y k = size + 1 - k
 
 loop-holds : tie.Need-loop-holds Inv-loop μ-loop
 unfolding shifted
@@ -39,7 +40,7 @@ element-copy-out-x-2 : tie.Need-element-copy-out-x-2 Inv-loop μ-loop
 element-copy-out-x-2 c = search needs
 
 sub-x : tie.Need-sub-x Inv-loop μ-loop
-sub-x c = let s = c .before .before .before .before .before in omega (arith, s .pre .1 .0 .2 .r-within .reduced (c .before .before .before .loop .k))
+sub-x c = let s = c .before .before .before .before .before in omega (arith, s .pre .1 .0 .2 .rest-within .reduced (c .before .before .before .loop .k))
 
 add-x : tie.Need-add-x Inv-loop μ-loop
 add-x c =
@@ -48,7 +49,7 @@ add-x c =
     let g = s .pre .1 .0 .2 in
     let d = division g in
     let l = c .before .before .before .loop in
-    let hz : getD (s .args .z .now) (l .k) 0 < s .args .f .q = rw (s .pre .1 .1 .1 .at (l .k)) (rem-reduced p d (l .k)) in
+    let hz : getD (s .args .remains .now) (l .k) 0 < s .args .f .q = rw (s .pre .1 .1 .1 .at (l .k)) (rem-reduced p d (l .k)) in
     omega arith
 
 mul-next-of : tie.Need-mul-next-of Inv-loop μ-loop
@@ -67,17 +68,17 @@ next-of-requires c κs =
     let l = c .before .before .before .before .loop in
     let h0 : s .args .a0 < s .args .f .q = rw (s .pre .1 .1 .0 .0) (quo-reduced p d 0) in
     let h1 : s .args .a1 < s .args .f .q = rw (s .pre .1 .1 .0 .1) (quo-reduced p d 1) in
-    let wz : (i : ℕ) → getD (s .args .z .now) i 0 < s .args .f .q = (λ i. rw (s .pre .1 .1 .1 .at i) (rem-reduced p d i)) in
+    let wz : (i : ℕ) → getD (s .args .remains .now) i 0 < s .args .f .q = (λ i. rw (s .pre .1 .1 .1 .at i) (rem-reduced p d i)) in
     let hz = wz (l .k) in
-    let hy = shifted-less (s .args .f .q) pos (s .args .z .now) wz (l .k) in
-    let hr = shifted-less (s .args .f .q) pos (s .args .r .now) (d .r-within .reduced) (l .k) in
-    ((s .pre .0 .1, s .pre .0 .2), (g .before-reduced (l .k), omega arith, omega arith, omega arith, omega arith))
+    let hy = shifted-less (s .args .f .q) pos (s .args .remains .now) wz (l .k) in
+    let hr = shifted-less (s .args .f .q) pos (s .args .rest .now) (d .rest-within .reduced) (l .k) in
+    (s .pre .0, (g .before-reduced (l .k), omega arith, omega arith, omega arith, omega arith))
 
-mul-w : tie.Need-mul-w Inv-loop μ-loop
-mul-w c = search needs
+mul-after : tie.Need-mul-after Inv-loop μ-loop
+mul-after c = search needs
 
-element-write-w : tie.Need-element-write-w Inv-loop μ-loop
-element-write-w c = search needs
+element-write-after : tie.Need-element-write-after Inv-loop μ-loop
+element-write-after c = search needs
 
 add-k : tie.Need-add-k Inv-loop μ-loop
 add-k c = search needs
@@ -92,13 +93,13 @@ loop-again c =
     let g = s .pre .1 .0 .2 in
     let d = division g in
     let l = c .before .before .before .before .before .loop in
-    (omega arith, sym (ap₂ (λ (u v : ℕ). u + (s .args .f .q - v)) (shifted-next (s .args .z .now) (l .k)) (shifted-next (s .args .r .now) (l .k))), filled-more _ (l .w) (l .k) _ (l .inv .2) (omega arith) (next-of-is p d (s .args .a0) (s .args .a1) (s .pre .1 .1 .0 .0) (s .pre .1 .1 .0 .1) (s .args .before .now) (s .args .z .now) (s .pre .1 .1 .1 .at) (l .k) _ (l .y) (l .inv .1) (c .next-of .ensures)))
+    (omega arith, sym (ap₂ (λ (u v : ℕ). u + (s .args .f .q - v)) (shifted-next (s .args .remains .now) (l .k)) (shifted-next (s .args .rest .now) (l .k))), filled-more _ (l .after) (l .k) _ (l .inv .2) (omega arith) (next-of-is p d (s .args .a0) (s .args .a1) (s .pre .1 .1 .0 .0) (s .pre .1 .1 .0 .1) (s .args .before .now) (s .args .remains .now) (s .pre .1 .1 .1 .at) (l .k) _ (l .y) (l .inv .1) (c .next-of .ensures)))
 
 returns : tie.Need-returns Inv-loop μ-loop
 returns c =
     let s = c .before .before .before in
     let l = c .before .loop in
-    filled-all _ (l .w) (l .k) (l .inv .2) (λ i h. next-past (s .pre .0 .0) (s .pre .1 .0 .2) i (omega arith))
+    filled-all _ (l .after) (l .k) (l .inv .2) (λ i h. next-past (s .pre .0 .0) (s .pre .1 .0 .2) i (omega arith))
 
 pub next-spec : {M : Type 1} → statement M
 next-spec =
@@ -117,8 +118,8 @@ next-spec =
     mul-next-of
     element-copy-out-next-of
     next-of-requires
-    mul-w
-    element-write-w
+    mul-after
+    element-write-after
     add-k
     loop-less
     loop-again

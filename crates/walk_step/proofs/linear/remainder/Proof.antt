@@ -4,6 +4,7 @@ use native.Mathlib.Omega.{arith}
 use mathlib.Core.Path.{_≡_, refl, sym}
 use lib.ListN.{getD}
 use borrow.Author.Needs.{needs}
+use Rattle.spec_definitions.specs.Field.{prime}
 use Rattle.spec_bridge.specs.Product.{shifted}
 use Rattle.base_polynomial.specs.Places.{Filled, filled-none, filled-more, filled-all}
 use Rattle.walk_step.specs.Step.{nextRem}
@@ -13,10 +14,10 @@ use Rattle.walk_step.proofs.linear.remainder.Statement.{statement}
 use Rattle.walk_step.proofs.linear.remainder.Tie as tie
 
 abbrev Inv-loop : tie.InvT-loop
-Inv-loop f reciprocal s r a0 a1 b n z₀ y₀ k₀ z y k = (k ≤ n - 1) × (y ≡ shifted b 1 k) × Filled z (λ i. getD (nextRem (f .q) s b r) i 0) k
+Inv-loop f twice rest a0 a1 current size remains₀ y₀ k₀ remains y k = (k ≤ size - 1) × (y ≡ shifted current 1 k) × Filled remains (λ i. getD (nextRem (prime (f .q)) twice current rest) i 0) k
 
 abbrev μ-loop : tie.MeasureT-loop
-μ-loop f reciprocal s r a0 a1 b n z₀ y₀ k₀ z y k = n - 1 - k
+μ-loop f twice rest a0 a1 current size remains₀ y₀ k₀ remains y k = size - 1 - k
 
 loop-holds : tie.Need-loop-holds Inv-loop μ-loop
 unfolding shifted
@@ -52,14 +53,14 @@ rest-of-requires c κs =
     let l = c .before .before .before .before .loop in
     let h0 : s .args .a0 < s .args .f .q = rw (s .pre .1 .1 .0) (quo-reduced p d 0) in
     let h1 : s .args .a1 < s .args .f .q = rw (s .pre .1 .1 .1) (quo-reduced p d 1) in
-    let hy : l .y < s .args .f .q = rw (l .inv .1) (shifted-less _ pos _ (d .b-within .reduced) (l .k)) in
-    ((s .pre .0 .1, s .pre .0 .2), (d .s-within .reduced (l .k), d .r-within .reduced (l .k), h0, h1, d .b-within .reduced (l .k), hy))
+    let hy : l .y < s .args .f .q = rw (l .inv .1) (shifted-less _ pos _ (d .current-within .reduced) (l .k)) in
+    (s .pre .0, (d .twice-within .reduced (l .k), d .rest-within .reduced (l .k), h0, h1, d .current-within .reduced (l .k), hy))
 
-mul-z : tie.Need-mul-z Inv-loop μ-loop
-mul-z c = search needs
+mul-remains : tie.Need-mul-remains Inv-loop μ-loop
+mul-remains c = search needs
 
-element-write-z : tie.Need-element-write-z Inv-loop μ-loop
-element-write-z c = search needs
+element-write-remains : tie.Need-element-write-remains Inv-loop μ-loop
+element-write-remains c = search needs
 
 add-k : tie.Need-add-k Inv-loop μ-loop
 add-k c = search needs
@@ -73,7 +74,7 @@ loop-again c =
     let p = s .pre .0 .0 in
     let d = s .pre .1 .0 .2 in
     let l = c .before .before .before .before .before .loop in
-    (omega arith, sym (shifted-next (s .args .b .now) (l .k)), filled-more _ (l .z) (l .k) _ (l .inv .2) (omega arith) (rest-of-is p d (s .args .a0) (s .args .a1) (s .pre .1 .1 .0) (s .pre .1 .1 .1) (l .k) _ (l .y) (l .inv .1) (c .rest-of .ensures)))
+    (omega arith, sym (shifted-next (s .args .current .now) (l .k)), filled-more _ (l .remains) (l .k) _ (l .inv .2) (omega arith) (rest-of-is p d (s .args .a0) (s .args .a1) (s .pre .1 .1 .0) (s .pre .1 .1 .1) (l .k) _ (l .y) (l .inv .1) (c .rest-of .ensures)))
 
 returns : tie.Need-returns Inv-loop μ-loop
 returns c =
@@ -81,7 +82,7 @@ returns c =
     let p = s .pre .0 .0 in
     let d = s .pre .1 .0 .2 in
     let l = c .before .loop in
-    filled-all _ (l .z) (l .k) (l .inv .2) (λ i h. rem-past p d i (omega arith))
+    filled-all _ (l .remains) (l .k) (l .inv .2) (λ i h. rem-past p d i (omega arith))
 
 pub remainder-spec : {M : Type 1} → statement M
 remainder-spec =
@@ -98,8 +99,8 @@ remainder-spec =
     mul-rest-of-2
     element-copy-out-rest-of-2
     rest-of-requires
-    mul-z
-    element-write-z
+    mul-remains
+    element-write-remains
     add-k
     loop-less
     loop-again

@@ -2,6 +2,7 @@
 use mathlib.Core.Path.{_≡_, subst}
 use Prim.Native.Nat.{ℕ, _+_}
 use native.Mathlib.Omega.{arith}
+use Rattle.spec_definitions.specs.Field.{prime}
 use Rattle.walk_step.specs.Step.{Ready}
 use borrow.Author.Needs.{needs}
 use Rattle.walk_step.proofs.step.fill.Statement.{statement}
@@ -13,11 +14,11 @@ add-if1 c = search needs
 linear-requires : tie.Need-linear-requires
 linear-requires c κs =
     let s = c .before .before .before in
-    let e : s .args .m ≡ s .args .n + 1 = omega arith in
-    (s .pre .0, (s .pre .1 .0 .0, omega arith, subst (λ (m : ℕ). Ready (s .args .f .q) m (s .args .n) (s .args .s .now) (s .args .before .now) (s .args .b .now) (s .args .r .now)) e (s .pre .1 .1)))
+    let e : s .args .top ≡ s .args .size + 1 = omega arith in
+    (s .pre .0, (s .pre .1 .0, (s .pre .1 .1 .0 .0, omega arith, subst (λ (m : ℕ). Ready (prime (s .args .f .q)) m (s .args .size) (s .args .twice .now) (s .args .before .now) (s .args .current .now) (s .args .rest .now)) e (s .pre .1 .1 .1))))
 
 general-requires : tie.Need-general-requires
-general-requires c κs = let s = c .before .before .before in (s .pre .0, (s .pre .1 .0, s .pre .1 .1))
+general-requires c κs = let s = c .before .before .before in s .pre
 
 returns : tie.Need-returns
 returns c = c .linear .ensures

@@ -11,22 +11,22 @@ use Rattle.walk_step.proofs.step.next.Statement.{statement}
 use Rattle.walk_step.proofs.step.next.Tie as tie
 
 abbrev Inv-loop : tie.InvT-loop
-Inv-loop f reciprocal before a l z r m w₀ k₀ w k = (k ≤ m) × Filled w (λ i. getD (add (modulo (f .q)) before (mul (modulo (f .q)) a (sub (modulo (f .q)) z r))) i 0) k
+Inv-loop f before a l remains rest top after₀ k₀ after k = (k ≤ top) × Filled after (λ i. getD (add (modulo (f .q)) before (mul (modulo (f .q)) a (sub (modulo (f .q)) remains rest))) i 0) k
 
 abbrev μ-loop : tie.MeasureT-loop
-μ-loop f reciprocal before a l z r m w₀ k₀ w k = m - k
+μ-loop f before a l remains rest top after₀ k₀ after k = top - k
 
 loop-holds : tie.Need-loop-holds Inv-loop μ-loop
 loop-holds c = (omega arith, filled-none _)
 
 next-at-requires : tie.Need-next-at-requires Inv-loop μ-loop
-next-at-requires c κs = let s = c .before .before .before in ((s .pre .0 .0, s .pre .0 .1, omega arith), (s .pre .1 .0, s .pre .1 .1 .0))
+next-at-requires c κs = let s = c .before .before .before in (s .pre .0, (omega arith, (s .pre .1 .1 .0, s .pre .1 .1 .1 .0)))
 
-mul-w : tie.Need-mul-w Inv-loop μ-loop
-mul-w c = search needs
+mul-after : tie.Need-mul-after Inv-loop μ-loop
+mul-after c = search needs
 
-element-write-w : tie.Need-element-write-w Inv-loop μ-loop
-element-write-w c = search needs
+element-write-after : tie.Need-element-write-after Inv-loop μ-loop
+element-write-after c = search needs
 
 add-k : tie.Need-add-k Inv-loop μ-loop
 add-k c = search needs
@@ -37,15 +37,15 @@ loop-less c = search needs
 loop-again : tie.Need-loop-again Inv-loop μ-loop
 loop-again c =
     let l = c .before .before .loop in
-    (omega arith, filled-more _ (l .w) (l .k) _ (l .inv .1) (omega arith) (c .next-at .ensures))
+    (omega arith, filled-more _ (l .after) (l .k) _ (l .inv .1) (omega arith) (c .next-at .ensures))
 
 returns : tie.Need-returns Inv-loop μ-loop
 returns c =
     let s = c .before .before .before in
     let l = c .before .loop in
     let o = modulo (s .args .f .q) in
-    let short : length (add o (s .args .before .now) (mul o (s .args .a .now) (sub o (s .args .z .now) (s .args .r .now)))) ≤ s .args .m = s .pre .1 .1 .1 in
-    filled-all _ (l .w) (l .k) (l .inv .1) (λ i h. List·getD-eq-default (add o (s .args .before .now) (mul o (s .args .a .now) (sub o (s .args .z .now) (s .args .r .now)))) 0 {n = i} (omega arith))
+    let short : length (add o (s .args .before .now) (mul o (s .args .a .now) (sub o (s .args .remains .now) (s .args .rest .now)))) ≤ s .args .top = s .pre .1 .1 .1 .1 in
+    filled-all _ (l .after) (l .k) (l .inv .1) (λ i h. List·getD-eq-default (add o (s .args .before .now) (mul o (s .args .a .now) (sub o (s .args .remains .now) (s .args .rest .now)))) 0 {n = i} (omega arith))
 
 pub next-spec : {M : Type 1} → statement M
 next-spec =
@@ -55,8 +55,8 @@ next-spec =
     μ-loop
     loop-holds
     next-at-requires
-    mul-w
-    element-write-w
+    mul-after
+    element-write-after
     add-k
     loop-less
     loop-again

@@ -5,7 +5,7 @@ use native.Mathlib.Omega.{arith}
 use mathlib.Core.Path.{ap, _∙_}
 use lib.ListN.{getD}
 use borrow.Author.Needs.{needs}
-use Rattle.spec_definitions.specs.Field.{modulo}
+use Rattle.spec_definitions.specs.Field.{prime, modulo}
 use Rattle.spec_definitions.specs.Polynomials.{sub, mul}
 use Rattle.spec_bridge.specs.Arithmetic.{oks-sub}
 use Rattle.spec_bridge.specs.Residues.{model, inverse-lt}
@@ -17,10 +17,10 @@ use Rattle.walk_step.proofs.step.quotient.Statement.{statement}
 use Rattle.walk_step.proofs.step.quotient.Tie as tie
 
 abbrev Inv-loop : tie.InvT-loop
-Inv-loop f reciprocal unit s r m b n z₀ l k₀ z k = (k ≤ l) × Down z (λ i. getD (stepQuo (f .q) s b r) i 0) k
+Inv-loop f lead-inverse twice rest top current size a₀ l k₀ a k = (k ≤ l) × Down a (λ i. getD (stepQuo (prime (f .q)) twice current rest) i 0) k
 
 abbrev μ-loop : tie.MeasureT-loop
-μ-loop f reciprocal unit s r m b n z₀ l k₀ z k = k
+μ-loop f lead-inverse twice rest top current size a₀ l k₀ a k = k
 
 add-l : tie.Need-add-l Inv-loop μ-loop
 add-l c = search needs
@@ -32,7 +32,7 @@ loop-holds : tie.Need-loop-holds Inv-loop μ-loop
 loop-holds c =
     let s = c .before in
     let p = s .pre .0 .0 in
-    let d = s .pre .1 .1 in
+    let d = s .pre .1 .1 .1 in
     (omega arith, down-none _ _ (quo-past p d))
 
 sub-k : tie.Need-sub-k Inv-loop μ-loop
@@ -51,34 +51,34 @@ rest-at-requires : tie.Need-rest-at-requires Inv-loop μ-loop
 rest-at-requires c κs =
     let s = c .before .before .before .before in
     let p = s .pre .0 .0 in
-    let d = s .pre .1 .1 in
+    let d = s .pre .1 .1 .1 in
     let l = c .before .before .loop in
-    ((s .pre .0 .1, s .pre .0 .2, omega arith, omega arith), ((d .s-within .reduced, d .r-within .reduced, d .b-within .reduced), (quo-within-down p d (l .z) (l .k) (l .inv .0) (l .inv .1), λ i h. l .inv .1 .rest i (omega arith))))
+    (s .pre .0, ((omega arith, omega arith), ((d .twice-within .reduced, d .rest-within .reduced, d .current-within .reduced), (quo-within-down p d (l .a) (l .k) (l .inv .0) (l .inv .1), λ i h. l .inv .1 .rest i (omega arith)))))
 
 mul-reduce : tie.Need-mul-reduce Inv-loop μ-loop
 mul-reduce c =
     let s = c .before .before .before .before .before in
     let p = s .pre .0 .0 in
-    let d = s .pre .1 .1 in
+    let d = s .pre .1 .1 .1 in
     let q = s .args .f .q in
     let pos = positive p d in
-    let v : c .rest-at .result < q = rw (c .rest-at .ensures) (oks-sub (model q pos) (sub (modulo q) (s .args .s .now) (s .args .r .now)) (mul (modulo q) (c .before .before .before .loop .z) (s .args .b .now)) _) in
-    let u : s .args .unit < q = rw (s .pre .0 .3) (inverse-lt q pos _) in
-    let small : c .rest-at .result * s .args .unit ≤ 4095 * 4095 = mul-le-mul {n₂ = 4095} {m₂ = 4095} (omega arith) (omega arith) in
+    let v : c .rest-at .result < q = rw (c .rest-at .ensures) (oks-sub (model q pos) (sub (modulo q) (s .args .twice .now) (s .args .rest .now)) (mul (modulo q) (c .before .before .before .loop .a) (s .args .current .now)) _) in
+    let u : s .args .lead-inverse < q = rw (s .pre .1 .0) (inverse-lt q pos _) in
+    let small : c .rest-at .result * s .args .lead-inverse ≤ 4095 * 4095 = mul-le-mul {n₂ = 4095} {m₂ = 4095} (omega arith) (omega arith) in
     omega arith
 
 reduce-requires : tie.Need-reduce-requires Inv-loop μ-loop
 reduce-requires c κs =
     let s = c .before .before .before .before .before in
     let p = s .pre .0 .0 in
-    let d = s .pre .1 .1 in
-    (positive p d, s .pre .0 .1, s .pre .0 .2)
+    let d = s .pre .1 .1 .1 in
+    s .pre .0
 
-mul-z : tie.Need-mul-z Inv-loop μ-loop
-mul-z c = search needs
+mul-a : tie.Need-mul-a Inv-loop μ-loop
+mul-a c = search needs
 
-element-write-z : tie.Need-element-write-z Inv-loop μ-loop
-element-write-z c = search needs
+element-write-a : tie.Need-element-write-a Inv-loop μ-loop
+element-write-a c = search needs
 
 loop-less : tie.Need-loop-less Inv-loop μ-loop
 loop-less c = search needs
@@ -87,18 +87,18 @@ loop-again : tie.Need-loop-again Inv-loop μ-loop
 loop-again c =
     let s = c .before .before .before .before .before .before in
     let p = s .pre .0 .0 in
-    let d = s .pre .1 .1 in
+    let d = s .pre .1 .1 .1 in
     let l = c .before .before .before .before .loop in
     let v = c .before .rest-at .result in (
       omega arith,
-      down-more _ (l .z) (l .k) (l .k - 1) _ (l .inv .1) (omega arith) (omega arith)
-          (c .reduce .ensures ∙ ap (λ (u : ℕ). (v * u) % s .args .f .q) (s .pre .0 .3) ∙ quo-at p d (l .z) (l .k - 1) (λ i h. l .inv .1 .done i (omega arith)) (λ i h. l .inv .1 .rest i (omega arith)) (l .k - 1 + s .args .n - 1) v (omega arith) (c .before .rest-at .ensures)),
+      down-more _ (l .a) (l .k) (l .k - 1) _ (l .inv .1) (omega arith) (omega arith)
+          (c .reduce .ensures ∙ ap (λ (u : ℕ). (v * u) % s .args .f .q) (s .pre .1 .0) ∙ quo-at p d (l .a) (l .k - 1) (λ i h. l .inv .1 .done i (omega arith)) (λ i h. l .inv .1 .rest i (omega arith)) (l .k - 1 + s .args .size - 1) v (omega arith) (c .before .rest-at .ensures)),
     )
 
 returns : tie.Need-returns Inv-loop μ-loop
 returns c =
     let l = c .before .loop in
-    down-all _ (l .z) (l .k) (l .inv .1) (omega arith)
+    down-all _ (l .a) (l .k) (l .inv .1) (omega arith)
 
 pub quotient-spec : {M : Type 1} → statement M
 quotient-spec =
@@ -116,8 +116,8 @@ quotient-spec =
     rest-at-requires
     mul-reduce
     reduce-requires
-    mul-z
-    element-write-z
+    mul-a
+    element-write-a
     loop-less
     loop-again
     returns)

@@ -3,6 +3,7 @@ use Prim.Native.Nat.{_-_, _≤_}
 use native.Mathlib.Omega.{arith}
 use lib.ListN.{getD}
 use borrow.Author.Needs.{needs}
+use Rattle.spec_definitions.specs.Field.{prime}
 use Rattle.base_polynomial.specs.Places.{Filled, filled-none, filled-more, filled-all}
 use Rattle.walk_step.specs.Step.{nextRem}
 use Rattle.walk_step.specs.Sizes.{rem-past, quo-within}
@@ -11,10 +12,10 @@ use Rattle.walk_step.proofs.step.remainder.Statement.{statement}
 use Rattle.walk_step.proofs.step.remainder.Tie as tie
 
 abbrev Inv-loop : tie.InvT-loop
-Inv-loop f reciprocal s r a m b n z₀ l k₀ z k = (k ≤ n - 1) × Filled z (λ i. getD (nextRem (f .q) s b r) i 0) k
+Inv-loop f twice rest a top current size remains₀ l k₀ remains k = (k ≤ size - 1) × Filled remains (λ i. getD (nextRem (prime (f .q)) twice current rest) i 0) k
 
 abbrev μ-loop : tie.MeasureT-loop
-μ-loop f reciprocal s r a m b n z₀ l k₀ z k = n - 1 - k
+μ-loop f twice rest a top current size remains₀ l k₀ remains k = size - 1 - k
 
 add-l : tie.Need-add-l Inv-loop μ-loop
 add-l c = search needs
@@ -33,13 +34,13 @@ rest-at-requires c κs =
     let s = c .before .before .before in
     let p = s .pre .0 .0 in
     let d = s .pre .1 .1 .0 in
-    ((s .pre .0 .1, s .pre .0 .2, omega arith, omega arith), ((d .s-within .reduced, d .r-within .reduced, d .b-within .reduced), (quo-within p d (s .pre .1 .1 .1), λ i h. absurd (omega arith))))
+    (s .pre .0, ((omega arith, omega arith), ((d .twice-within .reduced, d .rest-within .reduced, d .current-within .reduced), (quo-within p d (s .pre .1 .1 .1), λ i h. absurd (omega arith)))))
 
-mul-z : tie.Need-mul-z Inv-loop μ-loop
-mul-z c = search needs
+mul-remains : tie.Need-mul-remains Inv-loop μ-loop
+mul-remains c = search needs
 
-element-write-z : tie.Need-element-write-z Inv-loop μ-loop
-element-write-z c = search needs
+element-write-remains : tie.Need-element-write-remains Inv-loop μ-loop
+element-write-remains c = search needs
 
 add-k : tie.Need-add-k Inv-loop μ-loop
 add-k c = search needs
@@ -53,7 +54,7 @@ loop-again c =
     let p = s .pre .0 .0 in
     let d = s .pre .1 .1 .0 in
     let l = c .before .before .loop in
-    (omega arith, filled-more _ (l .z) (l .k) _ (l .inv .1) (omega arith) (rem-at p d (s .args .a .now) (s .pre .1 .1 .1 .at) (l .k) _ (c .rest-at .ensures)))
+    (omega arith, filled-more _ (l .remains) (l .k) _ (l .inv .1) (omega arith) (rem-at p d (s .args .a .now) (s .pre .1 .1 .1 .at) (l .k) _ (c .rest-at .ensures)))
 
 returns : tie.Need-returns Inv-loop μ-loop
 returns c =
@@ -61,7 +62,7 @@ returns c =
     let p = s .pre .0 .0 in
     let d = s .pre .1 .1 .0 in
     let l = c .before .loop in
-    filled-all _ (l .z) (l .k) (l .inv .1) (λ i h. rem-past p d i (omega arith))
+    filled-all _ (l .remains) (l .k) (l .inv .1) (λ i h. rem-past p d i (omega arith))
 
 pub remainder-spec : {M : Type 1} → statement M
 remainder-spec =
@@ -74,8 +75,8 @@ remainder-spec =
     loop-holds
     sub-loop
     rest-at-requires
-    mul-z
-    element-write-z
+    mul-remains
+    element-write-remains
     add-k
     loop-less
     loop-again

@@ -12,17 +12,17 @@ use Rattle.walk_step.proofs.step.rest_at.Statement.{statement}
 use Rattle.walk_step.proofs.step.rest_at.Tie as tie
 
 abbrev Inv-loop : tie.InvT-loop
-Inv-loop f reciprocal s r x from l b k q end t₀ i₀ t i = (i ≤ k + 1) × Less q (getD s k 0 + (q - getD r k 0)) x b k i t
+Inv-loop f twice rest x from l current k q end t₀ i₀ t i = (i ≤ k + 1) × Less q (getD twice k 0 + (q - getD rest k 0)) x current k i t
 
 abbrev μ-loop : tie.MeasureT-loop
-μ-loop f reciprocal s r x from l b k q end t₀ i₀ t i = k + 1 - i
+μ-loop f twice rest x from l current k q end t₀ i₀ t i = k + 1 - i
 
 -- one term more fits
 term : (c : tie.After-t4 Inv-loop μ-loop)
-    → (c .before .before .before .before .before .before .before .args .f .q - getD (c .before .before .before .before .before .before .before .args .x .now) (c .before .before .before .loop .i) 0) * getD (c .before .before .before .before .before .before .before .args .b .now) (c .before .before .before .before .before .before .before .args .k - c .before .before .before .loop .i) 0 ≤ 16769025
+    → (c .before .before .before .before .before .before .before .args .f .q - getD (c .before .before .before .before .before .before .before .args .x .now) (c .before .before .before .loop .i) 0) * getD (c .before .before .before .before .before .before .before .args .current .now) (c .before .before .before .before .before .before .before .args .k - c .before .before .before .loop .i) 0 ≤ 16769025
 term c =
     let s = c .before .before .before .before .before .before .before in
-    less-term (s .args .f .q) 0 (s .args .x .now) (s .args .b .now) (s .args .k) (s .pre .0 .0) (s .pre .1 .1 .0 .reduced) (s .pre .1 .0 .2) (c .before .before .before .loop .i)
+    less-term (s .args .f .q) 0 (s .args .x .now) (s .args .current .now) (s .args .k) (s .pre .0 .2) (s .pre .1 .1 .1 .0 .reduced) (s .pre .1 .1 .0 .2) (c .before .before .before .loop .i)
 
 add-end : tie.Need-add-end Inv-loop μ-loop
 add-end c = search needs
@@ -49,16 +49,16 @@ element-copy-out-t-2 : tie.Need-element-copy-out-t-2 Inv-loop μ-loop
 element-copy-out-t-2 c = search needs
 
 sub-t : tie.Need-sub-t Inv-loop μ-loop
-sub-t c = let s = c .before .before .before in omega (arith, s .pre .1 .0 .1 (s .args .k))
+sub-t c = let s = c .before .before .before in omega (arith, s .pre .1 .1 .0 .1 (s .args .k))
 
 add-t : tie.Need-add-t Inv-loop μ-loop
-add-t c = let s = c .before .before .before in omega (arith, s .pre .1 .0 .0 (s .args .k))
+add-t c = let s = c .before .before .before in omega (arith, s .pre .1 .1 .0 .0 (s .args .k))
 
 loop-holds : tie.Need-loop-holds Inv-loop μ-loop
 loop-holds c =
     let s = c .before .before .before in
-    let h = s .pre .1 .0 .0 (s .args .k) in
-    (omega arith, less-none (s .args .f .q) (getD (s .args .s .now) (s .args .k) 0 + (s .args .f .q - getD (s .args .r .now) (s .args .k) 0)) (s .args .x .now) (s .args .b .now) (s .args .k) (s .args .from) (s .pre .1 .1 .1) (omega arith))
+    let h = s .pre .1 .1 .0 .0 (s .args .k) in
+    (omega arith, less-none (s .args .f .q) (getD (s .args .twice .now) (s .args .k) 0 + (s .args .f .q - getD (s .args .rest .now) (s .args .k) 0)) (s .args .x .now) (s .args .current .now) (s .args .k) (s .args .from) (s .pre .1 .1 .1 .1) (omega arith))
 
 mul-t-3 : tie.Need-mul-t-3 Inv-loop μ-loop
 mul-t-3 c = search needs
@@ -67,7 +67,7 @@ element-copy-out-t-3 : tie.Need-element-copy-out-t-3 Inv-loop μ-loop
 element-copy-out-t-3 c = search needs
 
 sub-t-2 : tie.Need-sub-t-2 Inv-loop μ-loop
-sub-t-2 c = let s = c .before .before .before .before .before .before in omega (arith, s .pre .1 .1 .0 .reduced (c .before .before .loop .i))
+sub-t-2 c = let s = c .before .before .before .before .before .before in omega (arith, s .pre .1 .1 .1 .0 .reduced (c .before .before .loop .i))
 
 sub-t-3 : tie.Need-sub-t-3 Inv-loop μ-loop
 sub-t-3 c = search needs
@@ -94,18 +94,18 @@ loop-again : tie.Need-loop-again Inv-loop μ-loop
 loop-again c =
     let s = c .before .before .before .before .before .before .before in
     let l = c .before .before .before .loop in
-    (omega arith, less-next (s .args .f .q) _ (s .args .x .now) (s .args .b .now) (s .args .k) (s .pre .0 .0) (s .pre .1 .1 .0 .reduced) (s .pre .1 .0 .2) (l .i) (l .t) (l .inv .1))
+    (omega arith, less-next (s .args .f .q) _ (s .args .x .now) (s .args .current .now) (s .args .k) (s .pre .0 .2) (s .pre .1 .1 .1 .0 .reduced) (s .pre .1 .1 .0 .2) (l .i) (l .t) (l .inv .1))
 
 reduce-requires : tie.Need-reduce-requires Inv-loop μ-loop
-reduce-requires c κs = let s = c .before .before .before .before .before in (omega (arith, s .pre .1 .0 .0 0), s .pre .0 .0, s .pre .0 .1)
+reduce-requires c κs = let s = c .before .before .before .before .before in s .pre .0
 
 returns : tie.Need-returns Inv-loop μ-loop
 returns c =
     let s = c .before .before .before .before .before .before in
     let l = c .before .before .loop in
-    let h = s .pre .1 .0 .1 (s .args .k) in
+    let h = s .pre .1 .1 .0 .1 (s .args .k) in
     c .reduce .ensures
-    ∙ rest-is (s .args .f .q) (omega arith) (s .args .s .now) (s .args .r .now) (s .args .x .now) (s .args .b .now) (s .args .k) (l .t) (dots (s .args .x .now) (s .args .b .now) (s .args .k) (l .i)) (l .inv .1 .count) h (dots-all (s .args .f .q) (omega arith) (s .args .x .now) (s .args .b .now) (s .args .k) (s .args .l) (l .i) (s .pre .1 .1 .0 .past) (omega arith) (omega arith)) (l .inv .1 .whole)
+    ∙ rest-is (s .args .f .q) (omega arith) (s .args .twice .now) (s .args .rest .now) (s .args .x .now) (s .args .current .now) (s .args .k) (l .t) (dots (s .args .x .now) (s .args .current .now) (s .args .k) (l .i)) (l .inv .1 .count) h (dots-all (s .args .f .q) (omega arith) (s .args .x .now) (s .args .current .now) (s .args .k) (s .args .l) (l .i) (s .pre .1 .1 .1 .0 .past) (omega arith) (omega arith)) (l .inv .1 .whole)
 
 pub rest-at-spec : {M : Type 1} → statement M
 rest-at-spec =

@@ -1,2 +1,3 @@
 pub mod Progress
+pub mod Walked
 pub mod Stride
