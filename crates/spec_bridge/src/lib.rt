@@ -1,1 +1,2 @@
-// The definitions of document 01 are the operations of the field of q elements and of its polynomials: specifications only.
+// The definitions of document 01 are the operations of the field of q elements and of its polynomials:
+// specifications only.

@@ -1,6 +1,8 @@
--- T3: what is found is least. For every p and s with s ≠ 0 and p² − D·s² a nonzero constant: where a ticket's outcome is `found`, the degree of p is at least R,
--- the unit is such a pair of degree R, and one of degree R is a constant multiple of it, up to the sign of s; where it is `spent`, the degree of p is above the degree reached.
--- Polynomials are lists of any length, of any numbers, read in the field. The proof is the theorem on the least degree in the continued fraction of √D.
+-- T3: what is found is least. For every p and s with s ≠ 0 and p² − D·s² a nonzero constant: where a ticket's
+-- outcome is `found`, the degree of p is at least R, the unit is such a pair of degree R, and one of degree R
+-- is a constant multiple of it, up to the sign of s; where it is `spent`, the degree of p is above the degree
+-- reached. Polynomials are lists of any length, of any numbers, read in the field. The proof is the theorem
+-- on the least degree in the continued fraction of √D.
 use Prim.Native.Nat.{ℕ, zero, suc, _≤_, _<_}
 use native.Mathlib.Nat.{eq-zero-or-pos}
 use mathlib.Core.Path.{_≡_, refl, sym, ap, ap₂, _∙_, fun-ext}

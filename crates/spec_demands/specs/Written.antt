@@ -1,5 +1,6 @@
--- T3 of the lists that the call `unit` writes: where it answers found with R, m, c, places 0 to R of its first two lists are a unit of the least degree R and the norm c.
--- The places hold the unit's coefficients and zeros above, which is the same polynomial, and what T3 says depends on polynomials alone.
+-- T3 of the lists that the call `unit` writes: where it answers found with R, m, c, places 0 to R of its
+-- first two lists are a unit of the least degree R and the norm c. The places hold the unit's coefficients
+-- and zeros above, which is the same polynomial, and what T3 says depends on polynomials alone.
 use Prim.Native.Nat.{ℕ, zero, suc, _-_, _≤_}
 use native.Mathlib.Omega.{arith}
 use mathlib.Core.Path.{_≡_, refl, sym, ap, ap₂, _∙_, fun-ext, subst}

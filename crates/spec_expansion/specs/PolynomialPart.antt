@@ -1,9 +1,11 @@
--- The walk is the expansion of √D in a continued fraction: d is the polynomial part of √D, and a_i is that of the complete quotient (P_i + √D)/Q_i, at every
--- index i. What this leaves, (√D − P_{i+1})/Q_i, is the reciprocal of the next complete quotient, since Q_i·Q_{i+1} = D − P_{i+1}² (T2's `product`); and the
--- first one is √D, as P_0 = 0 and Q_0 = 1.
--- √D is a series in 1/x. It is taken here to any number N of places after the point, with no series: T is the polynomial part of x^N·√D exactly where T is
--- monic of degree g + 1 + N and x^2N·D − T² has at most the degree g + N, for x^2N·D − T² is (x^N·√D − T)·(x^N·√D + T), whose second factor then has
--- the degree g + 1 + N. Polynomials are lists of any numbers and any length, read in the field.
+-- The walk is the expansion of √D in a continued fraction: d is the polynomial part of √D, and a_i is that of
+-- the complete quotient (P_i + √D)/Q_i, at every index i. What this leaves, (√D − P_{i+1})/Q_i, is the
+-- reciprocal of the next complete quotient, since Q_i·Q_{i+1} = D − P_{i+1}² (T2's `product`); and the first
+-- one is √D, as P_0 = 0 and Q_0 = 1.
+-- √D is a series in 1/x. It is taken here to any number N of places after the point, with no series: T is the
+-- polynomial part of x^N·√D exactly where T is monic of degree g + 1 + N and x^2N·D − T² has at most the
+-- degree g + N, for x^2N·D − T² is (x^N·√D − T)·(x^N·√D + T), whose second factor then has the degree g + 1 +
+-- N. Polynomials are lists of any numbers and any length, read in the field.
 use Prim.Native.Nat.{ℕ, zero, suc, _+_ as _+ₙ_, _-_ as _-ₙ_, _≤_, _<_}
 use native.Mathlib.Nat.{add-zero, zero-add, add-suc}
 use native.Mathlib.Omega.{arith}
@@ -78,13 +80,16 @@ module _ (f : FieldName) (g : ℕ) (D d : List ℕ) where
   a = walk.a (ops f) D d
 
   pub record Expansion : Type 0 where
-    -- √D has any number of places, and more places leave the first N as they are: T is the polynomial part of U/x^k where U has k places more
+    -- √D has any number of places, and more places leave the first N as they are: T is the polynomial part of
+    -- U/x^k where U has k places more
     pub places : (N : ℕ) → (T : List ℕ) × RootTo N T
     pub further : (N k : ℕ) (T U : List ℕ) → RootTo N T → RootTo (N +ₙ k) U → PolynomialPart f T U (x^ k)
-    -- d is the polynomial part of √D: no other polynomial is √D to 0 places, and d is the polynomial part of T/x^N for √D to N places
+    -- d is the polynomial part of √D: no other polynomial is √D to 0 places, and d is the polynomial part of
+    -- T/x^N for √D to N places
     pub root : (T : List ℕ) → RootTo 0 T → Same f T d
     pub root-part : (N : ℕ) (T : List ℕ) → RootTo N T → PolynomialPart f d T (x^ N)
-    -- a_i is the polynomial part of (P_i + √D)/Q_i, that is of (x^N·P_i + T)/(x^N·Q_i) for √D to N places, and nothing else is
+    -- a_i is the polynomial part of (P_i + √D)/Q_i, that is of (x^N·P_i + T)/(x^N·Q_i) for √D to N places,
+    -- and nothing else is
     pub quotient : (N : ℕ) (T : List ℕ) → RootTo N T → (i : ℕ) → PolynomialPart f (a i) (x^ N ⊗ P i ⊕ T) (x^ N ⊗ Q i)
     pub quotient-only : (N : ℕ) (T : List ℕ) → RootTo N T → (i : ℕ) (l : List ℕ) → PolynomialPart f l (x^ N ⊗ P i ⊕ T) (x^ N ⊗ Q i) → Same f l (a i)
 

@@ -1,6 +1,8 @@
--- A record's words are the only ones: two lists whose words are read as the same record of the walk have the same words there. So a list that is read as record
--- j + 1 has the words of the definitions, and a list that is read as every record from 1 to m and keeps the words after them is the list at exit. Neither a length
--- nor a bound on the words is asked for: the kinds tell that the words are there, and a word is its kind and its value.
+-- A record's words are the only ones: two lists whose words are read as the same record of the walk have the
+-- same words there. So a list that is read as record j + 1 has the words of the definitions, and a list that
+-- is read as every record from 1 to m and keeps the words after them is the list at exit. Neither a length
+-- nor a bound on the words is asked for: the kinds tell that the words are there, and a word is its kind and
+-- its value.
 use Prim.Native.Nat.{ℕ, zero, suc, _+_, _*_, _-_, _/_, _%_, _≤_, _<_}
 use native.Mathlib.Nat.{mod-lt, div-add-mod', div-lt-iff-lt-mul}
 use native.Mathlib.Omega.{arith}
@@ -43,7 +45,8 @@ use Rattle.spec_uniqueness.specs.Units.{later-at}
 abbrev pub RecordOnly : Type 0
 RecordOnly = (w : List ℕ) → refusalOf w ≡ 0 → (R m c : ℕ) → wordsOutcome w ≡ found R m c → (j : ℕ) → j < m → (l : List ℕ) → RecordRead (ticketOf w) R j l → take (ticketOf w .n + 4) (drop (j * (ticketOf w .n + 4)) l) ≡ recordOf (ticketOf w) R j
 
--- a list as long as the one lent that is read as the records 1 to m and keeps the words past the last record is the list at exit
+-- a list as long as the one lent that is read as the records 1 to m and keeps the words past the last record
+-- is the list at exit
 abbrev pub ListingOnly : Type 0
 ListingOnly = (w old : List ℕ) (R m c : ℕ) → listingAnswer w old .says ≡ said (found R m c) → (l : List ℕ) → ((j : ℕ) → j < m → RecordRead (ticketOf w) R j l) → KeepsFrom (m * (ticketOf w .n + 4)) old l → l ≡ listingAnswer w old .list
 

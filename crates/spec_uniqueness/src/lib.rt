@@ -1,1 +1,2 @@
-// Whatever satisfies a statement of `demands` or `answers` is what the definitions give. Everything stands in specs/.
+// Whatever satisfies a statement of `demands` or `answers` is what the definitions give. Everything stands in
+// specs/.
