@@ -36,6 +36,7 @@ use Rattle.spec_laws.specs.Fraction.{Q-deg, divide, rem-low}
 use Rattle.spec_laws.specs.Admitted.{is-field, surd-of, admitted, monic-D}
 use Rattle.spec_demands.specs.Sentences.{AllowedField, Same, Operators, operators}
 use Rattle.spec_demands.specs.Readings.{named-field}
+use Rattle.spec_demands.specs.Arithmetic.{series-same}
 use Rattle.spec_demands.specs.Continued.{RootOf}
 
 module _ (f : FieldName) where
@@ -122,9 +123,6 @@ module _ (f : FieldName) (named : IsField f) where
   abbrev ⟦_⟧ : List ℕ → Px K
   ⟦ l ⟧ = series M l
 
-  series-same : (l h : List ℕ) → ⟦ l ⟧ ≡ ⟦ h ⟧ → Same f l h
-  series-same l h e i = same-reading f named _ _ (ap (λ (u : Px K). u i) e)
-
   -- ---- sizes of lists, and degrees of their polynomials
   size-low : (a : List ℕ) (n : ℕ) → size (ops f) a ≤ n → Low K ⟦ a ⟧ n
   size-low a n h i l = below-size M a i (let e = size-is M a in omega arith)
@@ -149,7 +147,7 @@ module _ (f : FieldName) (named : IsField f) where
   part-low l a b h = low-path K _ (rest-series l a b) (size-low (sub (ops f) a (mul (ops f) l b)) _ (omega arith))
 
   part-unique : (l h a b : List ℕ) → PolynomialPart f l a b → PolynomialPart f h a b → Same f l h
-  part-unique l h a b u v = series-same l h (eq-of-sub R[x] ⟦ l ⟧ ⟦ h ⟧ (low-none K (⟦ l ⟧ - ⟦ h ⟧) (low-quotient K (length l +ₙ length h) (⟦ l ⟧ - ⟦ h ⟧) ⟦ b ⟧ 0 n (deg-of-size b (omega arith)) bounded (low-path K (0 +ₙ n) gap (low-up K _ (omega arith) (low-sub K _ _ n (part-low h a b v) (part-low l a b u)))))))
+  part-unique l h a b u v = series-same f named l h (eq-of-sub R[x] ⟦ l ⟧ ⟦ h ⟧ (low-none K (⟦ l ⟧ - ⟦ h ⟧) (low-quotient K (length l +ₙ length h) (⟦ l ⟧ - ⟦ h ⟧) ⟦ b ⟧ 0 n (deg-of-size b (omega arith)) bounded (low-path K (0 +ₙ n) gap (low-up K _ (omega arith) (low-sub K _ _ n (part-low h a b v) (part-low l a b u)))))))
     where
       n : ℕ
       n = size (ops f) b -ₙ 1
@@ -248,7 +246,7 @@ module _ (f : FieldName) (named : IsField f) where
     root-no-place = subst (λ (k : ℕ). RootOf f k (shifted 0 D) d) (sym (add-zero g)) (series-root g (shifted 0 D) d (subst (λ (l : Px K). IsRoot K l ⟦ d ⟧ (suc g)) (sym (shifted-series 0 D ∙ ap (λ (u : Px K). u * (u * ⟦ D ⟧)) x-zero ∙ ring R[x] (⟦ D ⟧ ∷ []) (search quote depth 40 fits 9999) tt)) (z .is-root)))
 
     root-only : (T : List ℕ) → RootToPlaces f g D 0 T → Same f T d
-    root-only T r = series-same T d (root-unique K (root-series (g +ₙ 0) (shifted 0 D) T r) (root-series (g +ₙ 0) (shifted 0 D) d root-no-place))
+    root-only T r = series-same f named T d (root-unique K (root-series (g +ₙ 0) (shifted 0 D) T r) (root-series (g +ₙ 0) (shifted 0 D) d root-no-place))
 
     root-part : (N : ℕ) (T : List ℕ) → RootToPlaces f g D N T → PolynomialPart f d T (power f N)
     root-part N T r = places-further g D 0 N d T root-no-place (subst (λ (n : ℕ). RootToPlaces f g D n T) (sym (zero-add N)) r)
