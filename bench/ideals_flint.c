@@ -1,7 +1,7 @@
 // Product and giant step of ideals by FLINT's nmod_poly.
 // LITERAL: document 01's formulas as they are written. Else what need not be computed is left out: V; W and the second
-// greatest common divisor where the first is 1; P by a remainder modulo Q_2/S in place of Q; Q by (2-7) after its first
-// division; the last partial quotient, of which the degree is enough.
+// greatest common divisor where the first is 1; P by a remainder modulo Q_2/S in place of Q; Q by (2-7) of source 000 after
+// the first division. Of both: of the last partial quotient the degree is enough.
 #include <flint/nmod_poly.h>
 #include "ideals.h"
 
@@ -59,13 +59,12 @@ static void product(struct ideal *x, struct ideal *y) {
 }
 #else
 static void product(struct ideal *x, struct ideal *y) {
-#ifndef XGCD
     // the first Q is the one of lower degree: the product is the same
     if (y->q->length < x->q->length) {
         struct ideal *z = x;
         x = y, y = z;
     }
-    if (x->q->length == 1 || y->q->length < 2) {
+    if (x->q->length == 1) {
         nmod_poly_one(G);
         nmod_poly_one(U);
     } else if (x->q->length < y->q->length) {
@@ -79,9 +78,6 @@ static void product(struct ideal *x, struct ideal *y) {
             nmod_poly_zero(U);
         }
     }
-#else
-    nmod_poly_xgcd(G, U, V, x->q, y->q);
-#endif
     if (G->length == 1) {
         nmod_poly_one(S);
         nmod_poly_mul(Q, x->q, y->q);
@@ -120,7 +116,7 @@ static void reduce(void) {
     while (Q->length > half) {
         nmod_poly_add(t, P, d);
         if (!first) f += t->length - Q->length;
-#if defined(LITERAL) || defined(REDUCE01)
+#ifdef LITERAL
         nmod_poly_div(a, t, Q);
         nmod_poly_mul(t, a, Q);
         nmod_poly_sub(P, t, P);
