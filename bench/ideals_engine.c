@@ -1,4 +1,5 @@
-// Product and giant step by the engine below the ticket, target/staticlib/libbench_ideals.a: ticket and pairs are read once for all turns.
+// Product and giant step by the engine below the ticket, target/staticlib/libbench_ideals.a: ticket and pairs are read once for all
+// turns, and the time of that is taken off.
 #include <stddef.h>
 #include "ideals.h"
 
@@ -12,10 +13,16 @@ int main(int argc, char **argv) {
     if (argc != 3) exit(2);
     input();
     long turns = atol(argv[2]), sizes = 0;
-    double start = seconds();
+    double time = 0;
     for (uint32_t k = 0; k < count; k++) {
         struct pair *x = &couples[k][0], *y = &couples[k][1];
-        sizes += (*argv[1] == 'g' ? bench_giant_step : bench_product)(ticket, words, x->q, n / 2, x->p, n / 2 - 1, y->q, n / 2, y->p, n / 2 - 1, turns);
+        // the reading, which is taken off, and then the reading with all turns
+        for (int made = 0; made < 2; made++) {
+            double start = seconds();
+            sizes += (*argv[1] == 'g' ? bench_giant_step : bench_product)(ticket, words, x->q, n / 2, x->p, n / 2 - 1, y->q, n / 2, y->p, n / 2 - 1,
+                                                                          made ? turns : 0);
+            time += made ? seconds() - start : start - seconds();
+        }
     }
-    printf("%.6f %ld\n", seconds() - start, sizes);
+    printf("%.6f %ld\n", time, sizes);
 }
