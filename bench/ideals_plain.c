@@ -1,5 +1,6 @@
-// Product and giant step in plain C: arrays by reference with their sizes, a coefficient reduced once, a table of inverses, what need not be
-// computed left out as in ideals_flint.c. A model of what the engine could do: with CLEAR it clears all 129 places of each result first.
+// Product and giant step in plain C: arrays by reference with their sizes, a coefficient reduced once, a table of inverses, what
+// need not be computed left out as in ideals_flint.c. A model of what the engine could do: with CLEAR it clears all 129 places of
+// each result first, with NO_TABLE each inverse is computed where it is needed.
 #include "ideals.h"
 #define PLACES 129
 
@@ -16,6 +17,14 @@ static long f;
 static inline uint32_t reduce(uint32_t x) {
     uint32_t r = x - (uint32_t)((uint64_t)x * reciprocal >> 32) * q;
     return r >= q ? r - q : r;
+}
+
+static uint32_t inverse(uint32_t a) {
+#ifdef NO_TABLE
+    return a < 2 ? a : reduce((q - q / a) * inverse(q % a));
+#else
+    return inverses[a];
+#endif
 }
 
 static inline void start(poly *z) {
@@ -97,7 +106,7 @@ static void divide(poly *a, poly *r, const poly *x, const poly *y) {
     int k = y->size, t = x->size - k + 1;
     if (t < 0) t = 0;
     memcpy(s, x->c, x->size * sizeof *s);
-    uint32_t u = inverses[y->c[k - 1]];
+    uint32_t u = inverse(y->c[k - 1]);
     if (a) start(a);
     for (int i = t - 1; i >= 0; i--) {
         uint32_t c = reduce(reduce(s[i + k - 1]) * u), m = c ? q - c : 0, *restrict to = s + i;
@@ -134,7 +143,7 @@ static void bezout(poly *g, poly *u, poly *v, const poly *x, const poly *y) {
         if (v) fused(&c[k], &c[k], &t, &c[1 - k], 1);
         top = low, low = &a[k], k = 1 - k;
     }
-    uint32_t w = top->size ? inverses[top->c[top->size - 1]] : 0;
+    uint32_t w = top->size ? inverse(top->c[top->size - 1]) : 0;
     scale(g, top, w), scale(u, &b[k], w);
     if (v) scale(v, &c[k], w);
 }
@@ -207,7 +216,7 @@ static void walk(void) {
         f += t.size - now->size;
     }
     f += now->size - 1;
-    scale(&Q, now, inverses[now->c[now->size - 1]]);
+    scale(&Q, now, inverse(now->c[now->size - 1]));
     divide(0, &P, p, &Q);
 }
 
