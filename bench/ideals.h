@@ -1,4 +1,4 @@
-// What the contenders of bench/ideals share: the ticket and the pairs of ideals from standard input, the clock.
+// What the contenders of bench/ideals share: ticket and couples of ideals from standard input, the clock.
 // Each is called as  NAME what turns  with what one of
 //   answers   prints every answer; turns has no effect
 //   product   turns times over, the product of each couple of ideals; prints processor seconds

@@ -1,7 +1,7 @@
 // Product and giant step of ideals by FLINT's nmod_poly.
-// LITERAL: document 01's formulas as they are written. Else what need not be computed is left out: V; W and the second
-// greatest common divisor where the first is 1; P by a remainder modulo Q_2/S in place of Q; Q by (2-7) of source 000 after
-// the first division. Of both: of the last partial quotient the degree is enough.
+// LITERAL: document 01's formulas as they are written. Else what need not be computed is left out: V; W and the
+// second greatest common divisor where the first is 1; P by a remainder modulo Q_2/S in place of Q; Q by (2-7) of
+// source 000 after the first division. In both, of the last partial quotient the degree is enough.
 #include <flint/nmod_poly.h>
 #include "ideals.h"
 

@@ -1,16 +1,18 @@
-// Product and giant step by the library's calls, target/staticlib/libfoskadoin.a: each call reads the ticket and the pairs.
+// Product and giant step by the library's calls, target/staticlib/libfoskadoin.a: each call reads the ticket and
+// the pairs.
 #include "../include/foskadoin.h"
 #include "ideals.h"
 
 static uint32_t s[129], first[129], second[129];
 
 static struct foskadoin_product_numbers product(const struct pair *x, const struct pair *y) {
-    return foskadoin_product(ticket, words, x->q, n / 2, x->p, n / 2 - 1, y->q, n / 2, y->p, n / 2 - 1, s, first, second);
+    return foskadoin_product(ticket, words, x->q, n / 2, x->p, n / 2 - 1, y->q, n / 2, y->p, n / 2 - 1,
+                             s, first, second);
 }
 
 static struct foskadoin_giant_step_numbers giant(const struct pair *x, const struct pair *y) {
-    return foskadoin_giant_step(ticket, words, x->q, n / 2, x->p, n / 2 - 1, x->distance, y->q, n / 2, y->p, n / 2 - 1, y->distance,
-                                first, second);
+    return foskadoin_giant_step(ticket, words, x->q, n / 2, x->p, n / 2 - 1, x->distance,
+                                y->q, n / 2, y->p, n / 2 - 1, y->distance, first, second);
 }
 
 static void print(const uint32_t *x, uint64_t size) {

@@ -1,6 +1,6 @@
-// Product and giant step in plain C: arrays by reference with their sizes, a coefficient reduced once, a table of inverses, what
-// need not be computed left out as in ideals_flint.c. A model of what the engine could do: with CLEAR it clears all 129 places of
-// each result first, with NO_TABLE each inverse is computed where it is needed.
+// Product and giant step in plain C: arrays by reference with their sizes, a coefficient reduced once, a table of
+// inverses, what need not be computed left out as in ideals_flint.c. A model of what the engine could do: with
+// CLEAR it clears all 129 places of each result first, with NO_TABLE each inverse is computed where it is needed.
 #include "ideals.h"
 #define PLACES 129
 
@@ -74,7 +74,7 @@ static void sub(poly *z, const poly *x, const poly *y) {
     trim(z, most(m, k));
 }
 
-// the sums of products that x y has, added to s or, with minus, its negative; not reduced: 129 * 4095^2 is below 2^32
+// the sums of products of x y, or with minus of -x y, added to s and not reduced: 129 * 4095^2 is below 2^32
 static inline void rows(uint32_t *restrict s, const poly *x, const poly *y, int minus) {
     if (x->size > y->size) {
         const poly *w = x;
@@ -89,7 +89,8 @@ static inline void rows(uint32_t *restrict s, const poly *x, const poly *y, int 
 // z = w + x y, or w - x y; w may be null
 static void fused(poly *z, const poly *w, const poly *x, const poly *y, int minus) {
     uint32_t s[2 * PLACES];
-    int own = x->size && y->size ? x->size + y->size - 1 : 0, length = w ? most(own, w->size) : own, k = w ? w->size : 0;
+    int own = x->size && y->size ? x->size + y->size - 1 : 0;
+    int length = w ? most(own, w->size) : own, k = w ? w->size : 0;
     for (int i = 0; i < k; i++) s[i] = w->c[i];
     for (int i = k; i < length; i++) s[i] = 0;
     rows(s, x, y, minus);

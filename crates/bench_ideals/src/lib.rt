@@ -1,4 +1,5 @@
-// Products and giant steps for measuring their time: a ticket and two pairs are read once, then the same is made again and again.
+// Products and giant steps for measuring their time: a ticket and two pairs are read once, then the same is
+// made again and again.
 pub mod turns;
 
 ghost use mathlib.Core.Path.{_≡_};
@@ -10,7 +11,8 @@ use call_product::both;
 use ideal_pair::operand::pair;
 use ticket_read::read_ticket;
 
-// The size of the product's P, made `times` times over; 0 where the ticket or a pair is refused and where `times` is 0.
+// The size of the product's P, made `times` times over; 0 where the ticket or a pair is refused and where
+// `times` is 0.
 #[no_mangle]
 pub extern "C" fn bench_product(
     ticket: &[u32],
@@ -34,7 +36,8 @@ pub extern "C" fn bench_product(
     products(t, x, y, times)
 }
 
-// The size of the giant step's P, made `times` times over; 0 where the ticket or a pair is refused and where `times` is 0.
+// The size of the giant step's P, made `times` times over; 0 where the ticket or a pair is refused and where
+// `times` is 0.
 #[no_mangle]
 pub extern "C" fn bench_giant_step(
     ticket: &[u32],

@@ -1,4 +1,5 @@
-// The same product or giant step of two ideals, made again and again. Every turn calls it: the size of the last P is what is kept of it.
+// The same product or giant step of two ideals, made again and again. What is kept of a turn is the size of P,
+// which all of its work goes into.
 ghost use mathlib.Core.Path.{_≡_};
 ghost use Prim.Native.Nat.{_≤_};
 ghost use lib.ListN.{length};
