@@ -1,4 +1,5 @@
-// The walk by the engine itself, linked from target/staticlib/libbench_walk.a: a proved run of the walk's step that does not stop at constants.
+// The walk by the engine itself, linked from target/staticlib/libbench_walk.a: a proved run of the walk's step
+// that does not stop at constants.
 #include <stddef.h>
 #include "common.h"
 

@@ -49,7 +49,10 @@ static int marked(const uint32_t *l, size_t from, size_t to) {
     return 1;
 }
 
+// The numbers of the answer, by their general names and by those of its case.
 static int same(struct foskadoin_numbers a, uint64_t words, const uint32_t *four) {
+    if (a.number == FOSKADOIN_FOUND && (a.regulator != four[1] || a.quasi_period != four[2] || a.constant != four[3])) return 0;
+    if (a.number == FOSKADOIN_SPENT && (a.steps != four[1] || a.degree != four[2])) return 0;
     return a.words == words && a.number == four[0] && a.first == four[1] && a.second == four[2] && a.third == four[3];
 }
 
@@ -81,7 +84,7 @@ static void units(FILE *file) {
                     for (size_t j = 0; j < places; j++) expect(l[i][j] == 0, "work list");
                 for (int i = 0; i < 4; i++) expect(marked(l[i], places, length[i]), "places after the unit");
             } else {
-                expect(same(a, words, (uint32_t[]){12, 0, 0, 0}), "refusal 12");
+                expect(same(a, words, (uint32_t[]){FOSKADOIN_SHORT_UNIT, 0, 0, 0}), "refusal 12");
                 for (int i = 0; i < 4; i++) expect(marked(l[i], 0, length[i]), "lists after refusal 12");
             }
             for (int i = 0; i < 4; i++) free(l[i]);
@@ -121,9 +124,9 @@ static void listings(FILE *file) {
         expect(!length || !memcmp(l, want, length * 4), "the records");
         expect(marked(l, length, length + 3), "words after the records");
         free(l);
-        if (four[0] == 0) {
+        if (four[0] == FOSKADOIN_FOUND) {
             l = list(length - 1, NULL);
-            expect(same(foskadoin_listing(ticket, words, l, length - 1), words, (uint32_t[]){13, 0, 0, 0}), "refusal 13");
+            expect(same(foskadoin_listing(ticket, words, l, length - 1), words, (uint32_t[]){FOSKADOIN_SHORT_LISTING, 0, 0, 0}), "refusal 13");
             expect(marked(l, 0, length - 1), "the list after refusal 13");
             free(l);
             lookups(want, length, line[2] & 0xfffffff);
@@ -176,7 +179,7 @@ int main(int argc, char **argv) {
     units(vectors(argv[1], "units.txt"));
     listings(vectors(argv[1], "listings.txt"));
     products(vectors(argv[1], "products.txt"));
-    expect(same(foskadoin_regulator(NULL, 0), 0, (uint32_t[]){1, 0, 0, 0}), "no ticket");
+    expect(same(foskadoin_regulator(NULL, 0), 0, (uint32_t[]){FOSKADOIN_WRONG_HEAD, 0, 0, 0}), "no ticket");
     printf("C: %zu jobs, %zu wrong\n", jobs, wrong);
     // every line of the files was read
     return wrong != 0 || jobs != 1767;

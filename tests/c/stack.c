@@ -1,5 +1,5 @@
-// How much stack the calls use at most: each job of the vectors runs on a painted stack of its own, and the deepest place that lost its paint counts.
-// The number printed includes the thread's own frames.
+// How much stack the calls use at most: each job of the vectors runs on a painted stack of its own, and the
+// deepest place that lost its paint counts. The number printed includes the thread's own frames.
 #define _GNU_SOURCE
 #include <inttypes.h>
 #include <pthread.h>
@@ -19,7 +19,7 @@ static void *unit_job(void *none) { return foskadoin_unit(ticket, words, lists[0
 static void *listing_job(void *none) {
     struct foskadoin_numbers a = foskadoin_listing(ticket, words, lists[0], PLACES);
     n = words > 1 ? ticket[1] & 0xfffffff : 0;
-    listed = a.number ? 0 : a.second * (n + 4);
+    listed = a.number == FOSKADOIN_FOUND ? a.quasi_period * (n + 4) : 0;
     return none;
 }
 static void *lookup_job(void *none) { return part = foskadoin_lookup(lists[0], listed, n, 1), none; }

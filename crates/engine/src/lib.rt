@@ -1,8 +1,8 @@
 // The public calls, each from a crate of its own. None relies on its caller: every list of words has its answer, and every lent list is said at exit.
 pub use base_counters::Distance;
 pub use base_counters::Index;
-pub use call_lookup::lookup;
 pub use base_polynomial::Poly;
+pub use call_lookup::lookup;
 pub use call_regulator::Answer;
 pub use call_regulator::regulator;
 pub use walk_run::Outcome;

@@ -12,10 +12,10 @@ ghost use Rattle.foskadoin.specs.Numbers.{Plain};
 ghost use Rattle.foskadoin.specs.Least.{LeastPlain, LeastInLists};
 ghost use Rattle.walk_run.specs.Outcome.{meaning};
 use base_counters::Distance;
+use call_lookup::place;
 use engine::listing::listing;
 use engine::regulator;
 use engine::unit::unit;
-use call_lookup::place;
 use walk_run::Outcome;
 
 // The number of words handed in, the paper's number of the outcome and its values: found 0, R, m, c; spent 11, k, e, 0; refused j, 0, 0, 0.

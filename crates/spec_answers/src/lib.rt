@@ -1,1 +1,3 @@
-// The demands on what the public calls answer: at the level of the answers, and in the words and places at exit. Statements and proofs stand in specs/.
+// The demands on what the public calls answer, specs only.
+// - Refusals, Outcomes: refused, found and spent, for each call. Records, Units: the words and places at
+//   exit.

@@ -3,6 +3,7 @@ pub mod Tests
 pub mod Readings
 pub mod Squares
 pub mod FirstRefusal
+pub mod TicketRead
 pub mod LeastDegree
 pub mod Arithmetic
 pub mod Operations

@@ -1,1 +1,2 @@
-// The demands on the engine as statements about the definitions, with their proofs: everything stands in specs/.
+// The demands on the engine as statements about the definitions, with their proofs, specs only. A statement
+// is at the head of its file; docs/READING.md, section 2, has the table.

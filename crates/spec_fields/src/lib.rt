@@ -1,2 +1,3 @@
-// The field that a name stands for, specs only: its operations on the values of words have a model in a perfect field.
-// The record to open is `Arithmetic` in specs/Named.antt: what is proved above this crate is proved over it.
+// The field that a name stands for, specs only: its operations on the values of words have a model in a
+// perfect field. The record to open is `Arithmetic` in specs/Named: what is proved above this crate is proved
+// over it.

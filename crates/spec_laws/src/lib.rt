@@ -1,1 +1,7 @@
-// The definitions' walk is the continued fraction of √D: specifications only.
+// The definitions' walk, convergents, products and reductions are those of math_surd and math_ideals, as
+// equations of lists, specs only.
+// The record to open is `Admitted` in specs/Admitted: what a ticket past refusals 1 to 7 gives.
+// - Surd, NoSquare, Fraction, Walk, State: the walk. Convergents, Norms, Signs, QuasiPeriod, Solutions: its
+//   convergents.
+// - Pairs, PairTest, Product, ProductCong, ProductSizes: products. Reduction, ReductionSizes, Reduced, Shift:
+//   reductions.

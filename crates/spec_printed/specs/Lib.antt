@@ -3,3 +3,4 @@ pub mod Lines
 pub mod Listings
 pub mod Lengths
 pub mod TooLong
+pub mod PlainWords

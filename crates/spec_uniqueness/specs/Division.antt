@@ -1,5 +1,6 @@
--- Quotient and remainder, inverse, greatest common divisor and monic multiple are the only ones with the properties that `demands` states of them: whatever has these
--- is the definition's value. For every allowed field and all polynomials, which are lists of any numbers and any length, read in the field.
+-- Quotient and remainder, inverse, greatest common divisor and monic multiple are the only ones with the
+-- properties that `demands` states of them: whatever has these is the definition's value. For every allowed
+-- field and all polynomials, which are lists of any numbers and any length, read in the field.
 use Prim.Native.Nat.{ℕ, _-_ as _-ₙ_, _<_}
 use native.Mathlib.Nat.{eq-zero-or-pos}
 use native.Mathlib.Omega.{arith}
@@ -166,7 +167,7 @@ one-division f r a b c l s less =
     (series-same f n c (quo (ops f) a b) (e .0), series-same f n l (rem (ops f) a b) (e .1))
 
 pub one-inverse : OneInverse
-one-inverse q r a x low e = inverse-only q (named-field q r) a x low e
+one-inverse f r a x low e = inverse-only f (named-field f r) a x low e
 
 pub one-gcd : OneGcd
 one-gcd f r a b l u v most m = let n = named-field f r in series-same f n l (gcd (ops f) a b) (gcd-only f n a b l u v most m)

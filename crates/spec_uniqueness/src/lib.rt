@@ -1,1 +1,2 @@
-// Whatever satisfies a statement of `demands` or `answers` is what the definitions give. Everything stands in specs/.
+// Whatever satisfies a statement of spec_demands or spec_answers is what the definitions give, specs only.
+// docs/READING.md, section 4, has the table.

@@ -6,6 +6,7 @@
 ghost use Prim.Native.Nat.{_≤_};
 ghost use lib.ListN.{length};
 use base_counters::Distance;
+use call_lookup::lookup;
 use engine::listing::listing;
 use test_jobs::MARK;
 use test_jobs::Numbers;
@@ -23,7 +24,6 @@ use test_jobs::same;
 use test_jobs::same_numbers;
 use test_jobs::same_part;
 use test_jobs::show_counts;
-use call_lookup::lookup;
 
 fn list(ticket: &[u32], out: &mut [u32]) -> Numbers {
     let answer = listing(ticket, out);

@@ -3,6 +3,7 @@
 ghost use Prim.Native.Nat.{_≤_};
 ghost use lib.ListN.{length};
 use base_counters::Distance;
+use base_polynomial::Poly;
 use engine::giant_step::GiantStepAnswer;
 use engine::giant_step::giant_step;
 use engine::product::ProductAnswer;
@@ -15,7 +16,6 @@ use test_jobs::read_word;
 use test_jobs::refused;
 use test_jobs::same;
 use test_jobs::show_counts;
-use base_polynomial::Poly;
 
 // An ideal of a job: the lists of Q and P with the number of their words, and its distance.
 struct Operand {

@@ -2,10 +2,10 @@
 // The input is the number of jobs, then for each job the number of its words, at most 80, and the words; all as four bytes, low byte first.
 ghost use Prim.Native.Nat.{_≤_};
 ghost use lib.ListN.{length};
+use libc::STDOUT_FILENO;
 use test_jobs::read_count;
 use test_jobs::read_first;
 use test_jobs::read_word;
-use libc::STDOUT_FILENO;
 use ticket_read::Ticket;
 use ticket_read::read_ticket;
 

@@ -1,9 +1,12 @@
 #!/usr/bin/env python3
-"""Writes the jobs of ticket_test to the file stdin and the answers that are to be printed to the file stdout, both beside this script.
+"""Writes the jobs of ../crates/test_ticket to its file stdin and the answers to its file stdout.
 
-The answers follow document 01's sentences and share no method with the engine: a prime has no divisor at all from 2 up to itself, and D has a
-square factor exactly where the determinant of Sylvester's matrix of D and its derivative is 0; for small fields every square is tried as well.
-expected.py SEED N DIR writes N jobs of random words to DIR instead.
+The answers follow document 01's sentences and share no method with the engine: a prime has no divisor at all
+from 2 up to itself, and D has a square factor exactly where the determinant of Sylvester's matrix of D and its
+derivative is 0; for small fields every square is tried as well.
+
+    tickets.py                 writes the stored jobs
+    tickets.py SEED N DIR      writes N jobs of random words to DIR instead
 """
 import itertools
 import os
@@ -160,7 +163,7 @@ def drawn(draw):
 
 
 def main():
-    folder = os.path.dirname(os.path.abspath(__file__))
+    folder = os.path.join(os.path.dirname(os.path.abspath(__file__)), "..", "crates", "test_ticket")
     jobs = list(neighbours())
     draw = random.Random(1)
     jobs += [drawn(draw) for _ in range(60)]
@@ -177,4 +180,5 @@ def main():
             f.write("".join("%d " % x for x in answer(words)) + "\n")
 
 
-main()
+if __name__ == "__main__":
+    main()

@@ -1,4 +1,4 @@
-\\ The lines of polynomial_test's stdout by PARI/GP's own arithmetic: gp -q expected.gp >stdout
+\\ The lines of ../crates/test_polynomial/stdout by PARI/GP's own arithmetic; `make` runs it.
 \\ A polynomial is a line of its coefficients, constant term first, each with a space after it.
 show(f) = { if (f != 0, foreach (Vecrev(lift(f)), c, print1(c, " "))); print() };
 
