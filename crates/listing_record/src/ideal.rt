@@ -36,7 +36,10 @@ pub fn ideal_of(
     let mut z = [0u32; 129];
     sub_places(f, d, rest, top, &mut z);
     let k = base_polynomial::linear::top(&z, top);
-    let x = Poly { c: *current, size: size };
+    let x = Poly {
+        c: *current,
+        size: size,
+    };
     let q = monic(f, x);
     let y = Poly { c: z, size: k };
     let s = div_by(f, y, q);

@@ -58,7 +58,16 @@ fn write_records(
             place,
         );
         place += n + 4;
-        at = turn(f, inverses, twice, top, &mut before, &mut current, &mut rest, at);
+        at = turn(
+            f,
+            inverses,
+            twice,
+            top,
+            &mut before,
+            &mut current,
+            &mut rest,
+            at,
+        );
     }
 }
 
@@ -81,5 +90,6 @@ pub fn write_listing(
     requires { ⌜ Prepared (name f) (genus n) (poly radicand) (now inverses) (now d) (now twice) ⌝ }
     ensures { λ _. ⌜ ((b : ℕ) → now (out .exit) ≡ listingOf (ticket (name f) n (poly radicand) b) (r .0) (m .0) ++ drop (m .0 * (n + 4)) (now (out .entry))) ⌝ }
 {
-    write_records(f, n, &radicand.c, radicand.size, inverses, d, twice, m, r, out);
+    let size = radicand.size;
+    write_records(f, n, &radicand.c, size, inverses, d, twice, m, r, out);
 }
