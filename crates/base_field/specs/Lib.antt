@@ -1,3 +1,4 @@
+pub mod Numbers
 pub mod Primes
 pub mod Residue
 pub mod Named

@@ -6,10 +6,7 @@ use Rattle.spec_definitions.specs.Field.{Ops, FieldName, prime, ops as opsOf}
 use Rattle.spec_bridge.specs.Prime.{Prime}
 use Rattle.spec_fields.specs.Named as fields
 use Rattle.base_field.specs.declared.Field.{Field}
-
--- 2³² − 1
-abbrev pub largest : ℕ
-largest = 4294967295
+pub use Rattle.base_field.specs.Numbers.{largest}
 
 abbrev pub name : Field → FieldName
 name f = prime (f .q)

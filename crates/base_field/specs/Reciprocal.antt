@@ -3,23 +3,24 @@ use Prim.Native.Nat.{ℕ, _+_, _*_, _-_, _/_, _%_, _≤_, _<_, suc}
 use native.Mathlib.Nat.{mod-lt, mod-eq-of-lt, div-add-mod, mul-add-mod-self-left, mul-add, mul-comm, mul-left-comm, mul-le-mul-left, mul-le-mul-right}
 use native.Mathlib.Omega.{arith}
 use mathlib.Core.Path.{_≡_, sym, ap, _∙_}
+use Rattle.base_field.specs.Numbers.{largest, range}
 
-module _ (q c x : ℕ) (pos : 0 < q) (is : c ≡ 4294967295 / q) (fits : x < 4294967296) where
+module _ (q c x : ℕ) (pos : 0 < q) (is : c ≡ largest / q) (fits : x < range) where
   abbrev k : ℕ
-  k = x * c / 4294967296
+  k = x * c / range
 
   -- 2³²·(k·q) + q·(lower half) + x·(remainder) is (2³² − 1)·x
-  whole : 4294967296 * (k * q) + q * ((x * c) % 4294967296) + x * (4294967295 % q) ≡ 4294967295 * x
+  whole : range * (k * q) + q * ((x * c) % range) + x * (largest % q) ≡ largest * x
   whole =
-      let f : ℕ = (x * c) % 4294967296 in
-      let e : ℕ = 4294967295 % q in
-      let halves : 4294967296 * k + f ≡ x * c = div-add-mod (x * c) 4294967296 in
-      let parts : q * c + e ≡ 4294967295 = ap (λ n. q * n + e) is ∙ div-add-mod 4294967295 q in
-      let scaled : q * (4294967296 * k) + q * f ≡ q * (x * c) = sym (mul-add q (4294967296 * k) f) ∙ ap (λ n. q * n) halves in
-      let moved : q * (4294967296 * k) ≡ 4294967296 * (k * q) = mul-left-comm q 4294967296 k ∙ ap (λ n. 4294967296 * n) (mul-comm q k) in
+      let f : ℕ = (x * c) % range in
+      let e : ℕ = largest % q in
+      let halves : range * k + f ≡ x * c = div-add-mod (x * c) range in
+      let parts : q * c + e ≡ largest = ap (λ n. q * n + e) is ∙ div-add-mod largest q in
+      let scaled : q * (range * k) + q * f ≡ q * (x * c) = sym (mul-add q (range * k) f) ∙ ap (λ n. q * n) halves in
+      let moved : q * (range * k) ≡ range * (k * q) = mul-left-comm q range k ∙ ap (λ n. range * n) (mul-comm q k) in
       let turned : q * (x * c) ≡ x * (q * c) = mul-left-comm q x c in
-      let times : x * (q * c) + x * e ≡ x * 4294967295 = sym (mul-add x (q * c) e) ∙ ap (λ n. x * n) parts in
-      let last : x * 4294967295 ≡ 4294967295 * x = mul-comm x 4294967295 in
+      let times : x * (q * c) + x * e ≡ x * largest = sym (mul-add x (q * c) e) ∙ ap (λ n. x * n) parts in
+      let last : x * largest ≡ largest * x = mul-comm x largest in
       omega arith
 
   pub quotient-le : k * q ≤ x
@@ -28,15 +29,15 @@ module _ (q c x : ℕ) (pos : 0 < q) (is : c ≡ 4294967295 / q) (fits : x < 429
   pub rest-less : x - k * q < 2 * q
   rest-less =
       let w = whole in
-      let f : ℕ = (x * c) % 4294967296 in
-      let e : ℕ = 4294967295 % q in
-      let low : f < 4294967296 = mod-lt _ (omega arith) in
+      let f : ℕ = (x * c) % range in
+      let e : ℕ = largest % q in
+      let low : f < range = mod-lt _ (omega arith) in
       let small : e < q = mod-lt _ pos in
-      let a : q * f ≤ q * 4294967295 = mul-le-mul-left q (omega arith) in
+      let a : q * f ≤ q * largest = mul-le-mul-left q (omega arith) in
       let b : x * suc e ≤ x * q = mul-le-mul-left x small in
-      let d : x * q ≤ 4294967295 * q = mul-le-mul-right q (omega arith) in
+      let d : x * q ≤ largest * q = mul-le-mul-right q (omega arith) in
       let s : x * suc e ≡ x * e + x = omega arith in
-      let t : q * 4294967295 ≡ 4294967295 * q = mul-comm q 4294967295 in
+      let t : q * largest ≡ largest * q = mul-comm q largest in
       omega arith
 
   -- what is left is the remainder, or q more

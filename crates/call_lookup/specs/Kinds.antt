@@ -11,6 +11,7 @@ use borrow.Author.Tests.{eqb-true, eq-eqb, ltb-false, not-false}
 use Rattle.spec_definitions.specs.Words.{kind, same}
 use Rattle.spec_definitions.specs.Ticket.{wrongDegree, genus}
 use Rattle.spec_definitions.specs.Lookup.{recordKinds}
+use Rattle.spec_lists.specs.Same.{same-refl, same-not}
 
 -- the allowed degrees, as facts about numbers
 pub record Allowed (n : ℕ) : Type 0 where
@@ -91,27 +92,6 @@ module _ (n : ℕ) (h : wrongDegree n ≡ false) where
       ∙ getD-append-add (replicate (suc (genus n)) 8) (replicate (genus n) 9) (j - 5 - n / 2) 0
       ∙ getD-replicate (genus n) (j - 5 - n / 2) 9 0 (omega arith)
 
--- `same` is equality
-pub same-refl : (a : List ℕ) → same a a ≡ true
-unfolding same
-same-refl [] = refl
-same-refl (x ∷ a) = rw (same, eq-eqb x x refl) (same-refl a)
-
-same-step : (x y : ℕ) (a b : List ℕ) (t : Bool) → eqb x y ≡ t → (same a b ≡ true → a ≡ b) → elim t [ true ↦ same a b | false ↦ false ] ≡ true → x ∷ a ≡ y ∷ b
-same-step x y a b true e s h = ap₂ (λ u v. u ∷ v) (eqb-true x y e) (s h)
-same-step x y a b false e s h = absurd (let w : _≡_ {A = ℕ} 0 1 = cc in omega arith)
-
-pub same-equal : (a b : List ℕ) → same a b ≡ true → a ≡ b
-unfolding same
-same-equal [] [] h = refl
-same-equal [] (y ∷ b) h = absurd (let w : _≡_ {A = ℕ} 0 1 = cc in omega arith)
-same-equal (x ∷ a) [] h = absurd (let w : _≡_ {A = ℕ} 0 1 = cc in omega arith)
-same-equal (x ∷ a) (y ∷ b) h = same-step x y a b (eqb x y) refl (same-equal a b) h
-
-refuted : (t : Bool) → (t ≡ true → ⊥) → t ≡ false
-refuted true h = absurd (h refl)
-refuted false h = refl
-
 -- the n + 4 words from `at` on have the kinds of a record
 unfoldable pub kindsOk : List ℕ → ℕ → ℕ → Bool
 kindsOk l n at = same (map kind (take (n + 4) (drop at l))) (recordKinds n)
@@ -139,4 +119,4 @@ module _ (l : List ℕ) (n at : ℕ) (h : wrongDegree n ≡ false) (fits : at + 
 
   pub kinds-wrong : (j : ℕ) → j < n + 4 → (kind (getD l (at + j) 0) ≡ getD (recordKinds n) j 0 → ⊥) → kindsOk l n at ≡ false
   unfolding kindsOk kinds
-  kinds-wrong j k w = refuted _ (λ s. w (sym (at-kinds j k) ∙ ap (λ (b : List ℕ). getD b j 0) (same-equal kinds (recordKinds n) s)))
+  kinds-wrong j k w = same-not kinds (recordKinds n) (λ e. w (sym (at-kinds j k) ∙ ap (λ (b : List ℕ). getD b j 0) e))

@@ -1,15 +1,16 @@
 // A pair as it is handed in: words of any number and any values, tested by refusal 9 and read as two polynomials.
 ghost use mathlib.Core.Path.{_≡_};
-ghost use mathlib.Core.Bool.{false};
-ghost use Prim.Native.Nat.{ℕ, _<_, _≤_};
+ghost use mathlib.Core.Bool.{false, _&&_};
+ghost use Prim.Native.Nat.{_≤_};
 ghost use lib.ListN.{length};
-ghost use Rattle.spec_definitions.specs.Field.{modulo};
+ghost use Rattle.spec_definitions.specs.Field.{FieldName, ops, fits};
 ghost use Rattle.spec_definitions.specs.Polynomials.{trim};
-ghost use Rattle.spec_definitions.specs.Words.{someFrom};
+ghost use Rattle.spec_definitions.specs.Words.{someNot};
 ghost use Rattle.spec_definitions.specs.Ticket.{genus};
-ghost use Rattle.spec_bridge.specs.Prime.{Prime};
+ghost use Rattle.spec_fields.specs.Named.{Ok};
 ghost use Rattle.spec_laws.specs.Admitted.{Admitted};
-ghost use Rattle.base_polynomial.specs.Record.{Is as IsAt};
+ghost use Rattle.base_field.specs.Named.{name, IsField};
+ghost use Rattle.base_polynomial.specs.Over as over;
 ghost use Rattle.base_polynomial.specs.Whole.{poly, Held};
 ghost use Rattle.ideal_product.specs.Operand.{heldPair};
 ghost use Rattle.ideal_pair.specs.Pair.{wordsFit, isIdeal, Paired};
@@ -23,8 +24,8 @@ use ideal_product::multiply::cofactor;
 
 // Some word is q or more.
 fn some_from(f: Field, words: &[u32]) -> bool
-    requires { ⌜ 0 < f .q ⌝ }
-    ensures { λ r. ⌜ r ≡ someFrom (f .q) (now (words .entry)) ⌝ }
+    requires { ⌜ IsField f ⌝ }
+    ensures { λ r. ⌜ r ≡ someNot (fits (name f)) (now (words .entry)) ⌝ }
 {
     let mut i: usize = 0;
     while i < words.len() {
@@ -38,8 +39,8 @@ fn some_from(f: Field, words: &[u32]) -> bool
 
 // g + 1 words and g words, each below q.
 fn words_fit(f: Field, n: usize, q: &[u32], p: &[u32]) -> bool
-    requires { ⌜ (0 < f .q) × (2 ≤ n) ⌝ }
-    ensures { λ r. ⌜ r ≡ wordsFit (f .q) (genus n) (now (q .entry)) (now (p .entry)) ⌝ }
+    requires { ⌜ IsField f × (2 ≤ n) ⌝ }
+    ensures { λ r. ⌜ r ≡ wordsFit (name f) (genus n) (now (q .entry)) (now (p .entry)) ⌝ }
 {
     let g = n / 2 - 1;
     if q.len() != g + 1 {
@@ -58,7 +59,7 @@ fn words_fit(f: Field, n: usize, q: &[u32], p: &[u32]) -> bool
 // The polynomial whose coefficients are the words.
 fn load(words: &[u32]) -> Poly
     requires { ⌜ length (now words) ≤ 129 ⌝ }
-    ensures { λ r. ⌜ ((q : ℕ) → 0 < q → someFrom q (now (words .entry)) ≡ false → IsAt q (r .c) (r .size) (trim (modulo q) (now (words .entry)))) ⌝ }
+    ensures { λ r. ⌜ ((f : FieldName) → Ok f 0 → someNot (fits f) (now (words .entry)) ≡ false → over.Is f r (trim (ops f) (now (words .entry)))) ⌝ }
 {
     let mut c = [0u32; 129];
     let n = words.len();
@@ -73,9 +74,9 @@ fn load(words: &[u32]) -> Poly
 
 // Q is monic, P has a smaller degree, and Q divides D − P². D is the radicand.
 fn is_ideal(f: Field, radicand: Poly, q: Poly, p: Poly) -> bool
-    requires { ⌜ Prime (f .q) × (f .q < 4096) × (p .size ≤ 65) ⌝ }
+    requires { ⌜ IsField f × (p .size ≤ 65) ⌝ }
     requires { ⌜ Held f radicand × Held f q × Held f p ⌝ }
-    ensures { λ r. ⌜ r ≡ isIdeal (f .q) (poly radicand) (heldPair (q .c) (q .size) (p .c) (p .size)) ⌝ }
+    ensures { λ r. ⌜ r ≡ isIdeal (name f) (poly radicand) (heldPair q p) ⌝ }
 {
     let l = lead(f, q);
     if l != 1 {
@@ -91,8 +92,8 @@ fn is_ideal(f: Field, radicand: Poly, q: Poly, p: Poly) -> bool
 
 // The pair of the words, where it passes the test of refusal 9; else it is not `ok`, and its polynomials are 0. D is the radicand, of degree n.
 pub fn pair(f: Field, n: usize, radicand: Poly, q: &[u32], p: &[u32]) -> Pair
-    requires { ⌜ Admitted (f .q) (genus n) (poly radicand) × Held f radicand × (2 ≤ n) ⌝ }
-    ensures { λ r. ⌜ Paired (f .q) n (poly radicand) (now (q .entry)) (now (p .entry)) (r .ok) (r .q .c) (r .q .size) (r .p .c) (r .p .size) ⌝ }
+    requires { ⌜ IsField f × Admitted (name f) (genus n) (poly radicand) × Held f radicand × (2 ≤ n) ⌝ }
+    ensures { λ r. ⌜ Paired (name f) n (poly radicand) (now (q .entry)) (now (p .entry)) r ⌝ }
 {
     if !words_fit(f, n, q, p) {
         let z = zero();
@@ -117,4 +118,11 @@ pub fn pair(f: Field, n: usize, radicand: Poly, q: &[u32], p: &[u32]) -> Pair
         q: a,
         p: b,
     }
+}
+
+// Both pairs passed their tests.
+pub fn both(a: bool, b: bool) -> bool
+    ensures { λ r. ⌜ r ≡ (a && b) ⌝ }
+{
+    if a { b } else { false }
 }

@@ -8,11 +8,10 @@ use Rattle.spec_definitions.specs.Field.{FieldName, ops}
 use Rattle.spec_definitions.specs.Polynomials.{trim, add, sub, mul, quo, rem}
 use Rattle.spec_definitions.specs.Walk.{Ideal}
 use Rattle.spec_definitions.specs.Products.{Product, productOf}
-use Rattle.spec_bridge.specs.Trim.{length-trim}
 use Rattle.spec_bridge.specs.Arithmetic.{trim-add, oks-add, trim-mul, oks-mul}
 use Rattle.spec_bridge.specs.Division.{trim-quo, oks-quo}
 use Rattle.spec_bridge.specs.Bezout.{trim-gcd, oks-gcd, trim-bezout-v, oks-bezout-v}
-use Rattle.spec_laws.specs.Admitted.{Admitted}
+use Rattle.spec_laws.specs.Admitted.{Admitted, D-most}
 use Rattle.spec_laws.specs.Pairs.{cofactorAt}
 use Rattle.spec_laws.specs.Product.{commonOf, productQ, bracket, bezoutU, bezoutW, product-is, S-size}
 use Rattle.spec_laws.specs.ProductSizes.{cofactor-length, common-length, W-length, U-length, Q-length, bracket-length}
@@ -39,9 +38,6 @@ module _ {f : FieldName} {g : ℕ} {D : List ℕ} (h : Admitted f g D) {q1 p1 : 
 
   abbrev W : List ℕ
   W = bezoutW (ops f) x y
-
-  D-most : length (trim (ops f) D) ≤ suc (suc g + suc g)
-  D-most = let e = length-trim (M h) D in let w = h .size-D in omega arith
 
   S-most : length (commonOf (ops f) x y) ≤ suc g
   S-most = common-length (K h) (M h) (I h) (operand-ideal h t) (operand-ideal h t′) (operand-degree h t) (operand-degree h t′)
@@ -95,7 +91,7 @@ module _ {f : FieldName} {g : ℕ} {D : List ℕ} (h : Admitted f g D) {q1 p1 : 
 
   module _ {c : Poly} (c-is : Is f c (cofactorAt (ops f) D x)) where
     cofactor-most : length (cofactorAt (ops f) D x) ≤ suc (suc g + suc g)
-    cofactor-most = cofactor-length (K h) (M h) (I h) (operand-ideal h t) (operand-degree h t) D-most
+    cofactor-most = cofactor-length (K h) (M h) (I h) (operand-ideal h t) (operand-degree h t) (D-most h)
 
     pub cofactor-result : Result f c (cofactorAt (ops f) D x)
     cofactor-result = result c-is (let e = cofactor-most in let w = h .genus-most in omega arith) (trim-quo (M h) _ _) (oks-quo (M h) _ _)
@@ -111,7 +107,7 @@ module _ {f : FieldName} {g : ℕ} {D : List ℕ} (h : Admitted f g D) {q1 p1 : 
     bracket-is = subst (Is f b) (ap₂ (add (ops f)) (ap (λ (l : List ℕ). mul (ops f) l (sub (ops f) (poly p2) (poly p1))) (U-result u-is .is)) (ap₂ (mul (ops f)) (W-result w-is .is) (cofactor-result c-is .is))) b-is
 
     bracket-most : length (bracket (ops f) D x y U W) ≤ 3 + (g + g + g)
-    bracket-most = bracket-length (K h) (M h) (I h) (operand-ideal h t) (operand-ideal h t′) (operand-degree h t) (operand-degree h t′) D-most
+    bracket-most = bracket-length (K h) (M h) (I h) (operand-ideal h t) (operand-ideal h t′) (operand-degree h t) (operand-degree h t′) (D-most h)
 
     pub bracket-result : Result f b (bracket (ops f) D x y U W)
     bracket-result = result bracket-is (let m = bracket-most in let w = h .genus-most in omega arith) (trim-add (M h) _ _) (oks-add (M h) _ _)

@@ -6,11 +6,10 @@ use native.Mathlib.Omega.{arith}
 use mathlib.Core.Path.{_≡_, refl, sym, ap, ap₂, _∙_, fun-ext, subst}
 use mathlib.Core.Logic.{⊎-elim}
 use mathlib.Core.List.{List, [], _∷_, _++_, map, append-assoc}
-use lib.ListN.{length, getD, take, drop, length-map, length-drop, take-append-drop, List·getD-map, List·getD-eq-default}
+use lib.ListN.{length, getD, take, drop, length-map, length-drop, take-append-drop, List·getD-map}
 use lib.Seq.{take-at, drop-at, drop-drop, take-append-le, drop-append-le, getD-take, getD-drop}
 use Rattle.math_ring.specs.Ring.{zer-mul}
 use Rattle.math_ring.specs.Identity.{ring-from, times, quote}
-use Rattle.math_ring.specs.Order.{le-or-lt}
 use Rattle.math_ring.specs.Series.{Series, addS, negS, conv, con}
 use Rattle.math_algebra.specs.Field.{Field}
 use Rattle.math_algebra.specs.Polynomial.{F, Px}
@@ -23,6 +22,8 @@ use Rattle.spec_definitions.specs.Walk as walk
 use Rattle.spec_definitions.specs.Answers.{found, said, opsOf, rootOf}
 use Rattle.spec_definitions.specs.Listing.{idealOf, entryOf, mirrorOf, recordWords, recordOf, listingOf, listingAnswer}
 use Rattle.spec_definitions.specs.Lookup.{recordKinds, recordAt}
+use Rattle.spec_lists.specs.Words.{value-word, low-less, joined-back}
+use Rattle.spec_lists.specs.Pad.{length-pad, at-pad}
 use Rattle.spec_bridge.specs.Model.{Model, Inverts, series}
 use Rattle.spec_bridge.specs.Trim.{size-is, trim-ext, lead-some}
 use Rattle.spec_bridge.specs.Arithmetic.{series-sub, series-mul}
@@ -33,11 +34,10 @@ use Rattle.spec_laws.specs.Fraction.{Q-some}
 use Rattle.spec_laws.specs.Admitted.{Admitted, is-field, surd-of, admitted, passed, degree-of}
 use Rattle.spec_demands.specs.Sentences.{Same}
 use Rattle.spec_demands.specs.Arithmetic.{Divides, series-same}
-use Rattle.spec_demands.specs.Records.{value-word, low-less, joined-back, length-pad, length-listing, record-listing, kinds-record}
+use Rattle.spec_demands.specs.Records.{length-listing, record-listing, kinds-record}
 use Rattle.spec_demands.specs.Listings.{RecordHolds, t2-listings}
 use Rattle.spec_demands.specs.LentLists.{t1-lists, found-passes}
 use Rattle.spec_answers.specs.Refusals.{listing-found}
-use Rattle.spec_answers.specs.Units.{pad-at}
 
 -- record j + 1 in a list l of records of n + 4 words
 module _ (n j : ℕ) (l : List ℕ) where
@@ -88,10 +88,6 @@ module _ (f : FieldName) (named : IsField f) (l h : List ℕ) (e : (i : ℕ) →
   pub lead-same : lead (ops f) l ≡ lead (ops f) h
   unfolding lead
   lead-same = e (size (ops f) l - 1) ∙ ap (λ (k : ℕ). getD h (k - 1) 0) size-same
-
--- what is padded to its length or more has the same coefficients
-pub pad-same : (f : FieldName) (k : ℕ) (l : List ℕ) → length l ≤ k → (i : ℕ) → getD (pad (ops f) k l) i 0 ≡ getD l i 0
-pad-same f k l h i = ⊎-elim (λ past. List·getD-eq-default (pad (ops f) k l) 0 (let e = length-pad (ops f) k l in omega arith) ∙ sym (List·getD-eq-default l 0 (omega arith))) (λ low. pad-at f k l i low) (le-or-lt k i)
 
 -- the values of words of one kind
 values-words : (c : ℕ) (l : List ℕ) → ((i : ℕ) → getD l i 0 < 268435456) → map value (map (word c) l) ≡ l
@@ -183,10 +179,10 @@ module _ (t : Ticket) (h : Admitted (t .field) (genus (t .n)) (t .D)) (even : su
   length-P = length-map Ps (word 9) ∙ length-pad (opsOf t) (genus (t .n)) (entryOf t j .ideal .p)
 
   Q-same : (i : ℕ) → getD Qs i 0 ≡ getD (entryOf t j .ideal .q) i 0
-  Q-same = pad-same (t .field) (suc (genus (t .n))) (entryOf t j .ideal .q) (r .Q-whole)
+  Q-same = at-pad (opsOf t) (suc (genus (t .n))) (entryOf t j .ideal .q) (r .Q-whole)
 
   P-same : (i : ℕ) → getD Ps i 0 ≡ getD (entryOf t j .ideal .p) i 0
-  P-same = pad-same (t .field) (genus (t .n)) (entryOf t j .ideal .p) (r .P-whole)
+  P-same = at-pad (opsOf t) (genus (t .n)) (entryOf t j .ideal .p) (r .P-whole)
 
   Q-is : QRead (t .n) j l ≡ Qs
   Q-is =

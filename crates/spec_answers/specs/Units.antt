@@ -1,21 +1,20 @@
 -- T2, the part on the unit's lists, place by place: where the call `unit` answers found, places 0 to R of the first list hold the coefficients of p_{m−1}, those of
 -- the second the coefficients of s_{m−1}, those of the other two are 0, and later places keep what they had.
-use Prim.Native.Nat.{ℕ, zero, suc, _≤_, _<_}
+use Prim.Native.Nat.{ℕ, suc, _≤_, _<_}
 use native.Mathlib.Omega.{arith}
 use mathlib.Core.Path.{_≡_, refl, sym, ap, _∙_, subst}
 use mathlib.Core.Bool.{Bool, true, false}
-use mathlib.Core.List.{List, [], _∷_}
+use mathlib.Core.List.{List, []}
 use lib.ListN.{getD, drop, List·getD-append}
-use Rattle.spec_definitions.specs.Field.{FieldName, ops}
 use Rattle.spec_definitions.specs.Polynomials.{size, deg, pad}
 use Rattle.spec_definitions.specs.Ticket.{Ticket, genus, ticketOf}
 use Rattle.spec_definitions.specs.Walk.{unitOf, pBefore, sBefore, degreeBefore}
 use Rattle.spec_definitions.specs.Answers.{Outcome, found, refused, said, said-injective, opsOf, rootOf, wordsOutcome}
 use Rattle.spec_definitions.specs.Units.{Lists, UnitAnswer, longEnough, written, unitLists, unitFrom, unitAnswer}
+use Rattle.spec_lists.specs.Pad.{length-pad, pad-at}
 use Rattle.spec_bridge.specs.Trim.{size-is, length-trim}
 use Rattle.spec_fields.specs.Named.{arithmetic}
 use Rattle.spec_laws.specs.Admitted.{Admitted, is-field, admitted}
-use Rattle.spec_demands.specs.Records.{length-pad}
 use Rattle.spec_demands.specs.Continued.{StopsAt, Walks, t2}
 use Rattle.spec_demands.specs.Written.{s-fits}
 use Rattle.spec_demands.specs.LentLists.{KeepsFrom, t1-lists, refused-not, found-passes}
@@ -41,18 +40,9 @@ abbrev pub T2UnitLists : Type 0
 T2UnitLists = (w : List ℕ) (l : Lists) (R m c : ℕ) → unitAnswer w l .says ≡ said (found R m c) → UnitWritten (ticketOf w) R m l (unitAnswer w l .lists)
 
 -- ---- the proof
--- each of the k places of a padded list holds its coefficient, 0 above the degree
-pub pad-at : (f : FieldName) (k : ℕ) (l : List ℕ) (i : ℕ) → i < k → getD (pad (ops f) k l) i 0 ≡ getD l i 0
-unfolding pad
-pad-at f zero l i h = absurd (omega arith)
-pad-at f (suc k) [] zero h = refl
-pad-at f (suc k) [] (suc i) h = pad-at f k [] i (omega arith)
-pad-at f (suc k) (a ∷ l) zero h = refl
-pad-at f (suc k) (a ∷ l) (suc i) h = pad-at f k l i (omega arith)
-
 written-at : (t : Ticket) (k : ℕ) (f old : List ℕ) (i : ℕ) → i < k → getD (written t k f old) i 0 ≡ getD f i 0
 unfolding written
-written-at t k f old i h = List·getD-append (pad (opsOf t) k f) (drop k old) 0 i (let e = length-pad (opsOf t) k f in omega arith) ∙ pad-at (t .field) k f i h
+written-at t k f old i h = List·getD-append (pad (opsOf t) k f) (drop k old) 0 i (let e = length-pad (opsOf t) k f in omega arith) ∙ pad-at (opsOf t) k f i h
 
 -- what is written where the answer is found
 lists-written : (t : Ticket) (x : Outcome) (l : Lists) (R m c : ℕ) → x ≡ found R m c → unitFrom t x l .says ≡ said (found R m c) → unitFrom t x l .lists ≡ unitLists t R m l

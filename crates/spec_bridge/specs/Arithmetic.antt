@@ -126,6 +126,9 @@ module _ {A B : Type 0} {o : Ops A} {R : CRing B} (M : Model o R) where
       ∙ ring (Series R) (con R (φ a) ∷ X ∷ series M p ∷ series M q ∷ []) (search quote depth 40 fits 9999) tt
       ∙ ap (λ f. conv R f (series M q)) (sym (series-cons a p))
 
+  pub series-mul-add : (p x y : List A) → series M (add o (mul o p x) y) ≡ addS R (conv R (series M p) (series M x)) (series M y)
+  series-mul-add p x y = series-add (mul o p x) y ∙ ap (λ (u : S R). addS R u (series M y)) (series-mul p x)
+
   -- ---- only the polynomials of the arguments matter
   pub add-cong : (p p′ q q′ : List A) → series M p ≡ series M p′ → series M q ≡ series M q′ → add o p q ≡ add o p′ q′
   add-cong p p′ q q′ h k = series-ext M _ _ (trim-add p q) (trim-add p′ q′) (oks-add p q) (oks-add p′ q′) (series-add p q ∙ ap₂ (addS R) h k ∙ sym (series-add p′ q′))

@@ -17,7 +17,8 @@ use Rattle.spec_definitions.specs.Answers.{Outcome, found, spent, refused, said
 use Rattle.spec_definitions.specs.Units.{Lists, UnitAnswer, longEnough, written, unitLists, unitFrom, unitAnswer}
 use Rattle.spec_definitions.specs.Listing.{ListingAnswer, listingOf, listingFrom, listingAnswer}
 use Rattle.spec_laws.specs.Admitted.{passed, degree-of}
-use Rattle.spec_demands.specs.Records.{length-pad, length-listing}
+use Rattle.spec_lists.specs.Pad.{length-pad}
+use Rattle.spec_demands.specs.Records.{length-listing}
 
 -- the list `new` is `old` from place k on
 pub record KeepsFrom (k : ℕ) (old new : List ℕ) : Type 0 where

@@ -5,19 +5,21 @@ use native.Mathlib.Omega.{arith}
 use mathlib.Core.Path.{_≡_, refl, sym, ap, _∙_, subst}
 use mathlib.Core.Logic.{_↔_, _≢_, _⊎_, inl, inr, ⊎-elim, Iff·trans}
 use mathlib.Core.Bool.{false, not}
-use mathlib.Core.List.{List, [], _∷_, _++_, map}
-use lib.ListN.{length, getD, take, drop, replicate, length-append, length-take, length-drop, length-map, length-replicate, getD-replicate, List·getD-append, List·getD-map}
-use lib.Seq.{getD-take, getD-drop, getD-append-add}
+use mathlib.Core.List.{List, [], _∷_, map}
+use lib.ListN.{length, getD, take, drop, length-take, length-drop, length-map, List·getD-map}
+use lib.Seq.{getD-take, getD-drop}
 use Rattle.math_ring.specs.Order.{le-or-lt}
 use lib.Dec.{eqb}
 use borrow.Author.Tests.{ltb-false}
 use Rattle.spec_definitions.specs.Field.{FieldName, fits}
 use Rattle.spec_definitions.specs.Words.{kind, value, same}
 use Rattle.spec_definitions.specs.Ticket.{wrongHead, wrongPrime, wrongDegree, laterKinds, wrongLayout, wrongCoefficient, wrongLead}
+use Rattle.spec_lists.specs.Same.{one-of-one}
+use Rattle.spec_lists.specs.Layout.{length-later, later-coefficient, later-budget, later-end}
 use Rattle.spec_bridge.specs.Prime.{OddPrime, odd-prime-true, prime-odd-prime, odd-prime-more, prime-divisor, prime-of-divisors}
 use Rattle.spec_fields.specs.Named.{IsField}
 use Rattle.spec_demands.specs.Sentences.{kindAt, valueAt, q, field, n, TooLarge, coefficient, D, AllowedPrime, AllowedField, WrongHead, WrongPrime, WrongDegree, WrongKind, WrongLayout, WrongCoefficient, WrongLead}
-use Rattle.spec_demands.specs.Tests.{Tests, tests-lt, tests-eq, tests-not, tests-none, tests-stable, tests-one, tests-or, tests-some, tests-differ}
+use Rattle.spec_demands.specs.Tests.{Tests, tests-lt, tests-eq, tests-not, tests-none, tests-stable, tests-or, tests-some, tests-differ}
 
 pub prime-allowed : (p : ℕ) → OddPrime p ↔ AllowedPrime p
 prime-allowed p = (λ r. record { odd = r .odd; below = r .small; more = r .prime .two; divisors = prime-divisor p (r .prime) }, λ r. record { prime = prime-of-divisors p (r .more) (r .divisors); odd = r .odd; small = r .below })
@@ -36,7 +38,7 @@ fits-large f x = (ltb-false x (f .q), λ h. tests-none (tests-lt x (f .q)) (λ l
 module _ (w : List ℕ) where
   pub tests-head : Tests (wrongHead (1 ∷ []) w) (WrongHead w)
   unfolding wrongHead
-  tests-head = tests-or (tests-lt (length w) 7) (λ _. tests-not (tests-one (kindAt w 0) 1)) (tests-not (tests-eq (kindAt w 1) 2))
+  tests-head = tests-or (tests-lt (length w) 7) (λ _. tests-not (subst (λ b. Tests b (kindAt w 0 ≡ 1)) (sym (one-of-one (kindAt w 0) 1)) (tests-eq (kindAt w 0) 1))) (tests-not (tests-eq (kindAt w 1) 2))
 
   pub tests-prime : Tests (wrongPrime (q w)) (WrongPrime w)
   unfolding wrongPrime
@@ -59,19 +61,6 @@ module _ (w : List ℕ) where
   pub length-D : length w ≡ n w + 5 → length (D w) ≡ n w + 1
   length-D e = simp (length-map, length-take, length-drop) (omega arith)
 
--- the kinds that they are to have
-later-coefficient : (m i : ℕ) → i ≤ m → getD (laterKinds m) i 0 ≡ 3
-unfolding laterKinds
-later-coefficient m i h = List·getD-append (replicate (m + 1) 3) (4 ∷ 15 ∷ []) 0 i (simp length-replicate (omega arith)) ∙ getD-replicate (m + 1) i 3 0 (omega arith)
-
-later-end : (m j : ℕ) → getD (laterKinds m) (m + 1 + j) 0 ≡ getD (4 ∷ 15 ∷ []) j 0
-unfolding laterKinds
-later-end m j = ap (λ k. getD (replicate (m + 1) 3 ++ (4 ∷ 15 ∷ [])) (k + j) 0) (sym (length-replicate (m + 1) 3)) ∙ getD-append-add (replicate (m + 1) 3) (4 ∷ 15 ∷ []) j 0
-
-length-later : (m : ℕ) → length (laterKinds m) ≡ m + 3
-unfolding laterKinds
-length-later m = simp (length-append, length-replicate) (omega arith)
-
 module _ (w : List ℕ) where
   -- a place of the words after the first two where the kind is another
   abbrev Differs : Type 0
@@ -88,13 +77,13 @@ module _ (w : List ℕ) where
       at = kind-at w i ∙ ap (λ m. kindAt w m) e
 
   budget-at : (i : ℕ) → n w + 1 ≡ i → (kindAt w (n w + 3) ≡ 4) ↔ (getD (map kind (drop 2 w)) i 0 ≡ getD (laterKinds (n w)) i 0)
-  budget-at i e = agree i (n w + 3) 4 (omega arith) (ap (λ m. getD (laterKinds (n w)) m 0) (omega arith) ∙ later-end (n w) 0)
+  budget-at i e = agree i (n w + 3) 4 (omega arith) (later-budget (n w) i (omega arith))
 
   end-at : (i : ℕ) → n w + 2 ≡ i → (kindAt w (n w + 4) ≡ 15) ↔ (getD (map kind (drop 2 w)) i 0 ≡ getD (laterKinds (n w)) i 0)
-  end-at i e = agree i (n w + 4) 15 (omega arith) (ap (λ m. getD (laterKinds (n w)) m 0) (omega arith) ∙ later-end (n w) 1)
+  end-at i e = agree i (n w + 4) 15 (omega arith) (later-end (n w) i (omega arith))
 
   differs-kind : length w ≡ n w + 5 → Differs → WrongKind w
-  differs-kind e (i, high, h) = ⊎-elim (λ l. inl (i + 2, omega arith, omega arith, λ k. h (agree i (i + 2) 3 refl (later-coefficient (n w) i l) .0 k))) (λ l. inr (ending l)) (le-or-lt i (n w))
+  differs-kind e (i, high, h) = ⊎-elim (λ l. inl (i + 2, omega arith, omega arith, λ k. h (agree i (i + 2) 3 refl (later-coefficient (n w) i (omega arith)) .0 k))) (λ l. inr (ending l)) (le-or-lt i (n w))
     where
       ending : n w < i → (kindAt w (n w + 3) ≢ 4) ⊎ (kindAt w (n w + 4) ≢ 15)
       ending l = ⊎-elim (λ (m : suc (n w) ≡ i). inl (λ k. h (budget-at i (omega arith) .0 k))) (λ (m : suc (n w) < i). inr (λ k. h (end-at i (omega (arith, length-kinds e)) .0 k))) (eq-or-lt-of-le l)

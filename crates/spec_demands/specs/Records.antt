@@ -1,13 +1,13 @@
 -- The words of a listing, read back: where each record stands, its kinds and its distance, for records whose numbers fit into their words.
 use Prim.Native.Nat.{ℕ, zero, suc, _+_, _*_, _/_, _%_, _≤_, _<_}
-use native.Mathlib.Nat.{mod-lt, zero-mul, suc-mul, add-comm, add-zero, add-suc, suc-add, mod-eq-of-lt, div-eq-of-lt, div-add-mod', mul-div-cancel, mul-mod-left, mul-add-div-right, mul-add-mod-self-right}
+use native.Mathlib.Nat.{zero-mul, suc-mul, add-comm, add-zero, add-suc, suc-add, mul-div-cancel, mul-mod-left}
 use native.Mathlib.Omega.{arith}
 use mathlib.Core.Path.{_≡_, refl, sym, ap, ap₂, _∙_}
 use mathlib.Core.Bool.{true}
 use mathlib.Core.List.{List, [], _∷_, _++_, map}
-use lib.ListN.{length, getD, take, drop, replicate, length-append, length-map}
+use lib.ListN.{length, getD, take, drop, replicate, length-append}
 use lib.Seq.{take-at, drop-at, drop-drop, getD-take, getD-drop}
-use borrow.Author.Tests.{eq-eqb, lt-ltb}
+use borrow.Author.Tests.{lt-ltb}
 use Rattle.spec_definitions.specs.Field.{FieldName, Ops, ops}
 use Rattle.spec_definitions.specs.Polynomials.{pad}
 use Rattle.spec_definitions.specs.Words.{kind, value, word, high, low, joined, same}
@@ -15,39 +15,14 @@ use Rattle.spec_definitions.specs.Ticket.{Ticket, genus}
 use Rattle.spec_definitions.specs.Answers.{opsOf}
 use Rattle.spec_definitions.specs.Listing.{Entry, recordWords, entryOf, recordOf, recordsFrom, listingOf}
 use Rattle.spec_definitions.specs.Lookup.{recordKinds, recordAt, distanceAt, recordCount, rightKinds, rising}
-
--- ---- words
-kind-word : (k v : ℕ) → v < 268435456 → kind (word k v) ≡ k
-unfolding kind word
-kind-word k v h = mul-add-div-right (omega arith) k v ∙ ap (λ (x : ℕ). k + x) (div-eq-of-lt h) ∙ add-zero k
-
-pub value-word : (k v : ℕ) → v < 268435456 → value (word k v) ≡ v
-unfolding value word
-value-word k v h = mul-add-mod-self-right k 268435456 v ∙ mod-eq-of-lt h
-
-pub low-less : (x : ℕ) → low x < 268435456
-unfolding low
-low-less x = mod-lt x (omega arith)
-
-pub joined-back : (x : ℕ) → joined (high x) (low x) ≡ x
-unfolding joined high low
-joined-back x = div-add-mod' x 268435456
+use Rattle.spec_lists.specs.Words.{kind-word, value-word, low-less, joined-back}
+use Rattle.spec_lists.specs.Same.{same-refl}
+use Rattle.spec_lists.specs.Record.{length-record}
 
 -- ---- lists
-pub length-pad : (o : Ops ℕ) (k : ℕ) (l : List ℕ) → length (pad o k l) ≡ k
-unfolding pad
-length-pad o zero l = refl
-length-pad o (suc k) [] = ap suc (length-pad o k [])
-length-pad o (suc k) (a ∷ l) = ap suc (length-pad o k l)
-
 map-append : (f : ℕ → ℕ) (l m : List ℕ) → map f (l ++ m) ≡ map f l ++ map f m
 map-append f [] m = refl
 map-append f (x ∷ l) m = ap (λ (t : List ℕ). f x ∷ t) (map-append f l m)
-
-same-refl : (l : List ℕ) → same l l ≡ true
-unfolding same
-same-refl [] = refl
-same-refl (x ∷ l) = rw (same, eq-eqb x x refl) (same-refl l)
 
 -- the kinds of coefficients that fit
 kinds-pad : (f : FieldName) (c k : ℕ) (l : List ℕ) → ((i : ℕ) → getD l i 0 < 268435456) → map kind (map (word c) (pad (ops f) k l)) ≡ replicate k c
@@ -57,16 +32,6 @@ kinds-pad f c (suc k) [] h = ap₂ (λ (x : ℕ) (t : List ℕ). x ∷ t) (kind-
 kinds-pad f c (suc k) (a ∷ l) h = ap₂ (λ (x : ℕ) (t : List ℕ). x ∷ t) (kind-word c a (h 0)) (kinds-pad f c k l (λ i. h (suc i)))
 
 -- ---- one record
-length-record : (o : Ops ℕ) (n mirror : ℕ) (e : Entry) → suc (genus n) + suc (genus n) ≡ n → length (recordWords o n mirror e) ≡ n + 4
-unfolding recordWords
-length-record o n mirror e even =
-    let x : List ℕ = map (word 8) (pad o (suc (genus n)) (e .ideal .q)) in
-    let y : List ℕ = map (word 9) (pad o (genus n) (e .ideal .p)) in
-    let s : length (x ++ y) ≡ length x + length y = length-append x y in
-    let k : length x ≡ suc (genus n) = length-map (pad o (suc (genus n)) (e .ideal .q)) (word 8) ∙ length-pad o (suc (genus n)) (e .ideal .q) in
-    let l : length y ≡ genus n = length-map (pad o (genus n) (e .ideal .p)) (word 9) ∙ length-pad o (genus n) (e .ideal .p) in
-    omega arith
-
 pub kinds-record : (f : FieldName) (n mirror : ℕ) (e : Entry) → e .index < 268435456 → high (e .distance) < 268435456 → high mirror < 268435456 → ((i : ℕ) → getD (e .ideal .q) i 0 < 268435456) → ((i : ℕ) → getD (e .ideal .p) i 0 < 268435456) → map kind (recordWords (ops f) n mirror e) ≡ recordKinds n
 unfolding recordWords recordKinds
 kinds-record f n mirror e i d m hq hp = λ j. kind-word 5 (e .index) i j ∷ kind-word 6 (high (e .distance)) d j ∷ kind-word 7 (low (e .distance)) (low-less (e .distance)) j ∷ kind-word 10 (high mirror) m j ∷ kind-word 11 (low mirror) (low-less mirror) j ∷ rest j

@@ -10,7 +10,7 @@ use lib.Dec.{ltb, eqb}
 use lib.ListN.{length, getD}
 use borrow.Author.Tests.{ltb-true, lt-ltb, eqb-true, eqb-false, eq-eqb}
 use Rattle.math_ring.specs.Order.{le-or-lt}
-use Rattle.spec_definitions.specs.Words.{same, someNot, oneOf}
+use Rattle.spec_definitions.specs.Words.{same, someNot}
 use Rattle.spec_definitions.specs.Ticket.{firstOf}
 
 -- the test b is true exactly where P holds
@@ -47,15 +47,6 @@ pub tests-or : {a b c : Bool} {P Q R : Type 0} → Tests a P → (¬ P → Tests
 tests-or {a = true} s t u = (λ e. inl (s .0 refl), λ h. refl)
 tests-or {a = false} {b = true} s t u = (λ e. inr (inl (t (λ p. absurd (false≢true (s .1 p))) .0 refl)), λ h. refl)
 tests-or {a = false} {b = false} s t u = (λ e. inr (inr (u .0 e)), ⊎-elim (λ p. absurd (false≢true (s .1 p))) (⊎-elim (λ p. absurd (false≢true (t (λ r. absurd (false≢true (s .1 r))) .1 p))) (u .1)))
-
--- of a list of one number
-pub tests-one : (x y : ℕ) → Tests (oneOf (y ∷ []) x) (x ≡ y)
-unfolding oneOf
-tests-one x y = go (eqb x y) (tests-eq x y)
-  where
-    go : (b : Bool) → Tests b (x ≡ y) → Tests (elim b [ true ↦ true | false ↦ false ]) (x ≡ y)
-    go true t = t
-    go false t = t
 
 -- ---- tests of lists: some place of the list ..
 -- .. has a number that does not pass a test

@@ -14,12 +14,12 @@ use borrow.Author.Tests.{ltb-false, eqb-true, not-false}
 use Rattle.math_algebra.specs.Polynomial.{Monic}
 use Rattle.math_surd.specs.Root.{No-square}
 use Rattle.spec_definitions.specs.Field.{FieldName, ops, fits}
-use Rattle.spec_definitions.specs.Polynomials.{root}
+use Rattle.spec_definitions.specs.Polynomials.{trim, root}
 use Rattle.spec_definitions.specs.Primes.{oddPrime}
 use Rattle.spec_definitions.specs.Words.{value, someNot}
 use Rattle.spec_definitions.specs.Ticket.{Ticket, genus, ticketOf, wrongHead, wrongPrime, wrongDegree, wrongLayout, wrongCoefficient, wrongLead, notSquarefree, firstOf, testsOf, refusalOf}
 use Rattle.spec_bridge.specs.Model.{series}
-use Rattle.spec_bridge.specs.Trim.{below-length}
+use Rattle.spec_bridge.specs.Trim.{below-length, length-trim}
 use Rattle.spec_bridge.specs.Prime.{Prime, OddPrime, odd-prime-true, odd-prime-more}
 use Rattle.spec_bridge.specs.Root.{root-is, trim-root, oks-root}
 use Rattle.spec_fields.specs.Named.{IsField, Ok, arithmetic, fits-ok, ok-zero, φ-first}
@@ -45,6 +45,9 @@ is-field h = field-from (h .prime) (h .odd) (h .small)
 
 pub monic-D : (f : FieldName) (h : IsField f) (g : ℕ) (D : List ℕ) → length D ≡ suc (suc g + suc g) → getD D (suc g + suc g) 0 ≡ 1 → Monic (arithmetic f h .K) (series (arithmetic f h .M) D) (suc g + suc g)
 monic-D f h g D l e = record { low = λ i k. below-length (arithmetic f h .M) D i (omega arith); top = ap (arithmetic f h .M .φ) e ∙ φ-first f h }
+
+pub D-most : {f : FieldName} {g : ℕ} {D : List ℕ} → Admitted f g D → length (trim (ops f) D) ≤ suc (suc g + suc g)
+D-most {f} {g} {D} h = let e = length-trim (arithmetic f (is-field h) .M) D in let w = h .size-D in omega arith
 
 -- √D with its root: what the laws of the walk ask for
 abbrev pub surd-of : {f : FieldName} {g : ℕ} {D : List ℕ} (h : Admitted f g D) → Surd (arithmetic f (is-field h) .K) (arithmetic f (is-field h) .M) g D (root (ops f) D (suc g))

@@ -19,7 +19,7 @@ use Rattle.spec_definitions.specs.Walk as lists
 use Rattle.spec_bridge.specs.Model.{Model, Oks, series, series-nil}
 use Rattle.spec_bridge.specs.Trim.{Trim, size-is}
 use Rattle.spec_bridge.specs.Degree.{deg-size}
-use Rattle.spec_bridge.specs.Arithmetic.{oks-nil, oks-add, trim-add, series-add, series-mul}
+use Rattle.spec_bridge.specs.Arithmetic.{oks-nil, oks-add, trim-add, series-mul-add}
 use Rattle.spec_laws.specs.Surd.{Surd, deg-length, series-one, trim-one, oks-one}
 use Rattle.spec_laws.specs.Fraction.{fraction, Q-some}
 
@@ -93,18 +93,15 @@ module _ {A B : Type 0} {o : Ops A} {K : Field B} {M : Model o (F K)} {g : ℕ} 
   s-oks (suc (suc i)) = subst (Oks M) (sym (s-suc i)) (oks-add M _ _)
 
   -- ---- as polynomials, which stand one place up
-  step-series : (f x y : List A) → series M (add o (mul o f x) y) ≡ series M f * series M x + series M y
-  step-series f x y = series-add M (mul o f x) y ∙ ap (λ (u : Px K). u + series M y) (series-mul M f x)
-
   pub p-series : (i : ℕ) → series M (p i) ≡ convergents.p K (fraction h) (suc i)
   p-series zero = ap (series M) p-zero ∙ series-one K M
   p-series (suc zero) = ap (series M) p-one ∙ ring-from R[x] (series M d ∷ series M (a 0) ∷ []) (times R[x] (- 𝟙) (a-first K (fraction h))) (search quote depth 40 fits 9999) tt
-  p-series (suc (suc i)) = ap (series M) (p-suc i) ∙ step-series (a (suc i)) (p (suc i)) (p i) ∙ ap₂ (λ (x y : Px K). series M (a (suc i)) * x + y) (p-series (suc i)) (p-series i)
+  p-series (suc (suc i)) = ap (series M) (p-suc i) ∙ series-mul-add M (a (suc i)) (p (suc i)) (p i) ∙ ap₂ (λ (x y : Px K). series M (a (suc i)) * x + y) (p-series (suc i)) (p-series i)
 
   pub s-series : (i : ℕ) → series M (s i) ≡ convergents.s K (fraction h) (suc i)
   s-series zero = ap (series M) s-zero ∙ series-nil M
   s-series (suc zero) = ap (series M) s-one ∙ series-one K M ∙ ring R[x] (series M (a 0) ∷ []) (search quote depth 40 fits 9999) tt
-  s-series (suc (suc i)) = ap (series M) (s-suc i) ∙ step-series (a (suc i)) (s (suc i)) (s i) ∙ ap₂ (λ (x y : Px K). series M (a (suc i)) * x + y) (s-series (suc i)) (s-series i)
+  s-series (suc (suc i)) = ap (series M) (s-suc i) ∙ series-mul-add M (a (suc i)) (s (suc i)) (s i) ∙ ap₂ (λ (x y : Px K). series M (a (suc i)) * x + y) (s-series (suc i)) (s-series i)
 
   -- ---- degrees
   pub degree-distance : (i : ℕ) → degreeBefore o D d i ≡ distance K (fraction h) i

@@ -15,7 +15,7 @@ use base_polynomial::Poly;
 use base_polynomial::linear::zero;
 use base_words::value;
 use ticket_tests::head::wrong_head;
-use ticket_tests::layout::layout_refusal;
+use ticket_tests::order::layout_refusal;
 use ticket_tests::radicand::radicand;
 use ticket_tests::radicand::radicand_refusal;
 

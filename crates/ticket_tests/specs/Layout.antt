@@ -1,58 +1,15 @@
 -- Tests of the later words' kinds, place by place: two lists of one length are the same exactly where they have the same numbers.
 use Prim.Native.Nat.{ℕ, _+_, _<_}
 use native.Mathlib.Omega.{arith}
-use mathlib.Core.Path.{_≡_, refl, sym, ap, ap₂, _∙_}
-use mathlib.Core.Bool.{Bool, true, false}
-use mathlib.Core.List.{List, [], _∷_, map}
-use lib.Dec.{eqb}
-use lib.ListN.{length, getD, drop, replicate, length-append, length-map, length-drop, length-replicate, getD-replicate, List·getD-append, List·getD-map}
-use lib.Seq.{ext-getD, getD-drop, getD-append-add}
-use borrow.Author.Tests.{eqb-true, eq-eqb}
+use mathlib.Core.Path.{_≡_, sym, ap, _∙_}
+use mathlib.Core.Bool.{true, false}
+use mathlib.Core.List.{List, map}
+use lib.ListN.{length, getD, drop, length-map, length-drop, List·getD-map}
+use lib.Seq.{ext-getD, getD-drop}
 use Rattle.spec_definitions.specs.Words.{kind, same}
 use Rattle.spec_definitions.specs.Ticket.{laterKinds}
-
-same-refl : (l : List ℕ) → same l l ≡ true
-unfolding same
-same-refl [] = refl
-same-refl (x ∷ l) = rw (same, eq-eqb x x refl) (same-refl l)
-
-same-path : (l m : List ℕ) → same l m ≡ true → l ≡ m
-unfolding same
-same-path [] [] e = refl
-same-path [] (y ∷ m) e = absurd (let z : _≡_ {A = ℕ} 0 1 = cc in omega arith)
-same-path (x ∷ l) [] e = absurd (let z : _≡_ {A = ℕ} 0 1 = cc in omega arith)
-same-path (x ∷ l) (y ∷ m) e = go (eqb x y) refl e (same-path l m)
-  where
-    go : (t : Bool) → eqb x y ≡ t → (elim t [ true ↦ same l m | false ↦ false ]) ≡ true → (same l m ≡ true → l ≡ m) → _≡_ {A = List ℕ} (x ∷ l) (y ∷ m)
-    go true h k rest = ap₂ (λ a b. a ∷ b) (eqb-true x y h) (rest k)
-    go false h k rest = absurd (let z : _≡_ {A = ℕ} 0 1 = cc in omega arith)
-
-same-not : (l m : List ℕ) → (l ≡ m → ⊥) → same l m ≡ false
-same-not l m h = go (same l m) refl
-  where
-    go : (t : Bool) → same l m ≡ t → same l m ≡ false
-    go true e = absurd (h (same-path l m e))
-    go false e = e
-
-length-later : (n : ℕ) → length (laterKinds n) ≡ n + 3
-unfolding laterKinds
-length-later n = omega (arith, length-append {A = ℕ} (replicate (n + 1) 3) (4 ∷ 15 ∷ []), length-replicate {A = ℕ} (n + 1) 3)
-
-pub later-coefficient : (n i : ℕ) → i < n + 1 → getD (laterKinds n) i 0 ≡ 3
-unfolding laterKinds
-later-coefficient n i h = List·getD-append (replicate (n + 1) 3) _ 0 i (let e : length (replicate {A = ℕ} (n + 1) 3) ≡ n + 1 = length-replicate (n + 1) 3 in omega arith) ∙ getD-replicate (n + 1) i 3 0 h
-
-later-after : (n i j : ℕ) → i ≡ n + 1 + j → getD (laterKinds n) i 0 ≡ getD (4 ∷ 15 ∷ []) j 0
-unfolding laterKinds
-later-after n i j e =
-    ap (λ (k : ℕ). getD (laterKinds n) k 0) (e ∙ ap (λ (m : ℕ). m + j) (sym (length-replicate {A = ℕ} (n + 1) 3)))
-    ∙ getD-append-add (replicate (n + 1) 3) (4 ∷ 15 ∷ []) j 0
-
-pub later-budget : (n i : ℕ) → i ≡ n + 1 → getD (laterKinds n) i 0 ≡ 4
-later-budget n i e = later-after n i 0 (omega arith)
-
-pub later-end : (n i : ℕ) → i ≡ n + 2 → getD (laterKinds n) i 0 ≡ 15
-later-end n i e = later-after n i 1 (omega arith)
+use Rattle.spec_lists.specs.Same.{same-refl, same-not}
+use Rattle.spec_lists.specs.Layout.{length-later}
 
 module _ (n : ℕ) (w : List ℕ) (all : length w ≡ n + 5) where
   length-kinds : length (map kind (drop 2 w)) ≡ n + 3

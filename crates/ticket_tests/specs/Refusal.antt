@@ -4,24 +4,14 @@ use native.Mathlib.Omega.{arith}
 use mathlib.Core.Path.{_≡_, refl, sym, ap, ap₂, _∙_}
 use mathlib.Core.Bool.{Bool, true, false}
 use mathlib.Core.List.{List, [], _∷_, _++_}
-use lib.Dec.{eqb}
 use lib.ListN.{length, getD}
 use borrow.Author.Tests.{ltb-false, eqb-true, not-false}
 use Rattle.spec_definitions.specs.Field.{FieldName, prime}
-use Rattle.spec_definitions.specs.Words.{value, oneOf}
+use Rattle.spec_definitions.specs.Words.{value}
 use Rattle.spec_definitions.specs.Ticket.{Ticket, ticket, ticketOf, wrongHead, wrongPrime, wrongDegree, wrongLayout, wrongCoefficient, wrongLead, notSquarefree, firstOf, testsOf, refusalOf}
 use Rattle.spec_laws.specs.Admitted.{degree-of}
 use Rattle.ticket_tests.specs.Any.{none-first}
 use Rattle.ticket_tests.specs.Radicand.{coefficients}
-
--- one kind allowed
-pub one-kind : (k : ℕ) → oneOf (1 ∷ []) k ≡ eqb k 1
-unfolding oneOf
-one-kind k = go (eqb k 1)
-  where
-    go : (t : Bool) → (elim t [ true ↦ true | false ↦ false ]) ≡ t
-    go true = refl
-    go false = refl
 
 first-applies : (k : ℕ) (l : List (ℕ × Bool)) {t : Bool} → t ≡ true → firstOf ((k, t) ∷ l) ≡ k
 unfolding firstOf

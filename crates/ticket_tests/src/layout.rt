@@ -1,14 +1,11 @@
-// The words after the first two: their number, their kinds and the end word; the tests 2 to 4.
+// The words after the first two: their number, their kinds and the end word.
 ghost use mathlib.Core.Path.{_≡_};
 ghost use mathlib.Core.Bool.{not};
 ghost use mathlib.Core.List.{map};
 ghost use Prim.Native.Nat.{_+_, _<_, _≤_};
 ghost use lib.ListN.{length, getD, drop};
 ghost use Rattle.spec_definitions.specs.Words.{kind as kindOf, same};
-ghost use Rattle.spec_definitions.specs.Ticket.{laterKinds, wrongLayout, firstOf};
-ghost use Rattle.ticket_tests.specs.Refusal.{layoutTests};
-use crate::head::wrong_degree;
-use base_field::primes::is_odd_prime;
+ghost use Rattle.spec_definitions.specs.Ticket.{laterKinds, wrongLayout};
 use base_words::kind;
 use base_words::value;
 
@@ -53,20 +50,4 @@ pub fn wrong_layout(n: usize, words: &[u32]) -> bool
         return true;
     }
     value(words[n + 4]) as usize != n + 4
-}
-
-// The first of the tests 2, 3 and 4 that applies, 0 where none does. q and n are the values of the first two words.
-pub fn layout_refusal(q: u32, n: usize, words: &[u32]) -> u32
-    ensures { λ r. ⌜ r ≡ firstOf (layoutTests q n (now (words .entry))) ⌝ }
-{
-    if !is_odd_prime(q) {
-        return 2;
-    }
-    if wrong_degree(n) {
-        return 3;
-    }
-    if wrong_layout(n, words) {
-        return 4;
-    }
-    0
 }

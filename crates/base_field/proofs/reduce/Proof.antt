@@ -3,17 +3,18 @@ use Prim.Native.Nat.{_*_, _/_, _≤_}
 use native.Mathlib.Nat.{mul-le-mul}
 use native.Mathlib.Omega.{arith}
 use borrow.Author.Needs.{needs}
+use Rattle.base_field.specs.Numbers.{largest, range}
 use Rattle.base_field.specs.Reciprocal.{quotient-le, rest-less, rest-mod, rest-mod-more}
 use Rattle.base_field.proofs.reduce.Statement.{statement}
 use Rattle.base_field.proofs.reduce.Tie as tie
 
-small : (c : tie.After-struct-known) → c .before .args .x * c .before .args .f .reciprocal ≤ 4294967295 * 4294967295
+small : (c : tie.After-struct-known) → c .before .args .x * c .before .args .f .reciprocal ≤ largest * largest
 small c =
-    let x : c .before .args .x ≤ 4294967295 = omega arith in
-    let r : c .before .args .f .reciprocal ≤ 4294967295 = omega arith in
+    let x : c .before .args .x ≤ largest = omega arith in
+    let r : c .before .args .f .reciprocal ≤ largest = omega arith in
     mul-le-mul x r
 
-less : (c : tie.After-struct-known) → c .before .args .x * c .before .args .f .reciprocal / 4294967296 * c .before .args .f .q ≤ c .before .args .x
+less : (c : tie.After-struct-known) → c .before .args .x * c .before .args .f .reciprocal / range * c .before .args .f .q ≤ c .before .args .x
 less c = quotient-le (c .before .args .f .q) (c .before .args .f .reciprocal) (c .before .args .x) (omega arith) (c .before .pre .3) (omega arith)
 
 cast-k : tie.Need-cast-k

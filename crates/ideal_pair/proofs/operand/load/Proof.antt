@@ -48,11 +48,11 @@ top-requires : tie.Need-top-requires Inv-loop μ-loop
 top-requires c κs = (search needs, λ i h. c .before .before .loop .inv .1 .rest i (let e = c .before .loop-test .left in let l = c .before .before .loop .inv .0 in omega arith))
 
 returns : tie.Need-returns Inv-loop μ-loop
-returns c q pos below =
+returns c f zero below =
     let w : List ℕ = now (c .before .before .before .before .before .args .words) in
     let a = c .before .before .before .loop in
     let p : Places (a .c) (λ i. getD w i 0) = filled-all _ _ _ (a .inv .1) (λ i h. List·getD-eq-default w 0 {n = i} (omega arith)) in
-    is-result q pos _ _ _ (trim-idem (model q pos) w) (record { long = p .long; at = λ i. p .at i ∙ sym (at-trim (model q pos) w (below-of q pos w below) i) }) (c .top .ensures)
+    is-result (f .q) zero _ _ _ (trim-idem (model (f .q) zero) w) (record { long = p .long; at = λ i. p .at i ∙ sym (at-trim (model (f .q) zero) w (below-of f zero w below) i) }) (c .top .ensures)
 
 pub load-spec : {M : Type 1} → statement M
 load-spec =

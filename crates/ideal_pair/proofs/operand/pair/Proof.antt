@@ -7,11 +7,12 @@ use mathlib.Core.List.{List}
 use denote.Ref.{now}
 use borrow.Author.Needs.{needs}
 use borrow.Author.Tests.{not-true, not-false}
-use Rattle.spec_definitions.specs.Field.{modulo}
+use Rattle.spec_definitions.specs.Field.{ops}
 use Rattle.spec_definitions.specs.Polynomials.{trim}
 use Rattle.spec_definitions.specs.Ticket.{genus}
-use Rattle.spec_bridge.specs.Residues.{pos}
-use Rattle.base_polynomial.specs.Record.{Is}
+use Rattle.spec_fields.specs.Named.{ok-zero}
+use Rattle.base_field.specs.Named.{name, named}
+use Rattle.base_polynomial.specs.Whole.{Is}
 use Rattle.ideal_pair.specs.Pair.{wordsFit, Fits, fits-of, q-result, p-result, p-size, refused-words, refused-ideal, accepted-pair}
 use Rattle.ideal_pair.proofs.operand.pair.Statement.{statement}
 use Rattle.ideal_pair.proofs.operand.pair.Tie as tie
@@ -26,18 +27,18 @@ us c = now (start c .args .q)
 abbrev vs : tie.Else1 → List ℕ
 vs c = now (start c .args .p)
 
-fit : (c : tie.Else1) → true ≡ wordsFit (start c .args .f .q) (genus (start c .args .n)) (us c) (vs c)
+fit : (c : tie.Else1) → true ≡ wordsFit (name (start c .args .f)) (genus (start c .args .n)) (us c) (vs c)
 fit c = sym (not-false _ (c .if1 .left)) ∙ c .before .words-fit .ensures
 
-fits : (c : tie.Else1) → Fits (start c .args .f .q) (genus (start c .args .n)) (us c) (vs c)
+fits : (c : tie.Else1) → Fits (name (start c .args .f)) (genus (start c .args .n)) (us c) (vs c)
 fits c = fits-of (sym (fit c))
 
 -- ---- both polynomials
-q-is : (c : tie.After-load) → Is (start (c .before) .args .f .q) (c .load .result .c) (c .load .result .size) (trim (modulo (start (c .before) .args .f .q)) (us (c .before)))
-q-is c = c .load .ensures _ (pos _ (start (c .before) .pre .0 .prime)) (fits (c .before) .q-below)
+q-is : (c : tie.After-load) → Is (start (c .before) .args .f) (c .load .result) (trim (ops (name (start (c .before) .args .f))) (us (c .before)))
+q-is c = c .load .ensures _ (ok-zero _ (named _ (start (c .before) .pre .0))) (fits (c .before) .q-below)
 
-p-is : (c : tie.After-load2) → Is (start (c .before .before) .args .f .q) (c .load2 .result .c) (c .load2 .result .size) (trim (modulo (start (c .before .before) .args .f .q)) (vs (c .before .before)))
-p-is c = c .load2 .ensures _ (pos _ (start (c .before .before) .pre .0 .prime)) (fits (c .before .before) .p-below)
+p-is : (c : tie.After-load2) → Is (start (c .before .before) .args .f) (c .load2 .result) (trim (ops (name (start (c .before .before) .args .f))) (vs (c .before .before)))
+p-is c = c .load2 .ensures _ (ok-zero _ (named _ (start (c .before .before) .pre .0))) (fits (c .before .before) .p-below)
 
 -- ---- the needs
 words-fit-requires : tie.Need-words-fit-requires
@@ -50,20 +51,20 @@ returns : tie.Need-returns
 returns c =
     let w = c .before .before in
     let s = w .before .before .before in
-    refused-words (s .args .n) (s .pre .0) _ _ (c .zero .ensures _) (sym (not-true _ (c .before .if1 .taken)) ∙ w .words-fit .ensures)
+    refused-words (s .args .n) (s .pre .1) _ _ (c .zero .ensures _) (sym (not-true _ (c .before .if1 .taken)) ∙ w .words-fit .ensures)
 
 load-requires : tie.Need-load-requires
-load-requires c κs = let l = fits c .q-length in let g = start c .pre .0 .genus-most in omega arith
+load-requires c κs = let l = fits c .q-length in let g = start c .pre .1 .genus-most in omega arith
 
 load-requires-2 : tie.Need-load-requires-2
-load-requires-2 c κs = let l = fits (c .before) .p-length in let g = start (c .before) .pre .0 .genus-most in omega arith
+load-requires-2 c κs = let l = fits (c .before) .p-length in let g = start (c .before) .pre .1 .genus-most in omega arith
 
 is-ideal-requires : tie.Need-is-ideal-requires
 is-ideal-requires c κs =
     let e = c .before .before in
     let s = start e in
-    let h = s .pre .0 in
-    ((h .prime, h .small, p-size (s .args .n) h _ _ (fit e) (q-is (c .before)) (p-is c)), (s .pre .1, q-result (s .args .n) h _ _ (fit e) (q-is (c .before)) (p-is c) .held, p-result (s .args .n) h _ _ (fit e) (q-is (c .before)) (p-is c) .held))
+    let h = s .pre .1 in
+    ((s .pre .0, p-size (s .args .n) h _ _ (fit e) (q-is (c .before)) (p-is c)), (s .pre .2, q-result (s .args .n) h _ _ (fit e) (q-is (c .before)) (p-is c) .held, p-result (s .args .n) h _ _ (fit e) (q-is (c .before)) (p-is c) .held))
 
 zero-requires-2 : tie.Need-zero-requires-2
 zero-requires-2 c κs = search needs
@@ -73,14 +74,14 @@ returns-2 c =
     let i = c .before .before in
     let e = i .before .before .before in
     let s = start e in
-    refused-ideal (s .args .n) (s .pre .0) _ _ (fit e) (q-is (i .before .before)) (p-is (i .before)) (c .zero2 .ensures _) (sym (not-true _ (c .before .if2 .taken)) ∙ i .is-ideal .ensures)
+    refused-ideal (s .args .n) (s .pre .1) _ _ (fit e) (q-is (i .before .before)) (p-is (i .before)) (c .zero2 .ensures _) (sym (not-true _ (c .before .if2 .taken)) ∙ i .is-ideal .ensures)
 
 returns-3 : tie.Need-returns-3
 returns-3 c =
     let i = c .before in
     let e = i .before .before .before in
     let s = start e in
-    accepted-pair (s .args .n) (s .pre .0) _ _ (fit e) (q-is (i .before .before)) (p-is (i .before)) (sym (not-false _ (c .if2 .left)) ∙ i .is-ideal .ensures)
+    accepted-pair (s .args .n) (s .pre .1) _ _ (fit e) (q-is (i .before .before)) (p-is (i .before)) (sym (not-false _ (c .if2 .left)) ∙ i .is-ideal .ensures)
 
 pub pair-spec : {M : Type 1} → statement M
 pair-spec =

@@ -8,7 +8,9 @@ use lib.Seq.{take-length}
 use denote.Ref.{now}
 use borrow.Author.Needs.{needs}
 use borrow.Author.Count.{below-more}
-use Rattle.spec_definitions.specs.Words.{someFrom}
+use Rattle.spec_definitions.specs.Words.{someNot}
+use Rattle.spec_definitions.specs.Field.{fits}
+use Rattle.base_field.specs.Named.{name}
 use Rattle.ticket_tests.specs.Radicand.{take-none, take-at}
 use Rattle.ideal_pair.proofs.operand.some_from.Statement.{statement}
 use Rattle.ideal_pair.proofs.operand.some_from.Tie as tie
@@ -32,7 +34,7 @@ returns : tie.Need-returns Inv-loop μ-loop
 returns c =
     let a = c .before .before .before .before .before in
     let w : List ℕ = now (a .args .words) in
-    sym (ap (someFrom (a .args .f .q)) (sym (take-length w)) ∙ take-at _ w (length w) (omega arith) (omega arith) (c .before .before .before .before .loop .i) (omega arith) (c .if1 .taken))
+    sym (ap (someNot (fits (name (a .args .f)))) (sym (take-length w)) ∙ take-at _ w (length w) (omega arith) (omega arith) (c .before .before .before .before .loop .i) (omega arith) (λ h. let z = c .if1 .taken in omega arith))
 
 add-i : tie.Need-add-i Inv-loop μ-loop
 add-i c = search needs
@@ -47,7 +49,7 @@ returns-2 : tie.Need-returns-2 Inv-loop μ-loop
 returns-2 c =
     let a = c .before .before in
     let w : List ℕ = now (a .args .words) in
-    sym (ap (someFrom (a .args .f .q)) (sym (take-length w)) ∙ take-none _ w (length w) (omega arith) (λ i h. c .before .loop .inv .1 i (omega arith)))
+    sym (ap (someNot (fits (name (a .args .f)))) (sym (take-length w)) ∙ take-none _ w (length w) (omega arith) (λ i h. c .before .loop .inv .1 i (omega arith)))
 
 pub some-from-spec : {M : Type 1} → statement M
 some-from-spec =

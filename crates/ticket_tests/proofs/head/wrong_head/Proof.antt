@@ -10,7 +10,7 @@ use borrow.Author.Needs.{needs}
 use borrow.Author.Tests.{lt-ltb, le-ltb, ne-eqb, eq-eqb}
 use Rattle.spec_definitions.specs.Ticket.{wrongHead}
 use Rattle.ticket_tests.specs.Any.{any-first, any-second, any-third}
-use Rattle.ticket_tests.specs.Refusal.{one-kind}
+use Rattle.spec_lists.specs.Same.{one-of-one}
 use Rattle.ticket_tests.proofs.head.wrong_head.Statement.{statement}
 use Rattle.ticket_tests.proofs.head.wrong_head.Tie as tie
 
@@ -28,7 +28,7 @@ returns-2 : tie.Need-returns-2
 unfolding wrongHead
 returns-2 c =
     let long : 7 ≤ length (now (c .before .before .before .before .before .args .words)) = omega arith in
-    any-second _ _ _ (le-ltb _ 7 long) (ap not (one-kind _ ∙ ne-eqb _ 1 (λ h. c .if2 .taken (c .before .kind .ensures ∙ h))))
+    any-second _ _ _ (le-ltb _ 7 long) (ap not (one-of-one _ 1 ∙ ne-eqb _ 1 (λ h. c .if2 .taken (c .before .kind .ensures ∙ h))))
 
 shared-slice-read-kind-2 : tie.Need-shared-slice-read-kind-2
 shared-slice-read-kind-2 c = search needs
@@ -40,7 +40,7 @@ returns-3 : tie.Need-returns-3
 unfolding wrongHead
 returns-3 c =
     let long : 7 ≤ length (now (c .before .before .before .before .before .before .before .args .words)) = omega arith in
-    sym (any-third _ _ _ (le-ltb _ 7 long) (ap not (one-kind _ ∙ eq-eqb _ 1 (sym (c .before .before .before .kind .ensures) ∙ c .before .before .if2 .left))) ∙ ap (λ k. not (eqb k 2)) (sym (c .kind2 .ensures)))
+    sym (any-third _ _ _ (le-ltb _ 7 long) (ap not (one-of-one _ 1 ∙ eq-eqb _ 1 (sym (c .before .before .before .kind .ensures) ∙ c .before .before .if2 .left))) ∙ ap (λ k. not (eqb k 2)) (sym (c .kind2 .ensures)))
 
 pub wrong-head-spec : {M : Type 1} → statement M
 wrong-head-spec =

@@ -4,8 +4,8 @@ use mathlib.Core.Bool.{true, false, not}
 use borrow.Author.Needs.{needs}
 use Rattle.spec_definitions.specs.Ticket.{wrongPrime}
 use Rattle.ticket_tests.specs.Refusal.{refused-2, refused-3, refused-4, layout-none, degree-most}
-use Rattle.ticket_tests.proofs.layout.layout_refusal.Statement.{statement}
-use Rattle.ticket_tests.proofs.layout.layout_refusal.Tie as tie
+use Rattle.ticket_tests.proofs.order.layout_refusal.Statement.{statement}
+use Rattle.ticket_tests.proofs.order.layout_refusal.Tie as tie
 
 is-odd-prime-requires : tie.Need-is-odd-prime-requires
 is-odd-prime-requires c κs = search needs

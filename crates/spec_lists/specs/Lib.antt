@@ -1,0 +1,5 @@
+pub mod Words
+pub mod Same
+pub mod Pad
+pub mod Layout
+pub mod Record

@@ -1,0 +1,22 @@
+-- A record of a listing has n + 4 words.
+use Prim.Native.Nat.{ℕ, suc, _+_}
+use native.Mathlib.Omega.{arith}
+use mathlib.Core.Path.{_≡_, _∙_}
+use mathlib.Core.List.{List, _++_, map}
+use lib.ListN.{length, length-append, length-map}
+use Rattle.spec_definitions.specs.Field.{Ops}
+use Rattle.spec_definitions.specs.Polynomials.{pad}
+use Rattle.spec_definitions.specs.Words.{word}
+use Rattle.spec_definitions.specs.Ticket.{genus}
+use Rattle.spec_definitions.specs.Listing.{Entry, recordWords}
+use Rattle.spec_lists.specs.Pad.{length-pad}
+
+pub length-record : (o : Ops ℕ) (n mirror : ℕ) (e : Entry) → suc (genus n) + suc (genus n) ≡ n → length (recordWords o n mirror e) ≡ n + 4
+unfolding recordWords
+length-record o n mirror e even =
+    let x : List ℕ = map (word 8) (pad o (suc (genus n)) (e .ideal .q)) in
+    let y : List ℕ = map (word 9) (pad o (genus n) (e .ideal .p)) in
+    let s : length (x ++ y) ≡ length x + length y = length-append x y in
+    let k : length x ≡ suc (genus n) = length-map (pad o (suc (genus n)) (e .ideal .q)) (word 8) ∙ length-pad o (suc (genus n)) (e .ideal .q) in
+    let l : length y ≡ genus n = length-map (pad o (genus n) (e .ideal .p)) (word 9) ∙ length-pad o (genus n) (e .ideal .p) in
+    omega arith
