@@ -196,9 +196,30 @@ fn fill(
     ensures { λ _. ⌜ Moved (name f) (now (twice .entry)) (now (before .entry)) (now (current .entry)) (now (rest .entry)) (now (remains .exit)) (now (after .exit)) ⌝ }
 {
     if top == size + 1 {
-        linear(f, lead_inverse, twice, before, current, size, rest, remains, after);
+        linear(
+            f,
+            lead_inverse,
+            twice,
+            before,
+            current,
+            size,
+            rest,
+            remains,
+            after,
+        );
     } else {
-        general(f, lead_inverse, twice, top, before, current, size, rest, remains, after);
+        general(
+            f,
+            lead_inverse,
+            twice,
+            top,
+            before,
+            current,
+            size,
+            rest,
+            remains,
+            after,
+        );
     }
 }
 
@@ -222,6 +243,17 @@ pub fn step(
     ensures { λ k. ⌜ Stepped (name f) (now (twice .entry)) (now (before .entry)) (now (current .entry)) (now (rest .entry)) (now (remains .exit)) (now (after .exit)) k ⌝ }
 {
     let lead_inverse = inverses[current[size - 1] as usize];
-    fill(f, lead_inverse, twice, top, before, current, size, rest, remains, after);
+    fill(
+        f,
+        lead_inverse,
+        twice,
+        top,
+        before,
+        current,
+        size,
+        rest,
+        remains,
+        after,
+    );
     base_polynomial::linear::top(after, top)
 }
