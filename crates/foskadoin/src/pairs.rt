@@ -2,8 +2,7 @@
 ghost use mathlib.Core.Path.{_≡_};
 ghost use lib.ListN.{length};
 ghost use Rattle.spec_definitions.specs.Products.{productAnswer, giantAnswer};
-ghost use Rattle.ideal_pair.specs.Pair.{pairOf};
-ghost use Rattle.call_product.specs.Products.{ProductSays};
+ghost use Rattle.call_product.specs.Products.{ProductSays, pairOf};
 ghost use Rattle.call_giant_step.specs.GiantSteps.{GiantStepSays};
 ghost use Rattle.foskadoin.specs.Lent.{productIn, giantStepIn};
 use base_counters::Distance;

@@ -35,17 +35,19 @@ advance-requires c κs =
     let h = s .before .pre .1 in
     let e = s .stage .ensures in
     let t = c .before .before .loop .inv in
-    let b = begun-again h (e .0) (e .1 .0) in
-    ((s .before .pre .0, root-result (h .admitted) (h .root-is) .held), record {
-      held-D = h .held-D;
-      held-a = a-result b t .held;
-      held-q = q-result b t .held;
-      held-p = p-result b t .held;
-      some = q-some b t;
-      fits = product-fits b t;
-      a-is = a-path b t (h .root-is);
-      short = next-short b t (h .root-is);
-    })
+    let b = begun-again h (e .0) (e .1 .0) in (
+      (s .before .pre .0, root-result (h .admitted) (h .root-is) .held),
+      record {
+        held-D = h .held-D;
+        held-a = a-result b t .held;
+        held-q = q-result b t .held;
+        held-p = p-result b t .held;
+        some = q-some b t;
+        fits = product-fits b t;
+        a-is = a-path b t (h .root-is);
+        short = next-short b t (h .root-is);
+      },
+    )
 
 sub-sum : tie.Need-sub-sum Inv-loop μ-loop
 sub-sum c =
