@@ -5,3 +5,4 @@ pub mod Difference
 pub mod Divided
 pub mod Monic
 pub mod Turn
+pub mod Two

@@ -1,12 +1,12 @@
 // Division in place, and the difference that takes the quotient's multiple away: arrays by reference, with the sizes that the caller keeps.
 ghost use mathlib.Core.Path.{_≡_};
-ghost use Prim.Native.Nat.{ℕ, _+_, _-_, _<_, _≤_};
+ghost use Prim.Native.Nat.{ℕ, _+_, _*_, _-_, _<_, _≤_, _%_};
 ghost use lib.ListN.{length, getD};
 ghost use Rattle.spec_definitions.specs.Polynomials.{sub as subOf, mul as mulOf, quo as quoOf, rem as remOf, pad};
 ghost use Rattle.base_places.specs.Places.{Places, Within};
 ghost use Rattle.base_places.specs.Row.{Ends};
 ghost use Rattle.base_places.specs.Record.{poly, Held, Is};
-ghost use Rattle.base_field.specs.Named.{name, ops, IsField};
+ghost use Rattle.base_field.specs.Named.{name, ops, IsField, Ok};
 use base_field::Field;
 use base_places::linear::top;
 use base_places::product::excess;
@@ -20,7 +20,7 @@ fn larger(m: usize, n: usize) -> usize
 }
 
 // v becomes v − w·u, place by place, where w has l places, u has k, and neither v nor the product has places from n on.
-fn subtract_places(
+fn subtract_many(
     f: Field,
     v: &mut [u32; 129],
     w: &[u32; 129],
@@ -40,6 +40,66 @@ fn subtract_places(
         let product = base_field::reduce(f, terms(f, w, u, i, l, k));
         v[i] = base_field::sub(f, v[i], product);
         i += 1;
+    }
+}
+
+// One coefficient of v − (w0 + w1·x)·u: x is that of u, y the one before. Two products of 4,095² are below 2³².
+fn less_two(f: Field, v: u32, w0: u32, w1: u32, x: u32, y: u32) -> u32
+    requires { ⌜ IsField f × Ok f v × Ok f w0 × Ok f w1 × Ok f x × Ok f y ⌝ }
+    ensures { λ r. ⌜ r ≡ (v + ((f .q - w0) * x + (f .q - w1) * y)) % f .q ⌝ }
+{
+    let q = f.q;
+    base_field::reduce(f, v + ((q - w0) * x + (q - w1) * y))
+}
+
+// The same where w has two places at most, as most quotients have: in one pass, which keeps the coefficient of u at the place before.
+fn subtract_two(
+    f: Field,
+    v: &mut [u32; 129],
+    w: &[u32; 129],
+    l: usize,
+    u: &[u32; 129],
+    k: usize,
+    n: usize,
+)
+    requires { ⌜ IsField f × (l ≤ 2) × (n ≤ 129) × (length (now v) ≡ 129) × (l + k ≤ n + 1) ⌝ }
+    requires { ⌜ Within (name f) (now v) n ⌝ }
+    requires { ⌜ Within (name f) (now w) l ⌝ }
+    requires { ⌜ Within (name f) (now u) k ⌝ }
+    ensures { λ _. ⌜ Places (now (v .exit)) (λ i. ops f .sub (getD (now (v .entry)) i 0) (getD (mulOf (ops f) (now (w .entry)) (now (u .entry))) i 0)) ⌝ }
+{
+    let w0 = w[0];
+    let w1 = w[1];
+    let mut y: u32 = 0;
+    let mut i: usize = 0;
+    while i < n {
+        let x = u[i];
+        v[i] = less_two(f, v[i], w0, w1, x, y);
+        y = x;
+        i += 1;
+    }
+}
+
+// The same, by the shorter way where there is one.
+fn subtract_places(
+    f: Field,
+    v: &mut [u32; 129],
+    w: &[u32; 129],
+    l: usize,
+    u: &[u32; 129],
+    k: usize,
+    n: usize,
+)
+    requires { ⌜ IsField f × (l ≤ 129) × (n ≤ 129) × (length (now v) ≡ 129) × (l + k ≤ n + 1) ⌝ }
+    requires { ⌜ Within (name f) (now v) n ⌝ }
+    requires { ⌜ Within (name f) (now w) l ⌝ }
+    requires { ⌜ Within (name f) (now u) k ⌝ }
+    ensures { λ _. ⌜ Places (now (v .exit)) (λ i. ops f .sub (getD (now (v .entry)) i 0) (getD (mulOf (ops f) (now (w .entry)) (now (u .entry))) i 0)) ⌝ }
+{
+    if l <= 2 {
+        subtract_two(f, v, w, l, u, k, n);
+    } else {
+        subtract_many(f, v, w, l, u, k, n);
     }
 }
 

@@ -10,8 +10,8 @@ use Rattle.base_places.specs.Dots.{mul-past}
 use Rattle.base_places.specs.Zeros.{sub-zeros}
 use Rattle.base_euclid.specs.Passed.{Passed, passed-none, passed-more, passed-all}
 use borrow.Author.Needs.{needs}
-use Rattle.base_euclid.proofs.division.subtract_places.Statement.{statement}
-use Rattle.base_euclid.proofs.division.subtract_places.Tie as tie
+use Rattle.base_euclid.proofs.division.subtract_many.Statement.{statement}
+use Rattle.base_euclid.proofs.division.subtract_many.Tie as tie
 
 abbrev Inv-loop : tie.InvT-loop
 Inv-loop f v₀ w l u k n i₀ v i = (i ≤ n) × Passed v₀ v (λ j. modulo (f .q) .sub (getD v₀ j 0) (getD (mul (modulo (f .q)) w u) j 0)) i
@@ -70,8 +70,8 @@ returns c =
     let none : (i : ℕ) → l .i ≤ i → getD (mul (modulo q) (s .args .w .now) (s .args .u .now)) i 0 ≡ 0 = λ i h. mul-past q (omega arith) _ _ (s .args .l) (s .args .k) (s .pre .1 .1 .0 .past) (s .pre .1 .1 .1 .past) i (omega arith) in
     passed-all _ _ (l .v) (l .i) (l .inv .1) (λ i h. (let e = s .pre .1 .0 .past i (omega arith) in e ∙ sym (sub-zeros q (omega arith) e (none i h))))
 
-pub subtract-places-spec : {M : Type 1} → statement M
-subtract-places-spec =
+pub subtract-many-spec : {M : Type 1} → statement M
+subtract-many-spec =
     tie.close
     (tie.spec
     Inv-loop
