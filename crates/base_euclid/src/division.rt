@@ -3,6 +3,7 @@ ghost use mathlib.Core.Path.{_≡_};
 ghost use Prim.Native.Nat.{ℕ, _+_, _*_, _-_, _<_, _≤_, _%_};
 ghost use lib.ListN.{length, getD};
 ghost use Rattle.spec_definitions.specs.Polynomials.{sub as subOf, mul as mulOf, quo as quoOf, rem as remOf, pad};
+ghost use Rattle.spec_bridge.specs.Product.{shifted};
 ghost use Rattle.base_places.specs.Places.{Places, Within};
 ghost use Rattle.base_places.specs.Row.{Ends};
 ghost use Rattle.base_places.specs.Record.{poly, Held, Is};
@@ -17,6 +18,83 @@ fn larger(m: usize, n: usize) -> usize
     ensures { λ r. ⌜ (m ≤ r) × (n ≤ r) × ((k : ℕ) → m ≤ k → n ≤ k → r ≤ k) ⌝ }
 {
     if m < n { n } else { m }
+}
+
+// One coefficient of v − (w0 + w1·x)·u: x is that of u, y the one before. Two products of 4,095² are below 2³².
+fn less_two(f: Field, v: u32, w0: u32, w1: u32, x: u32, y: u32) -> u32
+    requires { ⌜ IsField f × Ok f v × Ok f w0 × Ok f w1 × Ok f x × Ok f y ⌝ }
+    ensures { λ r. ⌜ r ≡ (v + ((f .q - w0) * x + (f .q - w1) * y)) % f .q ⌝ }
+{
+    let q = f.q;
+    base_field::reduce(f, v + ((q - w0) * x + (q - w1) * y))
+}
+
+// The place before k, 0 where there is none.
+fn below(b: &[u32; 129], k: usize) -> u32
+    requires { ⌜ k < 129 ⌝ }
+    ensures { λ r. ⌜ r ≡ shifted (now (b .entry)) 1 k ⌝ }
+{
+    if 0 < k { b[k - 1] } else { 0 }
+}
+
+// The coefficient at i of v − w·u, where w has l places and u has k.
+fn rest_many(
+    f: Field,
+    v: &[u32; 129],
+    w: &[u32; 129],
+    l: usize,
+    u: &[u32; 129],
+    k: usize,
+    i: usize,
+) -> u32
+    requires { ⌜ IsField f × (l ≤ 129) × (i < 129) × Ok f (getD (now v) i 0) ⌝ }
+    requires { ⌜ Within (name f) (now w) l ⌝ }
+    requires { ⌜ Within (name f) (now u) k ⌝ }
+    ensures { λ r. ⌜ r ≡ ops f .sub (getD (now (v .entry)) i 0) (getD (mulOf (ops f) (now (w .entry)) (now (u .entry))) i 0) ⌝ }
+{
+    let product = base_field::reduce(f, terms(f, w, u, i, l, k));
+    base_field::sub(f, v[i], product)
+}
+
+// The same where w has two places at most.
+fn rest_two(
+    f: Field,
+    v: &[u32; 129],
+    w: &[u32; 129],
+    l: usize,
+    u: &[u32; 129],
+    k: usize,
+    i: usize,
+) -> u32
+    requires { ⌜ IsField f × (l ≤ 2) × (i < 129) × Ok f (getD (now v) i 0) ⌝ }
+    requires { ⌜ Within (name f) (now w) l ⌝ }
+    requires { ⌜ Within (name f) (now u) k ⌝ }
+    ensures { λ r. ⌜ r ≡ ops f .sub (getD (now (v .entry)) i 0) (getD (mulOf (ops f) (now (w .entry)) (now (u .entry))) i 0) ⌝ }
+{
+    let y = below(u, i);
+    less_two(f, v[i], w[0], w[1], u[i], y)
+}
+
+// The same, by the shorter way where there is one.
+fn rest_at(
+    f: Field,
+    v: &[u32; 129],
+    w: &[u32; 129],
+    l: usize,
+    u: &[u32; 129],
+    k: usize,
+    i: usize,
+) -> u32
+    requires { ⌜ IsField f × (l ≤ 129) × (i < 129) × Ok f (getD (now v) i 0) ⌝ }
+    requires { ⌜ Within (name f) (now w) l ⌝ }
+    requires { ⌜ Within (name f) (now u) k ⌝ }
+    ensures { λ r. ⌜ r ≡ ops f .sub (getD (now (v .entry)) i 0) (getD (mulOf (ops f) (now (w .entry)) (now (u .entry))) i 0) ⌝ }
+{
+    if l <= 2 {
+        rest_two(f, v, w, l, u, k, i)
+    } else {
+        rest_many(f, v, w, l, u, k, i)
+    }
 }
 
 // v becomes v − w·u, place by place, where w has l places, u has k, and neither v nor the product has places from n on.
@@ -37,19 +115,9 @@ fn subtract_many(
 {
     let mut i: usize = 0;
     while i < n {
-        let product = base_field::reduce(f, terms(f, w, u, i, l, k));
-        v[i] = base_field::sub(f, v[i], product);
+        v[i] = rest_many(f, v, w, l, u, k, i);
         i += 1;
     }
-}
-
-// One coefficient of v − (w0 + w1·x)·u: x is that of u, y the one before. Two products of 4,095² are below 2³².
-fn less_two(f: Field, v: u32, w0: u32, w1: u32, x: u32, y: u32) -> u32
-    requires { ⌜ IsField f × Ok f v × Ok f w0 × Ok f w1 × Ok f x × Ok f y ⌝ }
-    ensures { λ r. ⌜ r ≡ (v + ((f .q - w0) * x + (f .q - w1) * y)) % f .q ⌝ }
-{
-    let q = f.q;
-    base_field::reduce(f, v + ((q - w0) * x + (q - w1) * y))
 }
 
 // The same where w has two places at most, as most quotients have: in one pass, which keeps the coefficient of u at the place before.
@@ -145,8 +213,7 @@ fn quotient(
     let mut k = l;
     while 0 < k {
         k -= 1;
-        let product = base_field::reduce(f, terms(f, z, b, k + n - 1, l, n));
-        let rest = base_field::sub(f, a[k + n - 1], product);
+        let rest = rest_at(f, a, z, l, b, n, k + n - 1);
         z[k] = base_field::reduce(f, rest * lead_inverse);
     }
 }

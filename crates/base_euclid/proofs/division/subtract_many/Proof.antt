@@ -1,7 +1,6 @@
 -- The invariant: the places before i are those of the difference, the others stand as they did.
-use mathlib.Core.Path.{_≡_, sym, ap, ap₂, _∙_, subst}
-use Prim.Native.Nat.{ℕ, _≤_, _<_, _-_, _%_}
-use native.Mathlib.Nat.{mod-lt}
+use mathlib.Core.Path.{_≡_, sym, ap, _∙_, subst}
+use Prim.Native.Nat.{ℕ, _≤_, _<_, _-_}
 use native.Mathlib.Omega.{arith}
 use lib.ListN.{getD}
 use Rattle.spec_definitions.specs.Field.{modulo}
@@ -22,25 +21,12 @@ abbrev μ-loop : tie.MeasureT-loop
 loop-holds : tie.Need-loop-holds Inv-loop μ-loop
 loop-holds c = (search needs, passed-none _ _ (search needs))
 
-terms-requires : tie.Need-terms-requires Inv-loop μ-loop
-terms-requires c κs = search needs
-
-reduce-requires : tie.Need-reduce-requires Inv-loop μ-loop
-reduce-requires c κs = search needs
-
-mul-sub : tie.Need-mul-sub Inv-loop μ-loop
-mul-sub c = search needs
-
-element-copy-out-sub : tie.Need-element-copy-out-sub Inv-loop μ-loop
-element-copy-out-sub c = search needs
-
-sub-requires : tie.Need-sub-requires Inv-loop μ-loop
-sub-requires c κs =
-    let s = c .before .before .before .before .before in
-    let l = c .before .before .before .before .loop in
-    let q = s .args .f .q in
-    let t = c .before .before .terms .result in
-    (s .pre .0 .0, subst (λ (x : ℕ). x < q) (sym (l .inv .1 .rest (l .i) (omega arith))) (s .pre .1 .0 .reduced (l .i)), subst (λ (x : ℕ). x < q) (sym (c .before .reduce .ensures)) (mod-lt t (omega arith)))
+rest-many-requires : tie.Need-rest-many-requires Inv-loop μ-loop
+rest-many-requires c κs =
+    let s = c .before .before .before in
+    let l = c .before .before .loop in
+    let v = subst (λ (x : ℕ). x < s .args .f .q) (sym (l .inv .1 .rest (l .i) (omega arith))) (s .pre .1 .0 .reduced (l .i)) in
+    ((s .pre .0 .0, s .pre .0 .1, omega arith, v), s .pre .1 .1)
 
 mul-v : tie.Need-mul-v Inv-loop μ-loop
 mul-v c = search needs
@@ -56,11 +42,11 @@ loop-less c = search needs
 
 loop-again : tie.Need-loop-again Inv-loop μ-loop
 loop-again c =
-    let s = c .before .before .before .before .before .before in
-    let l = c .before .before .before .before .before .loop in
+    let s = c .before .before .before .before in
+    let l = c .before .before .before .loop in
     let q = s .args .f .q in
-    let product = c .before .before .reduce .ensures ∙ c .before .before .before .terms .ensures .residue in
-    (omega arith, passed-more _ _ (l .v) (l .i) _ (l .inv .1) (omega arith) (c .sub .ensures ∙ ap₂ (modulo q .sub) (l .inv .1 .rest (l .i) (omega arith)) product))
+    let here = ap (λ (x : ℕ). modulo q .sub x (getD (mul (modulo q) (s .args .w .now) (s .args .u .now)) (l .i) 0)) (l .inv .1 .rest (l .i) (omega arith)) in
+    (omega arith, passed-more _ _ (l .v) (l .i) _ (l .inv .1) (omega arith) (c .rest-many .ensures ∙ here))
 
 returns : tie.Need-returns Inv-loop μ-loop
 returns c =
@@ -77,11 +63,7 @@ subtract-many-spec =
     Inv-loop
     μ-loop
     loop-holds
-    terms-requires
-    reduce-requires
-    mul-sub
-    element-copy-out-sub
-    sub-requires
+    rest-many-requires
     mul-v
     element-write-v
     add-i
