@@ -51,8 +51,8 @@ less-two-requires c κs =
     let u = s .pre .1 .1 .1 in (
       s .pre .0 .0,
       subst (λ (x : ℕ). x < q) (sym (l .inv .2 .rest (l .i) (omega arith))) (s .pre .1 .0 .reduced (l .i)),
-      w .reduced 0,
-      w .reduced 1,
+      w .reduced _,
+      w .reduced _,
       u .reduced (l .i),
       subst (λ (x : ℕ). x < q) (sym (l .inv .1)) (shifted-less q (omega arith) _ (u .reduced) (l .i)),
     )
