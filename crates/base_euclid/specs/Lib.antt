@@ -6,3 +6,4 @@ pub mod Divided
 pub mod Monic
 pub mod Turn
 pub mod Two
+pub mod Constant

@@ -59,7 +59,8 @@ fn bezout_zero(
 }
 
 // g becomes the greatest common divisor of a, of m places, and b, of n; u and v become its factors: g is u·a + v·b. From those of b and
-// the remainder of a by b, exchanged, with the quotient's multiple taken away. What a and b hold is used up.
+// the remainder of a by b, exchanged, with the quotient's multiple taken away. Where b is a constant other than 0, the remainder is 0, and
+// nothing is taken away. What a and b hold is used up.
 pub fn bezout(
     f: Field,
     a: &mut [u32; 129],
@@ -79,6 +80,13 @@ pub fn bezout(
 {
     if n == 0 {
         bezout_zero(f, a, m, g, u, v)
+    } else if n == 1 {
+        let s = bezout_zero(f, b, n, g, v, u);
+        Sizes {
+            gcd: s.gcd,
+            u: s.v,
+            v: s.u,
+        }
     } else {
         let mut w = [0u32; 129];
         let r = divide_cleared(f, a, m, b, n, &mut w);

@@ -30,7 +30,7 @@ pub fn monic_by(f: Field, w: u32, a: &[u32; 129], m: usize, g: &mut [u32; 129]) 
 }
 
 // g becomes the greatest common divisor of a, of m places, and b, of n; its size. It is that of b and the remainder of a by b,
-// and a made monic where b is 0. What a and b hold is used up.
+// a made monic where b is 0, and 1 where b is another constant. What a and b hold is used up.
 pub fn gcd(
     f: Field,
     a: &mut [u32; 129],
@@ -47,6 +47,9 @@ pub fn gcd(
     if n == 0 {
         let w = lead_inverse(f, a, m);
         monic_by(f, w, a, m, g)
+    } else if n == 1 {
+        let w = lead_inverse(f, b, n);
+        monic_by(f, w, b, n, g)
     } else {
         let r = remainder(f, a, m, b, n);
         gcd(f, b, n, a, r, g)
