@@ -1,4 +1,5 @@
--- An array that holds the quotient of two records: within the places that the sizes leave it, and as a factor.
+-- An array that holds the quotient of two records: within the places that the sizes leave it, and as a
+-- factor.
 use Prim.Native.Nat.{ℕ, _+_, _-_, _<_, _≤_}
 use native.Mathlib.Omega.{arith}
 use mathlib.Core.Path.{_≡_, refl, sym, ap, ap₂, _∙_, fun-ext, subst}

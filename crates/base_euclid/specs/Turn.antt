@@ -1,4 +1,5 @@
--- One turn of the recursion: from the arrays of quotient and remainder and of the factors of b and the remainder to the factors of a and b.
+-- One turn of the recursion: from the arrays of quotient and remainder and of the factors of b and the
+-- remainder to the factors of a and b.
 use Prim.Native.Nat.{ℕ, _+_, _-_, _<_, _≤_}
 use native.Mathlib.Omega.{arith}
 use mathlib.Core.Path.{_≡_, sym, ap, ap₂, _∙_, subst}

@@ -1,5 +1,5 @@
--- A coefficient of v − w·u where w has two places: the product has two terms there, with the place itself and the place before.
--- q − w serves for −w, so that nothing is below 0.
+-- A coefficient of v − w·u where w has two places: the product has two terms there, with the place itself and
+-- the place before. q − w serves for −w, so that nothing is below 0.
 use Prim.Native.Nat.{ℕ, zero, suc, _+_, _*_, _-_, _%_, _<_, _≤_}
 use native.Mathlib.Nat.{mod-lt, mod-eq-of-lt, add-mul, mul-comm, zero-add, mul-mod-left}
 use native.Mathlib.Numerals.{add-one}

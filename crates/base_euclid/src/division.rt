@@ -1,4 +1,5 @@
-// Division in place, and the difference that takes the quotient's multiple away: arrays by reference, with the sizes that the caller keeps.
+// Division in place, and the difference v − w·u: arrays by reference, with the sizes that the caller keeps,
+// and one reduction a coefficient.
 ghost use mathlib.Core.Path.{_≡_};
 ghost use Prim.Native.Nat.{ℕ, _+_, _*_, _-_, _<_, _≤_, _%_};
 ghost use lib.ListN.{length, getD};
@@ -20,7 +21,8 @@ fn larger(m: usize, n: usize) -> usize
     if m < n { n } else { m }
 }
 
-// One coefficient of v − (w0 + w1·x)·u: x is that of u, y the one before. Two products of 4,095² are below 2³².
+// One coefficient of v − w·u where w has two places, w0 and w1: x is the coefficient of u there, y the one
+// before. Two products of 4,095² are below 2³².
 fn less_two(f: Field, v: u32, w0: u32, w1: u32, x: u32, y: u32) -> u32
     requires { ⌜ IsField f × Ok f v × Ok f w0 × Ok f w1 × Ok f x × Ok f y ⌝ }
     ensures { λ r. ⌜ r ≡ (v + ((f .q - w0) * x + (f .q - w1) * y)) % f .q ⌝ }
@@ -97,7 +99,8 @@ fn rest_at(
     }
 }
 
-// v becomes v − w·u, place by place, where w has l places, u has k, and neither v nor the product has places from n on.
+// v becomes v − w·u, place by place, where w has l places, u has k, and neither v nor the product has places
+// from n on.
 fn subtract_many(
     f: Field,
     v: &mut [u32; 129],
@@ -120,7 +123,8 @@ fn subtract_many(
     }
 }
 
-// The same where w has two places at most, as most quotients have: in one pass, which keeps the coefficient of u at the place before.
+// The same where w has two places at most, as most quotients have: in one pass, which keeps the coefficient
+// of u at the place before.
 fn subtract_two(
     f: Field,
     v: &mut [u32; 129],
@@ -171,7 +175,7 @@ fn subtract_places(
     }
 }
 
-// v, of `size` places, becomes v − w·u, where w has l places and u has k; the size of the difference.
+// v, of `size` places, becomes v − w·u, where w has l places and u has k. Returns the size of the difference.
 pub fn subtract_product(
     f: Field,
     v: &mut [u32; 129],
@@ -192,8 +196,8 @@ pub fn subtract_product(
     top(v, n)
 }
 
-// z, which holds zeros, becomes the quotient of a, of m places, by b, of n > 0 places: l coefficients from the top one down, each of which
-// clears a − z·b at its top place.
+// z, which holds zeros, becomes the quotient of a, of m places, by b, of n > 0 places: l coefficients from
+// the top one down, each of which clears a − z·b at its top place.
 fn quotient(
     f: Field,
     lead_inverse: u32,
@@ -218,7 +222,8 @@ fn quotient(
     }
 }
 
-// a, of m places, becomes the remainder by b, of n > 0 places, and z, which holds zeros, the quotient; the size of the remainder.
+// a, of m places, becomes the remainder by b, of n > 0 places, and z, which holds zeros, the quotient.
+// Returns the size of the remainder.
 pub fn divide_cleared(
     f: Field,
     a: &mut [u32; 129],
@@ -240,7 +245,8 @@ pub fn divide_cleared(
     subtract_product(f, a, m, z, l, b, n)
 }
 
-// a, of m places, becomes the remainder by b, of n > 0 places, and z the quotient; the size of the remainder.
+// a, of m places, becomes the remainder by b, of n > 0 places, and z the quotient.
+// Returns the size of the remainder.
 pub fn divide(
     f: Field,
     a: &mut [u32; 129],
@@ -259,7 +265,7 @@ pub fn divide(
     divide_cleared(f, a, m, b, n, z)
 }
 
-// a, of m places, becomes the remainder by b, of n > 0 places; its size.
+// a, of m places, becomes the remainder by b, of n > 0 places. Returns its size.
 pub fn remainder(f: Field, a: &mut [u32; 129], m: usize, b: &[u32; 129], n: usize) -> usize
     requires { ⌜ IsField f × (0 < n) ⌝ }
     requires { ⌜ Held (name f) (now a) m ⌝ }

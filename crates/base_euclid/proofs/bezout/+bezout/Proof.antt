@@ -1,4 +1,5 @@
--- The measure is the size of b: the remainder's is smaller. Each branch is one of the definition's two rules; the factors fit by their lengths.
+-- The measure is the size of b: the remainder's is smaller. Each branch is a rule of the definition, and
+-- where b is constant two of them; the factors fit by their lengths.
 use native.Mathlib.Omega.{arith}
 use Rattle.base_places.specs.Places.{length-zeros, at-zeros}
 use Rattle.base_polynomial.specs.Linear.{held-within}

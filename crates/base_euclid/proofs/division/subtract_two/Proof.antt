@@ -1,4 +1,5 @@
--- The invariant: the places before i are those of the difference, the others stand as they did, and y is the coefficient of u before i.
+-- The invariant: the places before i are those of the difference, the others stand as they did, and y is the
+-- coefficient of u before i.
 use mathlib.Core.Path.{_≡_, refl, sym, ap, _∙_, subst}
 use Prim.Native.Nat.{ℕ, _≤_, _<_, _+_, _*_, _-_, _%_}
 use native.Mathlib.Omega.{arith}

@@ -1,4 +1,5 @@
--- The measure is the size of b: the remainder's is smaller. Each branch is one of the definition's two rules.
+-- The measure is the size of b: the remainder's is smaller. Each branch is a rule of the definition, and
+-- where b is constant two of them.
 use native.Mathlib.Omega.{arith}
 use Rattle.base_polynomial.specs.Result.{size-rem}
 use Rattle.base_euclid.specs.Turn.{gcd-last, gcd-one, turn-held, gcd-turn}
