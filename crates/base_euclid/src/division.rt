@@ -224,7 +224,7 @@ fn quotient(
 
 // a, of m places, becomes the remainder by b, of n > 0 places, and z, which holds zeros, the quotient.
 // Returns the size of the remainder.
-pub fn divide_cleared(
+fn divide_by(
     f: Field,
     a: &mut [u32; 129],
     m: usize,
@@ -243,6 +243,30 @@ pub fn divide_cleared(
     let l = excess(m + 1, n);
     quotient(f, lead_inverse, a, m, b, n, z, l);
     subtract_product(f, a, m, z, l, b, n)
+}
+
+// a, of m places, becomes the remainder by b, of n > 0 places, and z, which holds zeros, the quotient.
+// Returns the size of the remainder. A dividend with fewer places than the divisor is the remainder itself.
+pub fn divide_cleared(
+    f: Field,
+    a: &mut [u32; 129],
+    m: usize,
+    b: &[u32; 129],
+    n: usize,
+    z: &mut [u32; 129],
+) -> usize
+    requires { ⌜ IsField f × (0 < n) ⌝ }
+    requires { ⌜ Held (name f) (now a) m ⌝ }
+    requires { ⌜ Held (name f) (now b) n ⌝ }
+    requires { ⌜ (length (now z) ≡ 129) × Ends (now z) 0 ⌝ }
+    ensures { λ r. ⌜ Is (name f) (now (a .exit)) r (remOf (ops f) (poly (now (a .entry)) m) (poly (now (b .entry)) n)) ⌝ }
+    ensures { λ _. ⌜ now (z .exit) ≡ pad (ops f) 129 (quoOf (ops f) (poly (now (a .entry)) m) (poly (now (b .entry)) n)) ⌝ }
+{
+    if m < n {
+        m
+    } else {
+        divide_by(f, a, m, b, n, z)
+    }
 }
 
 // a, of m places, becomes the remainder by b, of n > 0 places, and z the quotient.
