@@ -2,3 +2,4 @@ pub mod Multipliers
 pub mod Operand
 pub mod Product
 pub mod Sizes
+pub mod Difference
