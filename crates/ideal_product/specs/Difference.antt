@@ -37,3 +37,12 @@ module _ {f : FieldName} {v : List ℕ} {m : ℕ} (held-v : Held f v m) {w : Lis
     result-difference h =
         let s = held-v .short in
         result (f .q) c size difference is (length-difference 129 (omega arith) (omega arith)) (trim-sub (model (f .q) pos) _ _) (oks-sub (model (f .q) pos) _ _)
+
+-- x − y
+pub size-subtract : {f : FieldName} {x : List ℕ} {m : ℕ} → Held f x m → {y : List ℕ} {n : ℕ} → Held f y n → {c : List ℕ} {size : ℕ} → Is f c size (sub (ops f) (poly x m) (poly y n)) → (k : ℕ) → m ≤ k → n ≤ k → size ≤ k
+size-subtract {f} {x} {m} held-x {y} {n} held-y is k h h′ =
+    let a = held-size (f .q) x m held-x in
+    let b = held-size (f .q) y n held-y in
+    let e = is .size-is in
+    let w = length-sub (model (f .q) (held-positive (f .q) x m held-x)) (poly x m) (poly y n) k (omega arith) (omega arith) in
+    omega arith

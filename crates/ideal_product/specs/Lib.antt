@@ -3,3 +3,5 @@ pub mod Operand
 pub mod Product
 pub mod Sizes
 pub mod Difference
+pub mod Coprime
+pub mod CoprimeResult
