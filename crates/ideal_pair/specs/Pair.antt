@@ -109,10 +109,10 @@ module _ {f : FieldName} (D : List ℕ) {q : Poly} (hq : Held f q) {p : Poly} (h
   unfolding isIdeal
   ideal-second h l = sym (ap₂ (λ (s t : Bool). s && t && eqb (size (ops f) (rem (ops f) (normAt (ops f) D (heldPair q p)) (poly q))) 0) (eq-eqb _ 1 h) (le-ltb (size (ops f) (poly p)) (size (ops f) (poly q)) (let a = size-of hq in let b = size-of hp in omega arith)))
 
-  pub ideal-last : lead (ops f) (poly q) ≡ 1 → p .size < q .size → {r : Poly} → Is f r (rem (ops f) (normAt (ops f) D (heldPair q p)) (poly q)) → eqb (r .size) 0 ≡ isIdeal f D (heldPair q p)
+  pub ideal-last : lead (ops f) (poly q) ≡ 1 → p .size < q .size → {r : ℕ} → r ≡ length (rem (ops f) (normAt (ops f) D (heldPair q p)) (poly q)) → eqb r 0 ≡ isIdeal f D (heldPair q p)
   unfolding isIdeal
   ideal-last h l w =
-      ap (λ (i : ℕ). eqb i 0) (w .size-is ∙ sym (size-is W _ ∙ ap length (trim-rem W _ _)))
+      ap (λ (i : ℕ). eqb i 0) (w ∙ sym (size-is W _ ∙ ap length (trim-rem W _ _)))
       ∙ sym (ap₂ (λ (s t : Bool). s && t && eqb (size (ops f) (rem (ops f) (normAt (ops f) D (heldPair q p)) (poly q))) 0) (eq-eqb _ 1 h) (lt-ltb (size (ops f) (poly p)) (size (ops f) (poly q)) (let a = size-of hq in let b = size-of hp in omega arith)))
     where
       W : Model (ops f) (FqRing (f .q) (held-positive hq))

@@ -1,26 +1,28 @@
 // A pair as it is handed in: words of any number and any values, tested by refusal 9 and read as two polynomials.
 ghost use mathlib.Core.Path.{_≡_};
 ghost use mathlib.Core.Bool.{false, _&&_};
-ghost use Prim.Native.Nat.{_≤_};
+ghost use Prim.Native.Nat.{_<_, _≤_};
 ghost use lib.ListN.{length};
 ghost use Rattle.spec_definitions.specs.Field.{FieldName, ops, fits};
-ghost use Rattle.spec_definitions.specs.Polynomials.{trim};
+ghost use Rattle.spec_definitions.specs.Polynomials.{trim, rem as remOf};
 ghost use Rattle.spec_definitions.specs.Words.{someNot};
 ghost use Rattle.spec_definitions.specs.Ticket.{genus};
 ghost use Rattle.spec_fields.specs.Named.{Ok};
 ghost use Rattle.spec_laws.specs.Admitted.{Admitted};
+ghost use Rattle.spec_laws.specs.Pairs.{normAt};
 ghost use Rattle.base_field.specs.Named.{name, IsField};
 ghost use Rattle.base_polynomial.specs.Over as over;
 ghost use Rattle.base_polynomial.specs.Whole.{poly, Held};
 ghost use Rattle.ideal_product.specs.Operand.{heldPair};
 ghost use Rattle.ideal_pair.specs.Pair.{wordsFit, isIdeal, Paired};
 use crate::Pair;
+use base_euclid::division::remainder;
+use base_euclid::division::subtract_product;
 use base_field::Field;
 use base_polynomial::Poly;
 use base_polynomial::linear::lead;
 use base_polynomial::linear::top;
 use base_polynomial::linear::zero;
-use ideal_product::multiply::cofactor;
 
 // Some word is q or more.
 fn some_from(f: Field, words: &[u32]) -> bool
@@ -72,6 +74,18 @@ fn load(words: &[u32]) -> Poly
     Poly { c: c, size: size }
 }
 
+// The size of the remainder of D − P² by Q, which is not 0. D is the radicand.
+fn norm_remainder(f: Field, radicand: Poly, q: Poly, p: Poly) -> usize
+    requires { ⌜ IsField f × (p .size ≤ 65) × (0 < q .size) ⌝ }
+    requires { ⌜ Held f radicand × Held f q × Held f p ⌝ }
+    ensures { λ r. ⌜ r ≡ length (remOf (ops (name f)) (normAt (ops (name f)) (poly radicand) (heldPair q p)) (poly q)) ⌝ }
+{
+    let mut a = radicand.c;
+    let x = p.c;
+    let n = subtract_product(f, &mut a, radicand.size, &x, p.size, &x, p.size);
+    remainder(f, &mut a, n, &q.c, q.size)
+}
+
 // Q is monic, P has a smaller degree, and Q divides D − P². D is the radicand.
 fn is_ideal(f: Field, radicand: Poly, q: Poly, p: Poly) -> bool
     requires { ⌜ IsField f × (p .size ≤ 65) ⌝ }
@@ -85,9 +99,8 @@ fn is_ideal(f: Field, radicand: Poly, q: Poly, p: Poly) -> bool
     if q.size <= p.size {
         return false;
     }
-    let k = cofactor(f, radicand, q, p);
-    let r = k.rem;
-    r.size == 0
+    let rest = norm_remainder(f, radicand, q, p);
+    rest == 0
 }
 
 // The pair of the words, where it passes the test of refusal 9; else it is not `ok`, and its polynomials are 0. D is the radicand, of degree n.

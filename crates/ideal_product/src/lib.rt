@@ -1,4 +1,6 @@
 // Pairs (Q, P) of polynomials that are ideals, and the product of two of them.
+pub mod arrays;
+pub mod coprime;
 pub mod multiply;
 
 use base_polynomial::Poly;

@@ -7,10 +7,11 @@ ghost use Rattle.base_field.specs.Named.{name, IsField};
 ghost use Rattle.base_polynomial.specs.Whole.{poly, Held, Is, Holds};
 ghost use Rattle.ticket_tests.specs.Radicand.{coefficients};
 ghost use Rattle.ticket_tests.specs.Refusal.{radicandTests};
+use base_euclid::gcd::gcd;
 use base_field::Field;
+use base_places::linear::derivative_places;
+use base_places::linear::top;
 use base_polynomial::Poly;
-use base_polynomial::gcd::gcd;
-use base_polynomial::linear::derivative;
 use base_words::value;
 
 // The values of the n + 1 words after the first two.
@@ -59,9 +60,14 @@ fn not_squarefree(f: Field, d: Poly) -> bool
     requires { ⌜ Held f d ⌝ }
     ensures { λ r. ⌜ r ≡ notSquarefree (name f) (poly d) ⌝ }
 {
-    let e = derivative(f, d);
-    let g = gcd(f, d, e);
-    g.size != 1
+    let n = d.size;
+    let mut a = d.c;
+    let mut b = [0u32; 129];
+    derivative_places(f, &a, n, &mut b);
+    let m = top(&b, n);
+    let mut g = [0u32; 129];
+    let size = gcd(f, &mut a, n, &mut b, m, &mut g);
+    size != 1
 }
 
 // The first of the tests 5, 6 and 7 that applies, 0 where none does.
