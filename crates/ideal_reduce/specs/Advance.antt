@@ -4,7 +4,7 @@ use native.Mathlib.Omega.{arith}
 use mathlib.Core.Path.{_≡_, ap, ap₂, _∙_, subst}
 use mathlib.Core.List.{List}
 use lib.ListN.{length}
-use Rattle.spec_definitions.specs.Field.{modulo}
+use Rattle.spec_definitions.specs.Field.{FieldName, ops}
 use Rattle.spec_definitions.specs.Polynomials.{sub, mul, quo}
 use Rattle.spec_definitions.specs.Walk.{Ideal, partial, nextP, next}
 use Rattle.spec_bridge.specs.Trim.{length-trim}
@@ -13,68 +13,84 @@ use Rattle.spec_bridge.specs.Quotient.{quo-length}
 use Rattle.spec_bridge.specs.Lengths.{length-sub, length-mul}
 use Rattle.spec_bridge.specs.Residues.{model}
 use Rattle.spec_laws.specs.Pairs.{normAt, cofactorAt}
-use Rattle.base_polynomial.specs.Record.{poly, Held, Is}
-use Rattle.base_polynomial.specs.Held.{held-positive, length-poly}
-use Rattle.base_polynomial.specs.Result.{Result, result, held-size, result-mul, result-sub}
+use Rattle.base_polynomial.specs.declared.Poly.{Poly}
+use Rattle.base_polynomial.specs.Over.{poly, Held, Is, Result, result, held-positive, length-poly, held-size, result-mul, result-sub}
 use Rattle.ideal_product.specs.Operand.{heldPair}
 
--- D, d, a, Q and P
-module _ {q : ℕ} {D : List ℕ} {i : ℕ} (hD : Held q D i) (d : List ℕ) {u : List ℕ} {k : ℕ} (hu : Held q u k) {c : List ℕ} {m : ℕ} (hc : Held q c m) {e : List ℕ} {n : ℕ} (he : Held q e n) (some : 0 < m) (fits : k + m ≤ 130)
-    (path : poly u k ≡ partial (modulo q) (poly D i) d (heldPair c m e n)) (short : length (nextP (modulo q) (poly D i) d (heldPair c m e n)) ≤ 65) where
-  pos : 0 < q
-  pos = held-positive q c m hc
+-- the next pair of (Q, P), and what a step asks for
+module _ (f : FieldName) (radicand d : Poly) where
+  abbrev pub nextOf : Poly → Poly → Ideal ℕ
+  nextOf q p = next (ops f) (poly radicand) (poly d) (heldPair q p)
+
+  abbrev pub partialOf : Ideal ℕ → List ℕ
+  partialOf = partial (ops f) (poly radicand) (poly d)
+
+  pub record Steppable (a q p : Poly) : Type 0 where
+    pub held-D : Held f radicand
+    pub held-a : Held f a
+    pub held-q : Held f q
+    pub held-p : Held f p
+    pub some : 0 < q .size
+    pub fits : a .size + q .size ≤ 130
+    pub a-is : poly a ≡ partialOf (heldPair q p)
+    pub short : length (nextP (ops f) (poly radicand) (poly d) (heldPair q p)) ≤ 65
+
+module _ {f : FieldName} {radicand d a q p : Poly} (s : Steppable f radicand d a q p) where
+  pos : 0 < f .q
+  pos = held-positive (s .held-q)
 
   -- a·Q and the next P
-  module _ {w : List ℕ} {o : ℕ} (w-is : Is q w o (mul (modulo q) (poly u k) (poly c m))) where
-    pub product-result : Result q w o (mul (modulo q) (poly u k) (poly c m))
-    product-result = result-mul q u k hu c m hc w o fits w-is
+  module _ {m : Poly} (m-is : Is f m (mul (ops f) (poly a) (poly q))) where
+    pub product-result : Result f m (mul (ops f) (poly a) (poly q))
+    product-result = result-mul (s .held-a) (s .held-q) (s .fits) m-is
 
-    module _ {v : List ℕ} {l : ℕ} (v-is : Is q v l (sub (modulo q) (poly w o) (poly e n))) where
-      pub P-result : Result q v l (sub (modulo q) (poly w o) (poly e n))
-      P-result = result-sub q w o (product-result .held) v l e n he v-is
+    module _ {p1 : Poly} (p1-is : Is f p1 (sub (ops f) (poly m) (poly p))) where
+      pub P-result : Result f p1 (sub (ops f) (poly m) (poly p))
+      P-result = result-sub (product-result .held) (s .held-p) p1-is
 
-      P-path : poly v l ≡ nextP (modulo q) (poly D i) d (heldPair c m e n)
+      P-path : poly p1 ≡ nextP (ops f) (poly radicand) (poly d) (heldPair q p)
       unfolding nextP
-      P-path = P-result .is ∙ ap (λ (f : List ℕ). sub (modulo q) f (poly e n)) (product-result .is ∙ ap (λ (f : List ℕ). mul (modulo q) f (poly c m)) path)
+      P-path = P-result .is ∙ ap (λ (l : List ℕ). sub (ops f) l (poly p)) (product-result .is ∙ ap (λ (l : List ℕ). mul (ops f) l (poly q)) (s .a-is))
 
-      pub P-short : l ≤ 65
-      P-short = let a : length (poly v l) ≡ length (nextP (modulo q) (poly D i) d (heldPair c m e n)) = ap length P-path in let b = length-poly q v l (P-result .held) in omega arith
+      pub P-short : p1 .size ≤ 65
+      P-short = let e : length (poly p1) ≡ length (nextP (ops f) (poly radicand) (poly d) (heldPair q p)) = ap length P-path in let b = length-poly (P-result .held) in let l = s .short in omega arith
 
       -- the next Q
-      module _ {b : List ℕ} {y : ℕ} (b-is : Is q b y (cofactorAt (modulo q) (poly D i) (heldPair c m v l))) where
-        norm-most : length (normAt (modulo q) (poly D i) (heldPair c m v l)) ≤ 129
+      module _ {q1 : Poly} (q1-is : Is f q1 (cofactorAt (ops f) (poly radicand) (heldPair q p1))) where
+        norm-most : length (normAt (ops f) (poly radicand) (heldPair q p1)) ≤ 129
         norm-most =
-            let a = held-size q D i hD in
-            let s = hD .short in
-            let p = held-size q v l (P-result .held) in
+            let e = held-size (s .held-D) in
+            let t = s .held-D .short in
+            let u = held-size (P-result .held) in
             let z = P-short in
-            let f = length-mul (model q pos) (poly v l) (poly v l) 129 (omega arith) in
-            let g = length-trim (model q pos) (mul (modulo q) (poly v l) (poly v l)) in
-            length-sub (model q pos) (poly D i) (mul (modulo q) (poly v l) (poly v l)) 129 (omega arith) (omega arith)
+            let v = length-mul (model (f .q) pos) (poly p1) (poly p1) 129 (omega arith) in
+            let w = length-trim (model (f .q) pos) (mul (ops f) (poly p1) (poly p1)) in
+            length-sub (model (f .q) pos) (poly radicand) (mul (ops f) (poly p1) (poly p1)) 129 (omega arith) (omega arith)
 
-        pub Q-result : Result q b y (cofactorAt (modulo q) (poly D i) (heldPair c m v l))
+        pub Q-result : Result f q1 (cofactorAt (ops f) (poly radicand) (heldPair q p1))
         Q-result =
-            let a = norm-most in
-            let f = length-trim (model q pos) (normAt (modulo q) (poly D i) (heldPair c m v l)) in
-            let g = held-size q c m hc in
-            let z = quo-length (model q pos) (normAt (modulo q) (poly D i) (heldPair c m v l)) (poly c m) in
-            result q b y _ b-is (omega arith) (trim-quo (model q pos) _ _) (oks-quo (model q pos) _ _)
+            let e = norm-most in
+            let t = length-trim (model (f .q) pos) (normAt (ops f) (poly radicand) (heldPair q p1)) in
+            let u = held-size (s .held-q) in
+            let v = s .some in
+            let z = quo-length (model (f .q) pos) (normAt (ops f) (poly radicand) (heldPair q p1)) (poly q) in
+            result q1-is (omega arith) (trim-quo (model (f .q) pos) _ _) (oks-quo (model (f .q) pos) _ _)
 
-        Q-path : poly b y ≡ next (modulo q) (poly D i) d (heldPair c m e n) .q
+        Q-path : poly q1 ≡ nextOf f radicand d q p .q
         unfolding next
-        Q-path = Q-result .is ∙ ap (λ (f : List ℕ). quo (modulo q) (sub (modulo q) (poly D i) (mul (modulo q) f f)) (poly c m)) P-path
+        Q-path = Q-result .is ∙ ap (λ (l : List ℕ). quo (ops f) (sub (ops f) (poly radicand) (mul (ops f) l l)) (poly q)) P-path
 
-        pair-path : heldPair b y v l ≡ next (modulo q) (poly D i) d (heldPair c m e n)
+        pair-path : heldPair q1 p1 ≡ nextOf f radicand d q p
         unfolding next
-        pair-path = ap₂ (λ (f g : List ℕ). record { q = f; p = g }) Q-path P-path
+        pair-path = ap₂ (λ (u v : List ℕ). record { q = u; p = v }) Q-path P-path
 
         -- records of the new pair and its quotient are those of the next index
-        module _ {r : List ℕ} {s : ℕ} where
-          pub q-next : Is q r s (poly b y) → Is q r s (next (modulo q) (poly D i) d (heldPair c m e n) .q)
-          q-next h = subst (λ (x : Ideal ℕ). Is q r s (x .q)) pair-path h
+        module _ {r : Poly} where
+          pub q-next : Is f r (poly q1) → Is f r (nextOf f radicand d q p .q)
+          q-next h = subst (λ (x : Ideal ℕ). Is f r (x .q)) pair-path h
 
-          pub p-next : Is q r s (poly v l) → Is q r s (next (modulo q) (poly D i) d (heldPair c m e n) .p)
-          p-next h = subst (λ (x : Ideal ℕ). Is q r s (x .p)) pair-path h
+          pub p-next : Is f r (poly p1) → Is f r (nextOf f radicand d q p .p)
+          p-next h = subst (λ (x : Ideal ℕ). Is f r (x .p)) pair-path h
 
-          pub a-next : Is q r s (partial (modulo q) (poly D i) d (heldPair b y v l)) → Is q r s (partial (modulo q) (poly D i) d (next (modulo q) (poly D i) d (heldPair c m e n)))
-          a-next h = subst (λ (x : Ideal ℕ). Is q r s (partial (modulo q) (poly D i) d x)) pair-path h
+          pub a-next : Is f r (partialOf f radicand d (heldPair q1 p1)) → Is f r (partialOf f radicand d (nextOf f radicand d q p))
+          a-next h = subst (λ (x : Ideal ℕ). Is f r (partialOf f radicand d x)) pair-path h

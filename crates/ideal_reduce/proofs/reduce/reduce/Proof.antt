@@ -3,7 +3,8 @@ use native.Mathlib.Omega.{arith}
 use Prim.Native.Nat.{ℕ, suc, _<_}
 use Rattle.spec_definitions.specs.Ticket.{genus}
 use mathlib.Core.Path.{subst}
-use Rattle.base_polynomial.specs.Record.{poly}
+use Rattle.base_field.specs.Named.{name}
+use Rattle.base_polynomial.specs.Over.{poly}
 use Rattle.spec_definitions.specs.Walk.{Ideal}
 use Rattle.walk_state.specs.Start.{half-degree}
 use Rattle.ideal_product.specs.Operand.{heldPair}
@@ -14,34 +15,43 @@ use Rattle.ideal_reduce.proofs.reduce.reduce.Tie as tie
 
 abbrev Inv-loop : tie.InvT-loop
 Inv-loop f n radicand d top s₀ sum₀ s sum =
-    At (f .q) (genus n) (poly (radicand .c) (radicand .size)) (heldPair (s₀ .q .c) (s₀ .q .size) (s₀ .p .c) (s₀ .p .size)) (s .a .c) (s .a .size) (s .q .c) (s .q .size) (s .p .c) (s .p .size) sum
+    At (name f) (genus n) (poly radicand) (heldPair (s₀ .q) (s₀ .p)) s sum
 
 abbrev μ-loop : tie.MeasureT-loop
 μ-loop f n radicand d top s₀ sum₀ s sum = s .q .size
 
 stage-requires : tie.Need-stage-requires Inv-loop μ-loop
-stage-requires c κs = let h = c .pre .0 in ((h .admitted .prime, h .admitted .small), (root-result (h .admitted) (h .root-is) .held, h .held-q, h .held-p))
+stage-requires c κs = let h = c .pre .1 in (c .pre .0, (root-result (h .admitted) (h .root-is) .held, h .held-q, h .held-p))
 
 loop-holds : tie.Need-loop-holds Inv-loop μ-loop
-loop-holds c = let e = c .stage .ensures in at-start (c .before .pre .0) (e .0) (e .1 .0) (e .1 .1 _)
+loop-holds c = let e = c .stage .ensures in at-start (c .before .pre .1) (e .0) (e .1 .0) (e .1 .1 _)
 
 high : (c : tie.Then1 Inv-loop μ-loop) → suc (genus (c .before .before .before .before .args .n)) < c .before .before .loop .s .q .size
-high c = let l = c .if1 .taken in let e = half-degree (c .before .before .before .before .args .n) (c .before .before .before .before .pre .1) in omega arith
+high c = let l = c .if1 .taken in let e = half-degree (c .before .before .before .before .args .n) (c .before .before .before .before .pre .2) in omega arith
 
 advance-requires : tie.Need-advance-requires Inv-loop μ-loop
 advance-requires c κs =
     let s = c .before .before .before in
-    let h = s .before .pre .0 in
+    let h = s .before .pre .1 in
     let e = s .stage .ensures in
     let t = c .before .before .loop .inv in
     let b = begun-again h (e .0) (e .1 .0) in
-    ((h .admitted .prime, h .admitted .small, q-some b t, product-fits b t), ((h .held-D, root-result (h .admitted) (h .root-is) .held), ((a-result b t .held, q-result b t .held, p-result b t .held), (a-path b t (h .root-is), next-short b t (h .root-is)))))
+    ((s .before .pre .0, root-result (h .admitted) (h .root-is) .held), record {
+      held-D = h .held-D;
+      held-a = a-result b t .held;
+      held-q = q-result b t .held;
+      held-p = p-result b t .held;
+      some = q-some b t;
+      fits = product-fits b t;
+      a-is = a-path b t (h .root-is);
+      short = next-short b t (h .root-is);
+    })
 
 sub-sum : tie.Need-sub-sum Inv-loop μ-loop
 sub-sum c =
     let i = c .before .before in
     let s = i .before .before .before in
-    let h = s .before .pre .0 in
+    let h = s .before .pre .1 in
     let e = s .stage .ensures in
     let l = a-some (begun-again h (e .0) (e .1 .0)) (i .before .before .loop .inv) (h .root-is) (c .before .advance .ensures .0) in
     omega arith
@@ -50,7 +60,7 @@ add-sum : tie.Need-add-sum Inv-loop μ-loop
 add-sum c =
     let i = c .before .before in
     let s = i .before .before .before in
-    let h = s .before .pre .0 in
+    let h = s .before .pre .1 in
     let e = s .stage .ensures in
     let l = sum-fits (begun-again h (e .0) (e .1 .0)) (i .before .before .loop .inv) (h .root-is) (c .before .advance .ensures .0) (high i) in
     omega arith
@@ -59,7 +69,7 @@ loop-less : tie.Need-loop-less Inv-loop μ-loop
 loop-less c =
     let i = c .before .before in
     let s = i .before .before .before in
-    let h = s .before .pre .0 in
+    let h = s .before .pre .1 in
     let e = s .stage .ensures in
     let a = c .before .advance .ensures in
     size-less (begun-again h (e .0) (e .1 .0)) (i .before .before .loop .inv) (h .root-is) (a .0) (high i) (a .1 .0)
@@ -68,7 +78,7 @@ loop-again : tie.Need-loop-again Inv-loop μ-loop
 loop-again c =
     let i = c .before .before in
     let s = i .before .before .before in
-    let h = s .before .pre .0 in
+    let h = s .before .pre .1 in
     let e = s .stage .ensures in
     let a = c .before .advance .ensures in
     at-next (begun-again h (e .0) (e .1 .0)) (i .before .before .loop .inv) (h .root-is) (a .0) (high i) (a .1 .0) (a .1 .1)
@@ -78,12 +88,12 @@ returns c =
     let i = c .before .before in
     let s = i .before .before .before in
     let a = s .before .args in
-    let h = s .before .pre .0 in
+    let h = s .before .pre .1 in
     let e = s .stage .ensures in
     let l = i .before .before .loop in
-    let z = half-degree (a .n) (s .before .pre .1) in
+    let z = half-degree (a .n) (s .before .pre .2) in
     let low = i .if1 .left in
-    subst (λ (x : Ideal ℕ). Reduces (a .f .q) (genus (a .n)) (poly (a .radicand .c) (a .radicand .size)) x (l .s .q .c) (l .s .q .size) (l .s .p .c) (l .s .p .size) (l .sum)) (same-pair h (e .0) (e .1 .0)) (reduces (begun-again h (e .0) (e .1 .0)) (l .inv) (omega arith))
+    subst (λ (x : Ideal ℕ). Reduces (name (a .f)) (genus (a .n)) (poly (a .radicand)) x (record { q = l .s .q; p = l .s .p; sum = l .sum })) (same-pair h (e .0) (e .1 .0)) (reduces (begun-again h (e .0) (e .1 .0)) (l .inv) (omega arith))
 
 pub reduce-spec : {M : Type 1} → statement M
 reduce-spec =
