@@ -1,3 +1,4 @@
 pub mod Advance
+pub mod Recurrence
 pub mod Start
 pub mod Turn
