@@ -11,7 +11,7 @@ use Rattle.spec_definitions.specs.Ticket.{Ticket, ticketOf}
 use Rattle.spec_definitions.specs.Answers.{Outcome, found, spent, refused, said, wordsOutcome}
 use Rattle.spec_definitions.specs.Units.{Lists, UnitAnswer, longEnough, unitLists, unitFrom, unitAnswer}
 use Rattle.spec_laws.specs.PairTest.{both-true}
-use Rattle.unit_recurrence.specs.Progress.{Room}
+use Rattle.unit_recurrence.specs.Pairs.{Room}
 use Rattle.unit_lists.specs.Lists.{lists}
 use Rattle.spec_demands.specs.LeastAnswers.{LeastWritten, t3-written}
 

@@ -25,6 +25,12 @@ pub enum Outcome {
     Refused(u32),
 }
 
+// What a call on a ticket answers: the number of words handed in, and one of three outcomes.
+pub struct Answer {
+    pub words: u64,
+    pub outcome: Outcome,
+}
+
 // (−1)^m·c.
 fn constant(f: Field, m: Index, c: u32) -> u32
     requires { ⌜ IsField f ⌝ }
