@@ -152,11 +152,11 @@ module _ (n : ℕ) {f : FieldName} {D : List ℕ} (h : Admitted f (genus n) D) {
 pub start-of : (n : ℕ) {f : FieldName} {radicand : Poly} (h : Admitted f (genus n) (poly radicand)) → Held f radicand → {d : Poly} → Is f d (rootD f (genus n) (poly radicand))
     → {q1 p1 : Poly} (t : Operand f (genus n) (poly radicand) q1 p1) {q2 p2 : Poly} (t′ : Operand f (genus n) (poly radicand) q2 p2)
     {q : Poly} (q-is : Is f q (productOf (ops f) (poly radicand) (heldPair q1 p1) (heldPair q2 p2) .ideal .q)) {p : Poly} (p-is : Is f p (productOf (ops f) (poly radicand) (heldPair q1 p1) (heldPair q2 p2) .ideal .p))
-    → Start f (genus n) radicand d q p
+    → Start f (genus n) radicand (d .c) q p
 start-of n h held root t t′ q-is p-is = record {
   admitted = h;
   held-D = held;
-  root-is = root;
+  root-is = root .places;
   held-q = q-result n h t t′ q-is .held;
   held-p = p-result n h t t′ q-is p-is .held;
   ideal = start-ideal n h t t′ q-is p-is;

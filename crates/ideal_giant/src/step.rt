@@ -59,7 +59,7 @@ pub fn giant(
     let s = m.s;
     let q = m.q;
     let p = m.p;
-    let r = reduce(f, n, radicand, d, q, p);
+    let r = reduce(f, n, radicand, &d.c, q, p);
     let x = r.q;
     let y = r.p;
     let less = lower(q.size, s.size, x.size, r.sum);

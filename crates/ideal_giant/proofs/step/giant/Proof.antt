@@ -14,14 +14,14 @@ product-requires c κs = ((c .pre .0 .0, c .pre .0 .1, c .pre .0 .2), (c .pre .1
 
 reduce-requires : tie.Need-reduce-requires
 reduce-requires c κs =
-    let b = c .before .before .before in
+    let b = c .before .before .before .before .before in
     let s = b .before in
     let m = b .product .ensures in
     (s .pre .0 .0, start-of (s .args .n) (s .pre .0 .1) (s .pre .0 .2) (s .pre .1 .0) (s .pre .1 .1 .0) (s .pre .1 .1 .1 .0) (m .q-is) (m .p-is), s .pre .0 .3)
 
 lower-requires : tie.Need-lower-requires
 lower-requires c κs =
-    let b = c .before .before .before .before .before .before in
+    let b = c .before .before .before .before .before .before .before .before in
     let s = b .before in
     let m = b .product .ensures in
     let h = s .pre .0 .1 in
@@ -31,11 +31,11 @@ lower-requires c κs =
     (omega arith, i .0, omega arith, most (s .args .n) h (s .pre .1 .1 .0) (s .pre .1 .1 .1 .0) (m .q-is) (m .p-is) (m .s-is) (c .before .before .reduce .ensures))
 
 monic-requires : tie.Need-monic-requires
-monic-requires c κs = (c .before .before .before .before .before .before .before .before .pre .0 .0, c .before .before .before .reduce .ensures .held-q)
+monic-requires c κs = (c .before .before .before .before .before .before .before .before .before .before .pre .0 .0, c .before .before .before .reduce .ensures .held-q)
 
 less-most : (c : tie.After-lower) → c .lower .result ≤ twoDistances
 less-most c =
-    let b = c .before .before .before .before .before .before .before in
+    let b = c .before .before .before .before .before .before .before .before .before in
     let s = b .before in
     let m = b .product .ensures in
     let r = c .before .before .before .reduce .ensures in
@@ -45,7 +45,7 @@ less-most c =
 
 div-rem-requires : tie.Need-div-rem-requires
 div-rem-requires c κs =
-    let b = c .before .before .before .before .before .before .before .before in
+    let b = c .before .before .before .before .before .before .before .before .before .before in
     let s = b .before in
     let m = b .product .ensures in
     let r = c .before .before .before .before .reduce .ensures in
@@ -56,16 +56,16 @@ signed-requires : tie.Need-signed-requires
 signed-requires c κs = (omega arith, less-most (c .before .before .before))
 
 add-signed : tie.Need-add-signed
-add-signed c = let d = c .before .before .before .before .before .before .before .before .before .before .before .before .before .before .pre .1 .1 .1 .1 in omega (arith, d .0, d .1)
+add-signed c = let d = c .before .before .before .before .before .before .before .before .before .before .before .before .before .before .before .before .pre .1 .1 .1 .1 in omega (arith, d .0, d .1)
 
 signed-requires-2 : tie.Need-signed-requires-2
-signed-requires-2 c κs = let d = c .before .before .before .before .before .before .before .before .before .before .before .before .before .before .pre .1 .1 .1 .1 in (omega (arith, d .0, d .1), less-most (c .before .before .before .before .before .before))
+signed-requires-2 c κs = let d = c .before .before .before .before .before .before .before .before .before .before .before .before .before .before .before .before .pre .1 .1 .1 .1 in (omega (arith, d .0, d .1), less-most (c .before .before .before .before .before .before))
 
 returns : tie.Need-returns
 returns c =
     let v = c .before .before .before in
     let w = v .before .before .before .before in
-    let b = w .before .before .before .before .before .before .before in
+    let b = w .before .before .before .before .before .before .before .before .before in
     let s = b .before in
     let m = b .product .ensures in
     let r = w .before .before .before .reduce .ensures in
