@@ -8,8 +8,8 @@ use lib.ListN.{length}
 use Rattle.math_ring.specs.Ring.{CRing}
 use Rattle.math_ring.specs.Identity.{ring, quote}
 use Rattle.math_ring.specs.Series.{Series, addS, conv, negS}
-use Rattle.spec_definitions.specs.Field.{Ops}
-use Rattle.spec_definitions.specs.Polynomials.{Bezout, trim, lead, monic, sub, mul, quo, rem, gcd, bezout}
+use Rattle.spec_arithmetic.specs.Field.{Ops}
+use Rattle.spec_arithmetic.specs.Polynomials.{Bezout, trim, lead, monic, sub, mul, quo, rem, gcd, bezout}
 use Rattle.spec_bridge.specs.Model.{Model, Inverts, Oks, series, series-nil}
 use Rattle.spec_bridge.specs.Trim.{trim-nil, trim-idem, oks-trim, series-ext}
 use Rattle.spec_bridge.specs.Arithmetic.{trim-sub, oks-sub, series-sub, series-mul}

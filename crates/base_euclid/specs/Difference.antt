@@ -3,8 +3,8 @@ use Prim.Native.Nat.{ℕ, _<_}
 use mathlib.Core.Path.{_≡_, sym, ap, ap₂, _∙_, fun-ext}
 use mathlib.Core.List.{List}
 use lib.ListN.{getD, take}
-use Rattle.spec_definitions.specs.Field.{modulo, prime}
-use Rattle.spec_definitions.specs.Polynomials.{sub, mul}
+use Rattle.spec_arithmetic.specs.Field.{modulo, prime}
+use Rattle.spec_arithmetic.specs.Polynomials.{sub, mul}
 use Rattle.spec_bridge.specs.Arithmetic.{at-sub, trim-sub, mul-cong}
 use Rattle.spec_bridge.specs.Residues.{model}
 use Rattle.base_places.specs.Places.{Places, Within, Top}

@@ -7,8 +7,8 @@ use mathlib.Core.Logic.{⊎-elim}
 use mathlib.Core.List.{List}
 use lib.ListN.{length, getD, List·getD-eq-default}
 use Rattle.math_ring.specs.Order.{le-or-lt}
-use Rattle.spec_definitions.specs.Field.{modulo, prime}
-use Rattle.spec_definitions.specs.Polynomials.{trim, sub, mul, quo, rem, pad}
+use Rattle.spec_arithmetic.specs.Field.{modulo, prime}
+use Rattle.spec_arithmetic.specs.Polynomials.{trim, sub, mul, quo, rem, pad}
 use Rattle.spec_bridge.specs.Arithmetic.{mul-cong}
 use Rattle.spec_bridge.specs.Trim.{series-ext}
 use Rattle.spec_bridge.specs.Division.{oks-quo, trim-rem, oks-rem}

@@ -3,8 +3,8 @@ use Prim.Native.Nat.{ℕ, _<_}
 use mathlib.Core.Path.{_≡_, sym, subst}
 use mathlib.Core.List.{List}
 use lib.ListN.{getD}
-use Rattle.spec_definitions.specs.Field.{modulo, prime}
-use Rattle.spec_definitions.specs.Polynomials.{lead, scale, monic}
+use Rattle.spec_arithmetic.specs.Field.{modulo, prime}
+use Rattle.spec_arithmetic.specs.Polynomials.{lead, scale, monic}
 use Rattle.spec_bridge.specs.Residues.{inverse-lt}
 use Rattle.base_places.specs.Places.{Places, Top}
 use Rattle.base_places.specs.Record.{poly, Held, Is}

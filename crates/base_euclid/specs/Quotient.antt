@@ -9,8 +9,8 @@ use Rattle.math_ring.specs.Ring.{CRing}
 use Rattle.math_ring.specs.Identity.{ring, ring-from, times, quote}
 use Rattle.math_ring.specs.Series.{S, Series, addS, conv, negS, con}
 use Rattle.math_ring.specs.Degree.{Below, lead-conv}
-use Rattle.spec_definitions.specs.Field.{Ops}
-use Rattle.spec_definitions.specs.Polynomials.{at, trim, lead, sub, mul, quo, rem}
+use Rattle.spec_arithmetic.specs.Field.{Ops}
+use Rattle.spec_arithmetic.specs.Polynomials.{at, trim, lead, sub, mul, quo, rem}
 use Rattle.spec_bridge.specs.Model.{Model, Inverts, series}
 use Rattle.spec_bridge.specs.Trim.{below-size, lead-some, lead-is, series-ext}
 use Rattle.spec_bridge.specs.Arithmetic.{oks-sub, trim-sub, series-sub, series-mul}

@@ -5,8 +5,8 @@ use native.Mathlib.Omega.{arith}
 use mathlib.Core.Path.{_≡_, sym, ap, ap₂, _∙_, subst}
 use mathlib.Core.List.{List, [], _∷_}
 use lib.ListN.{length}
-use Rattle.spec_definitions.specs.Field.{modulo, prime}
-use Rattle.spec_definitions.specs.Polynomials.{trim, lead, monic, sub, mul, quo, rem, gcd, pad}
+use Rattle.spec_arithmetic.specs.Field.{modulo, prime}
+use Rattle.spec_arithmetic.specs.Polynomials.{trim, lead, monic, sub, mul, quo, rem, gcd, pad}
 use Rattle.spec_bridge.specs.Prime.{Prime}
 use Rattle.spec_bridge.specs.Residues.{model, inverts}
 use Rattle.base_places.specs.Record.{poly, Held, Is}

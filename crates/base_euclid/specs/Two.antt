@@ -10,8 +10,8 @@ use lib.ListN.{getD}
 use Rattle.math_ring.specs.Ring.{CRing}
 use Rattle.math_ring.specs.Identity.{ring-from, times, plus, quote}
 use Rattle.math_ring.specs.Residues.{Fq, FqRing, to}
-use Rattle.spec_definitions.specs.Field.{modulo}
-use Rattle.spec_definitions.specs.Polynomials.{mul}
+use Rattle.spec_arithmetic.specs.Field.{modulo}
+use Rattle.spec_arithmetic.specs.Polynomials.{mul}
 use Rattle.spec_bridge.specs.Residues.{model, to-path, to-add, to-mod}
 use Rattle.spec_bridge.specs.Product.{shifted, rows, rows-mul}
 use Rattle.base_places.specs.Row.{Ends}

@@ -2,7 +2,7 @@
 // and b is the first of the next pair.
 ghost use mathlib.Core.Path.{_≡_};
 ghost use mathlib.Core.List.{[], _∷_};
-ghost use Rattle.spec_definitions.specs.Polynomials.{trim, lead as leadOf, monic as monicOf, bezout as bezoutOf};
+ghost use Rattle.spec_arithmetic.specs.Polynomials.{trim, lead as leadOf, monic as monicOf, bezout as bezoutOf};
 ghost use Rattle.base_places.specs.Record.{poly, Held, Is};
 ghost use Rattle.base_field.specs.Named.{name, ops, IsField, Ok};
 use crate::division::divide_cleared;

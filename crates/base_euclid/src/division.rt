@@ -3,7 +3,7 @@
 ghost use mathlib.Core.Path.{_≡_};
 ghost use Prim.Native.Nat.{ℕ, _+_, _*_, _-_, _<_, _≤_, _%_};
 ghost use lib.ListN.{length, getD};
-ghost use Rattle.spec_definitions.specs.Polynomials.{sub as subOf, mul as mulOf, quo as quoOf, rem as remOf, pad};
+ghost use Rattle.spec_arithmetic.specs.Polynomials.{sub as subOf, mul as mulOf, quo as quoOf, rem as remOf, pad};
 ghost use Rattle.spec_bridge.specs.Product.{shifted};
 ghost use Rattle.base_places.specs.Places.{Places, Within};
 ghost use Rattle.base_places.specs.Row.{Ends};

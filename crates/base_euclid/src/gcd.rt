@@ -1,6 +1,6 @@
 // The greatest common divisor by Euclid's rule, on arrays that take turns.
 ghost use mathlib.Core.Path.{_≡_};
-ghost use Rattle.spec_definitions.specs.Polynomials.{lead as leadOf, monic as monicOf, gcd as gcdOf};
+ghost use Rattle.spec_arithmetic.specs.Polynomials.{lead as leadOf, monic as monicOf, gcd as gcdOf};
 ghost use Rattle.base_places.specs.Record.{poly, Held, Is};
 ghost use Rattle.base_field.specs.Named.{name, ops, IsField};
 use crate::division::remainder;

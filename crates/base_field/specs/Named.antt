@@ -2,7 +2,7 @@
 use Prim.Native.Nat.{ℕ, _/_, _<_}
 use native.Mathlib.Omega.{arith}
 use mathlib.Core.Path.{_≡_, sym, ap, _∙_, subst}
-use Rattle.spec_definitions.specs.Field.{Ops, FieldName, prime, ops as opsOf}
+use Rattle.spec_arithmetic.specs.Field.{Ops, FieldName, prime, ops as opsOf}
 use Rattle.spec_bridge.specs.Prime.{Prime}
 use Rattle.spec_fields.specs.Named as fields
 use Rattle.base_field.specs.declared.Field.{Field}

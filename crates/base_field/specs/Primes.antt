@@ -9,7 +9,7 @@ use mathlib.Core.List.{List, [], _∷_}
 use lib.Dec.{ltb}
 use lib.ListN.{length, getD}
 use borrow.Author.Tests.{ltb-true}
-use Rattle.spec_definitions.specs.Primes.{oddPrime, noDivisor}
+use Rattle.spec_arithmetic.specs.Primes.{oddPrime, noDivisor}
 
 abbrev pub putIf : Bool → ℕ → List ℕ → List ℕ
 putIf true n l = n ∷ l

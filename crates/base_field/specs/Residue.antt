@@ -3,7 +3,7 @@ use Prim.Native.Nat.{ℕ, _+_, _-_, _%_, _≤_, _<_}
 use native.Mathlib.Nat.{mod-eq-of-lt, add-mod-right}
 use native.Mathlib.Omega.{arith}
 use mathlib.Core.Path.{_≡_, sym, ap, _∙_}
-use Rattle.spec_definitions.specs.Field.{modulo}
+use Rattle.spec_arithmetic.specs.Field.{modulo}
 
 mod-once : (n q : ℕ) → q ≤ n → n < q + q → n % q ≡ n - q
 mod-once n q h l =

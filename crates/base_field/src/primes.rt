@@ -2,7 +2,7 @@
 ghost use mathlib.Core.Path.{_≡_};
 ghost use Prim.Native.Nat.{_<_};
 ghost use lib.ListN.{getD};
-ghost use Rattle.spec_definitions.specs.Primes.{oddPrime};
+ghost use Rattle.spec_arithmetic.specs.Primes.{oddPrime};
 ghost use Rattle.base_field.specs.Primes.{primes};
 
 // The odd primes below 4,096, rising.

@@ -9,8 +9,8 @@ use lib.ListN.{length, getD, set, drop, List·getD-eq-default}
 use lib.Seq.{getD-set-same, getD-set-other, getD-drop}
 use Rattle.math_ring.specs.Identity.{ring, quote}
 use Rattle.math_ring.specs.Residues.{FqRing, to, addF, mulF, negF}
-use Rattle.spec_definitions.specs.Field.{modulo, prime}
-use Rattle.spec_definitions.specs.Polynomials.{Split, put, divide}
+use Rattle.spec_arithmetic.specs.Field.{modulo, prime}
+use Rattle.spec_arithmetic.specs.Polynomials.{Split, put, divide}
 use Rattle.spec_bridge.specs.Division.{put-at}
 use Rattle.spec_bridge.specs.Residues.{model, to-val, to-add, to-mul, to-mod, to-sub}
 use Rattle.base_places.specs.Row.{Bounded, Ends, Row}

@@ -5,8 +5,8 @@ use mathlib.Core.Path.{_≡_, sym, ap, _∙_, subst}
 use mathlib.Core.List.{List}
 use lib.ListN.{length, getD, take}
 use lib.Seq.{ext-getD, length-take-le}
-use Rattle.spec_definitions.specs.Field.{modulo, prime}
-use Rattle.spec_definitions.specs.Polynomials.{trim, pad}
+use Rattle.spec_arithmetic.specs.Field.{modulo, prime}
+use Rattle.spec_arithmetic.specs.Polynomials.{trim, pad}
 use Rattle.base_places.specs.Record.{poly, Held, Is}
 use Rattle.base_places.specs.Pad.{length-pad, at-pad, take-pad}
 

@@ -8,7 +8,7 @@ use lib.ListN.{length, getD, set, length-set, replicate, length-replicate, getD-
 use lib.Seq.{getD-set-same, getD-set-other}
 use borrow.Author.Count.{below-more}
 use Rattle.math_ring.specs.Order.{le-or-lt}
-use Rattle.spec_definitions.specs.Field.{FieldName}
+use Rattle.spec_arithmetic.specs.Field.{FieldName}
 use Rattle.spec_fields.specs.Named.{Ok}
 
 -- 129 places, with g i at i, also past the end, where 0 is read

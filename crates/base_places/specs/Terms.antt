@@ -5,8 +5,8 @@ use native.Mathlib.Omega.{arith}
 use mathlib.Core.Path.{_≡_}
 use mathlib.Core.List.{List}
 use lib.ListN.{getD}
-use Rattle.spec_definitions.specs.Field.{FieldName, prime, ops}
-use Rattle.spec_definitions.specs.Polynomials.{mul}
+use Rattle.spec_arithmetic.specs.Field.{FieldName, prime, ops}
+use Rattle.spec_arithmetic.specs.Polynomials.{mul}
 use Rattle.spec_bridge.specs.Product.{dots, dots-bound}
 use Rattle.base_places.specs.Places.{Within}
 

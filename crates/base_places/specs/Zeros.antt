@@ -1,7 +1,7 @@
 -- Past the places of the arguments: what is formed of zeros is 0.
 use Prim.Native.Nat.{ℕ, _<_}
 use mathlib.Core.Path.{_≡_, ap, ap₂, _∙_}
-use Rattle.spec_definitions.specs.Field.{modulo}
+use Rattle.spec_arithmetic.specs.Field.{modulo}
 use Rattle.spec_bridge.specs.Model.{add-zer-zer, sub-zer-zer, mul-by-zer}
 use Rattle.spec_bridge.specs.Residues.{model}
 

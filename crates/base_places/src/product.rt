@@ -2,7 +2,7 @@
 ghost use mathlib.Core.Path.{_≡_};
 ghost use Prim.Native.Nat.{_+_, _-_, _<_, _≤_};
 ghost use lib.ListN.{getD};
-ghost use Rattle.spec_definitions.specs.Polynomials.{mul as mulOf};
+ghost use Rattle.spec_arithmetic.specs.Polynomials.{mul as mulOf};
 ghost use Rattle.base_places.specs.Places.{Places, Within};
 ghost use Rattle.base_places.specs.Terms.{Terms};
 ghost use Rattle.base_field.specs.Named.{name, ops, IsField};

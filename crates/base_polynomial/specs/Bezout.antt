@@ -6,8 +6,8 @@ use Prim.Native.Nat.{ℕ, _+_, _<_, _≤_}
 use native.Mathlib.Omega.{arith}
 use lib.ListN.{length}
 use Rattle.math_ring.specs.Order.{le-or-lt}
-use Rattle.spec_definitions.specs.Field.{modulo, prime}
-use Rattle.spec_definitions.specs.Polynomials.{Bezout, trim, sub, mul, lead, quo, rem, monic, gcd, bezout}
+use Rattle.spec_arithmetic.specs.Field.{modulo, prime}
+use Rattle.spec_arithmetic.specs.Polynomials.{Bezout, trim, sub, mul, lead, quo, rem, monic, gcd, bezout}
 use Rattle.spec_bridge.specs.Model.{Inverts}
 use Rattle.spec_bridge.specs.Trim.{trim-nil}
 use Rattle.spec_bridge.specs.Gcd.{bezoutNext, bezoutLast, bezout-zero, bezout-rule, bezout-gcd}

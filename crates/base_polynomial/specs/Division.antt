@@ -4,8 +4,8 @@ use mathlib.Core.List.{List, []}
 use Prim.Native.Nat.{ℕ, _+_, _-_, _%_, _<_, _≤_}
 use native.Mathlib.Omega.{arith}
 use lib.ListN.{length, getD, List·getD-eq-default}
-use Rattle.spec_definitions.specs.Field.{modulo, inverse, prime}
-use Rattle.spec_definitions.specs.Polynomials.{Split, trim, lead, divide, quo, rem}
+use Rattle.spec_arithmetic.specs.Field.{modulo, inverse, prime}
+use Rattle.spec_arithmetic.specs.Polynomials.{Split, trim, lead, divide, quo, rem}
 use Rattle.spec_bridge.specs.Trim.{at-trim, trim-nil, series-ext}
 use Rattle.spec_bridge.specs.Division.{divide-quo-oks, trim-quo, trim-rem, oks-rem, rem-less, rem-by-zero}
 use Rattle.spec_bridge.specs.Quotient.{quo-length, quo-by-zero}

@@ -3,8 +3,8 @@ use mathlib.Core.Path.{_≡_, _∙_}
 use mathlib.Core.List.{List}
 use Prim.Native.Nat.{ℕ, _<_}
 use native.Mathlib.Omega.{arith}
-use Rattle.spec_definitions.specs.Field.{modulo, prime}
-use Rattle.spec_definitions.specs.Polynomials.{rem, monic, gcd}
+use Rattle.spec_arithmetic.specs.Field.{modulo, prime}
+use Rattle.spec_arithmetic.specs.Polynomials.{rem, monic, gcd}
 use Rattle.spec_bridge.specs.Trim.{trim-nil}
 use Rattle.spec_bridge.specs.Gcd.{gcd-zero, gcd-rule}
 use Rattle.spec_bridge.specs.Prime.{Prime}

@@ -11,8 +11,8 @@ use lib.ListN.{length, getD, List·getD-eq-default}
 use Rattle.math_ring.specs.Order.{le-or-lt}
 use Rattle.math_ring.specs.Residues.{Fq, FqRing}
 use Rattle.math_algebra.specs.Derivative.{derivative-at}
-use Rattle.spec_definitions.specs.Field.{FieldName, modulo, prime}
-use Rattle.spec_definitions.specs.Polynomials.{trim, add, sub, scale, lead, times, derivative}
+use Rattle.spec_arithmetic.specs.Field.{FieldName, modulo, prime}
+use Rattle.spec_arithmetic.specs.Polynomials.{trim, add, sub, scale, lead, times, derivative}
 use Rattle.spec_bridge.specs.Model.{series}
 use Rattle.spec_bridge.specs.Trim.{length-le, lead-is}
 use Rattle.spec_bridge.specs.Arithmetic.{at-add, at-sub, at-scale, trim-add, trim-sub, trim-scale}

@@ -3,8 +3,8 @@ use mathlib.Core.Path.{_≡_, sym, ap, _∙_, fun-ext}
 use mathlib.Core.List.{List}
 use Prim.Native.Nat.{ℕ, _<_}
 use lib.ListN.{getD}
-use Rattle.spec_definitions.specs.Field.{modulo, prime}
-use Rattle.spec_definitions.specs.Polynomials.{mul}
+use Rattle.spec_arithmetic.specs.Field.{modulo, prime}
+use Rattle.spec_arithmetic.specs.Polynomials.{mul}
 use Rattle.spec_bridge.specs.Arithmetic.{trim-mul, mul-cong}
 use Rattle.spec_bridge.specs.Residues.{model}
 use Rattle.base_places.specs.Places.{Places, Top}

@@ -4,8 +4,8 @@ use native.Mathlib.Omega.{arith}
 use mathlib.Core.Path.{_≡_, sym, ap, _∙_}
 use mathlib.Core.List.{List}
 use lib.ListN.{length, getD}
-use Rattle.spec_definitions.specs.Field.{modulo, prime}
-use Rattle.spec_definitions.specs.Polynomials.{trim, add, sub, scale, monic, mul, quo, rem, gcd}
+use Rattle.spec_arithmetic.specs.Field.{modulo, prime}
+use Rattle.spec_arithmetic.specs.Polynomials.{trim, add, sub, scale, monic, mul, quo, rem, gcd}
 use Rattle.spec_bridge.specs.Model.{Inverts}
 use Rattle.spec_bridge.specs.Trim.{trim-idem, length-trim, at-trim, oks-trim}
 use Rattle.spec_bridge.specs.Arithmetic.{trim-add, trim-sub, trim-scale, trim-mul, oks-add, oks-sub, oks-scale, oks-mul}

@@ -2,7 +2,7 @@
 ghost use mathlib.Core.Path.{_≡_};
 ghost use Prim.Native.Nat.{ℕ, _<_, _≤_, _%_};
 ghost use lib.ListN.{getD};
-ghost use Rattle.spec_definitions.specs.Polynomials.{quo as quoOf, rem as remOf};
+ghost use Rattle.spec_arithmetic.specs.Polynomials.{quo as quoOf, rem as remOf};
 ghost use Rattle.base_places.specs.Places.{Places, Top};
 ghost use Rattle.base_polynomial.specs.Whole.{poly, Held, Is};
 ghost use Rattle.base_field.specs.Named.{ops, IsField};

@@ -1,6 +1,6 @@
 // The greatest common divisor by Euclid's rule, alone and with Bezout's factors.
 ghost use mathlib.Core.List.{[], _∷_};
-ghost use Rattle.spec_definitions.specs.Polynomials.{trim, lead as leadOf, monic as monicOf, gcd as gcdOf, bezout as bezoutOf};
+ghost use Rattle.spec_arithmetic.specs.Polynomials.{trim, lead as leadOf, monic as monicOf, gcd as gcdOf, bezout as bezoutOf};
 ghost use Rattle.base_polynomial.specs.Whole.{poly, Held, Is};
 ghost use Rattle.base_field.specs.Named.{ops, IsField, Ok};
 use crate::Bezout;

@@ -2,7 +2,7 @@
 ghost use mathlib.Core.Path.{_≡_};
 ghost use Prim.Native.Nat.{ℕ, _≤_};
 ghost use mathlib.Core.List.{[]};
-ghost use Rattle.spec_definitions.specs.Polynomials.{add as addOf, sub as subOf, scale as scaleOf, lead as leadOf, monic as monicOf, derivative as derivativeOf};
+ghost use Rattle.spec_arithmetic.specs.Polynomials.{add as addOf, sub as subOf, scale as scaleOf, lead as leadOf, monic as monicOf, derivative as derivativeOf};
 ghost use Rattle.base_polynomial.specs.Whole.{poly, Held, Is, Holds};
 ghost use Rattle.base_field.specs.Named.{ops, IsField, Ok};
 use crate::Poly;

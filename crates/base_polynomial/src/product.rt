@@ -1,6 +1,6 @@
 // Products.
 ghost use Prim.Native.Nat.{_+_, _≤_};
-ghost use Rattle.spec_definitions.specs.Polynomials.{mul as mulOf};
+ghost use Rattle.spec_arithmetic.specs.Polynomials.{mul as mulOf};
 ghost use Rattle.base_polynomial.specs.Whole.{poly, Held, Is};
 ghost use Rattle.base_field.specs.Named.{ops, IsField};
 use crate::Poly;

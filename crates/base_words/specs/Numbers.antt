@@ -1,6 +1,6 @@
 -- How many kinds a word may have, and how many numbers two words hold.
 use Prim.Native.Nat.{ℕ}
-pub use Rattle.spec_definitions.specs.Words.{values}
+pub use Rattle.spec_arithmetic.specs.Words.{values}
 
 -- 2^4
 abbrev pub kinds : ℕ

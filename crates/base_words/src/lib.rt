@@ -1,7 +1,7 @@
 // Words of 32 bits, the top 4 bits the kind and the low 28 the value; numbers of two words.
 ghost use mathlib.Core.Path.{_≡_};
 ghost use Prim.Native.Nat.{_<_};
-ghost use Rattle.spec_definitions.specs.Words.{values, kind as kindOf, value as valueOf, word as wordOf, high as highOf, low as lowOf, joined as joinedOf};
+ghost use Rattle.spec_arithmetic.specs.Words.{values, kind as kindOf, value as valueOf, word as wordOf, high as highOf, low as lowOf, joined as joinedOf};
 ghost use Rattle.base_words.specs.Numbers.{kinds, pairs};
 
 // How many values a word has: 2²⁸.

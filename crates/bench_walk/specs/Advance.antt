@@ -3,7 +3,7 @@ use Prim.Native.Nat.{ℕ, suc, _≤_, _<_}
 use native.Mathlib.Omega.{arith}
 use mathlib.Core.Path.{_≡_, ap, _∙_}
 use mathlib.Core.List.{List}
-use Rattle.spec_definitions.specs.Field.{FieldName, prime, ops}
+use Rattle.spec_arithmetic.specs.Field.{FieldName, prime, ops}
 use Rattle.spec_definitions.specs.Walk.{degreeBefore}
 use Rattle.spec_laws.specs.Admitted.{Admitted}
 use Rattle.base_polynomial.specs.Record.{poly, Held}

@@ -7,7 +7,7 @@ use mathlib.Core.List.{List, []}
 use lib.Dec.{ltb}
 use lib.IntN.{ℤ, pos, _+ℤ_}
 use borrow.Author.Tests.{lt-ltb, le-ltb, ltb-false}
-use Rattle.spec_definitions.specs.Field.{FieldName}
+use Rattle.spec_arithmetic.specs.Field.{FieldName}
 use Rattle.spec_definitions.specs.Ticket.{Ticket, ticket, genus, ticketOf, refusalOf}
 use Rattle.spec_definitions.specs.Walk.{Ideal, steps}
 use Rattle.spec_definitions.specs.Answers.{opsOf, rootOf}

@@ -8,7 +8,7 @@ use lib.Dec.{eqb}
 use lib.ListN.{length, getD, take, drop, replicate, length-append, length-replicate, length-map, length-drop, getD-replicate, List·getD-append, List·getD-map}
 use lib.Seq.{ext-getD, getD-take, getD-drop, getD-append-add, length-take-le}
 use borrow.Author.Tests.{eqb-true, eq-eqb, ltb-false, not-false}
-use Rattle.spec_definitions.specs.Words.{kind, same}
+use Rattle.spec_arithmetic.specs.Words.{kind, same}
 use Rattle.spec_definitions.specs.Ticket.{wrongDegree, genus}
 use Rattle.spec_definitions.specs.Lookup.{recordKinds}
 use Rattle.spec_lists.specs.Same.{same-refl, same-not}

@@ -7,7 +7,7 @@ use mathlib.Core.List.{List, map}
 use lib.Dec.{ltb}
 use lib.ListN.{length, getD, take, drop}
 use borrow.Author.Tests.{lt-ltb, le-ltb}
-use Rattle.spec_definitions.specs.Words.{kind, value, joined, same}
+use Rattle.spec_arithmetic.specs.Words.{kind, value, joined, same}
 use Rattle.spec_definitions.specs.Lookup.{recordKinds, recordAt, recordCount, rightKinds, rising, distanceAt}
 use Rattle.call_lookup.specs.Kinds.{kindsOk}
 use Rattle.call_lookup.specs.Records.{Records, Start, next-start, before-end, at-end, from-false}

@@ -4,7 +4,7 @@ use native.Mathlib.Omega.{arith}
 use mathlib.Core.Path.{_≡_, refl, sym, ap, _∙_, subst}
 use mathlib.Core.Bool.{Bool, true, false}
 use mathlib.Core.List.{List, []}
-use Rattle.spec_definitions.specs.Field.{FieldName}
+use Rattle.spec_arithmetic.specs.Field.{FieldName}
 use Rattle.spec_definitions.specs.Ticket.{Ticket, ticket, ticketOf, refusalOf}
 use Rattle.spec_definitions.specs.Walk.{Ideal}
 use Rattle.spec_definitions.specs.Products.{ProductAnswer, wrongPair, productDone, productRefused, productAnswer}

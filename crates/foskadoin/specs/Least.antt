@@ -3,8 +3,8 @@ use Prim.Native.Nat.{ℕ, _<_}
 use native.Mathlib.Omega.{arith}
 use mathlib.Core.Path.{_≡_, sym, ap, _∙_, subst}
 use mathlib.Core.List.{List}
-use Rattle.spec_definitions.specs.Field.{ops}
-use Rattle.spec_definitions.specs.Polynomials.{deg}
+use Rattle.spec_arithmetic.specs.Field.{ops}
+use Rattle.spec_arithmetic.specs.Polynomials.{deg}
 use Rattle.spec_definitions.specs.Ticket.{ticketOf}
 use Rattle.spec_definitions.specs.Walk.{Unit as UnitPair, unitOf}
 use Rattle.spec_definitions.specs.Answers.{Outcome, found, spent, refused, said, rootOf}

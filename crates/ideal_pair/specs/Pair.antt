@@ -8,9 +8,9 @@ use lib.Dec.{ltb, eqb}
 use lib.ListN.{length}
 use borrow.Author.Tests.{lt-ltb, le-ltb, eq-eqb, ne-eqb, eqb-true, not-true}
 use Rattle.math_ring.specs.Residues.{FqRing}
-use Rattle.spec_definitions.specs.Field.{FieldName, ops, fits}
-use Rattle.spec_definitions.specs.Polynomials.{at, trim, size, lead, rem}
-use Rattle.spec_definitions.specs.Words.{someNot}
+use Rattle.spec_arithmetic.specs.Field.{FieldName, ops, fits}
+use Rattle.spec_arithmetic.specs.Polynomials.{at, trim, size, lead, rem}
+use Rattle.spec_arithmetic.specs.Words.{someNot}
 use Rattle.spec_definitions.specs.Ticket.{ticket, genus}
 use Rattle.spec_definitions.specs.Walk.{Ideal}
 use Rattle.spec_definitions.specs.Products.{isPair}

@@ -4,7 +4,7 @@ use native.Mathlib.Omega.{arith}
 use mathlib.Core.Path.{_≡_, sym, _∙_, subst}
 use mathlib.Core.Bool.{Bool, true, false, _&&_}
 use mathlib.Core.List.{List}
-use Rattle.spec_definitions.specs.Field.{FieldName, ops}
+use Rattle.spec_arithmetic.specs.Field.{FieldName, ops}
 use Rattle.spec_definitions.specs.Ticket.{Ticket, ticket, genus}
 use Rattle.spec_definitions.specs.Walk.{Ideal}
 use Rattle.spec_definitions.specs.Products.{Product, productOf, isPair, wrongPair}

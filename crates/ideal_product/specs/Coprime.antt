@@ -11,8 +11,8 @@ use Rattle.math_algebra.specs.Field.{Field}
 use Rattle.math_algebra.specs.Polynomial.{F, Px, _≺_ as Low, Monic, low-neg, monic-deg, monic-constant}
 use Rattle.math_algebra.specs.Divides.{divides-le}
 use Rattle.math_algebra.specs.Gcd.{gcd-monic}
-use Rattle.spec_definitions.specs.Field.{Ops}
-use Rattle.spec_definitions.specs.Polynomials.{trim, add, sub, mul, quo, rem, gcd, bezout}
+use Rattle.spec_arithmetic.specs.Field.{Ops}
+use Rattle.spec_arithmetic.specs.Polynomials.{trim, add, sub, mul, quo, rem, gcd, bezout}
 use Rattle.spec_definitions.specs.Walk.{Ideal}
 use Rattle.spec_bridge.specs.Model.{Model, Inverts, series, series-nil}
 use Rattle.spec_bridge.specs.Trim.{below-length, length-trim, size-le, series-ext}

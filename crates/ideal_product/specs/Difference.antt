@@ -3,8 +3,8 @@ use Prim.Native.Nat.{ℕ, suc, _+_, _≤_, _<_}
 use native.Mathlib.Omega.{arith}
 use mathlib.Core.List.{List}
 use lib.ListN.{length}
-use Rattle.spec_definitions.specs.Field.{FieldName, ops}
-use Rattle.spec_definitions.specs.Polynomials.{trim, sub, mul}
+use Rattle.spec_arithmetic.specs.Field.{FieldName, ops}
+use Rattle.spec_arithmetic.specs.Polynomials.{trim, sub, mul}
 use Rattle.spec_bridge.specs.Trim.{length-trim}
 use Rattle.spec_bridge.specs.Arithmetic.{trim-sub, oks-sub}
 use Rattle.spec_bridge.specs.Lengths.{length-sub, length-mul}

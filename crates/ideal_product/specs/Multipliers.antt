@@ -3,8 +3,8 @@ use Prim.Native.Nat.{ℕ, _+_, _≤_, _<_}
 use native.Mathlib.Omega.{arith}
 use mathlib.Core.Path.{ap, ap₂, _∙_, subst}
 use mathlib.Core.List.{List}
-use Rattle.spec_definitions.specs.Field.{FieldName, ops}
-use Rattle.spec_definitions.specs.Polynomials.{add, mul, gcd, bezout}
+use Rattle.spec_arithmetic.specs.Field.{FieldName, ops}
+use Rattle.spec_arithmetic.specs.Polynomials.{add, mul, gcd, bezout}
 use Rattle.spec_bridge.specs.Gcd.{bezout-gcd}
 use Rattle.spec_bridge.specs.Prime.{Prime}
 use Rattle.spec_bridge.specs.Residues.{model, inverts}

@@ -5,8 +5,8 @@ use mathlib.Core.Path.{_≡_, sym, ap₂, subst}
 use mathlib.Core.List.{List}
 use Rattle.math_algebra.specs.Field.{Field}
 use Rattle.math_algebra.specs.Polynomial.{F, monic-deg}
-use Rattle.spec_definitions.specs.Field.{FieldName, ops}
-use Rattle.spec_definitions.specs.Polynomials.{trim}
+use Rattle.spec_arithmetic.specs.Field.{FieldName, ops}
+use Rattle.spec_arithmetic.specs.Polynomials.{trim}
 use Rattle.spec_definitions.specs.Walk.{Ideal}
 use Rattle.spec_bridge.specs.Model.{Model, Inverts}
 use Rattle.spec_bridge.specs.Trim.{trim-idem, oks-trim, length-trim}

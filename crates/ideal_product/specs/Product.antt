@@ -4,8 +4,8 @@ use native.Mathlib.Omega.{arith}
 use mathlib.Core.Path.{_≡_, sym, ap, ap₂, _∙_, subst}
 use mathlib.Core.List.{List}
 use lib.ListN.{length}
-use Rattle.spec_definitions.specs.Field.{FieldName, ops}
-use Rattle.spec_definitions.specs.Polynomials.{trim, add, sub, mul, quo, rem}
+use Rattle.spec_arithmetic.specs.Field.{FieldName, ops}
+use Rattle.spec_arithmetic.specs.Polynomials.{trim, add, sub, mul, quo, rem}
 use Rattle.spec_definitions.specs.Walk.{Ideal}
 use Rattle.spec_definitions.specs.Products.{Product, productOf}
 use Rattle.spec_bridge.specs.Arithmetic.{trim-add, oks-add, trim-mul, oks-mul}

@@ -1,6 +1,6 @@
 // Differences and products on arrays of coefficients, with their sizes.
 ghost use Prim.Native.Nat.{ℕ, _+_, _≤_};
-ghost use Rattle.spec_definitions.specs.Polynomials.{sub as subOf, mul as mulOf};
+ghost use Rattle.spec_arithmetic.specs.Polynomials.{sub as subOf, mul as mulOf};
 ghost use Rattle.base_polynomial.specs.Record.{poly, Held, Is};
 ghost use Rattle.base_field.specs.Named.{name, ops, IsField};
 use base_field::Field;

@@ -1,7 +1,7 @@
 // What the product of two ideals needs where Q_1 and Q_2 have no common factor, on arrays: there
 // P is P_1 − Q_1·(U·(P_1 − P_2) mod Q_2).
 ghost use Prim.Native.Nat.{_<_, _≤_};
-ghost use Rattle.spec_definitions.specs.Polynomials.{sub as subOf, mul as mulOf, rem as remOf};
+ghost use Rattle.spec_arithmetic.specs.Polynomials.{sub as subOf, mul as mulOf, rem as remOf};
 ghost use Rattle.base_polynomial.specs.Record.{poly, Held, Is};
 ghost use Rattle.base_field.specs.Named.{name, ops, IsField};
 use crate::arrays::multiply;

@@ -1,6 +1,6 @@
 // The product of two ideals: S by one or two greatest common divisors, Q = Q_1·Q_2/S², and P modulo Q.
 ghost use Prim.Native.Nat.{_+_, _<_, _≤_};
-ghost use Rattle.spec_definitions.specs.Polynomials.{add as addOf, sub as subOf, mul as mulOf, quo as quoOf, rem as remOf, gcd as gcdOf, bezout as bezoutOf};
+ghost use Rattle.spec_arithmetic.specs.Polynomials.{add as addOf, sub as subOf, mul as mulOf, quo as quoOf, rem as remOf, gcd as gcdOf, bezout as bezoutOf};
 ghost use Rattle.spec_definitions.specs.Ticket.{genus};
 ghost use Rattle.spec_laws.specs.Admitted.{Admitted};
 ghost use Rattle.spec_laws.specs.Pairs.{normAt, cofactorAt};

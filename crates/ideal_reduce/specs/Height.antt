@@ -8,8 +8,8 @@ use lib.ListN.{length, getD, List·getD-eq-default}
 use Rattle.math_ring.specs.Ring.{eq-of-sub}
 use Rattle.math_ring.specs.Order.{le-or-lt}
 use Rattle.math_ring.specs.Residues.{FqRing}
-use Rattle.spec_definitions.specs.Field.{modulo}
-use Rattle.spec_definitions.specs.Polynomials.{trim, sub}
+use Rattle.spec_arithmetic.specs.Field.{modulo}
+use Rattle.spec_arithmetic.specs.Polynomials.{trim, sub}
 use Rattle.spec_bridge.specs.Trim.{trim-le}
 use Rattle.spec_bridge.specs.Arithmetic.{at-sub, trim-sub}
 use Rattle.spec_bridge.specs.Residues.{model}

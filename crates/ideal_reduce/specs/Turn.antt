@@ -10,8 +10,8 @@ use lib.Seq.{ext-getD}
 use Rattle.math_ring.specs.Order.{le-or-lt}
 use Rattle.math_surd.specs.Step.{State}
 use Rattle.math_ideals.specs.Steps.{shift-most, height-more, degree-sum}
-use Rattle.spec_definitions.specs.Field.{FieldName, ops}
-use Rattle.spec_definitions.specs.Polynomials.{trim, pad, size, deg, add, sub, quo}
+use Rattle.spec_arithmetic.specs.Field.{FieldName, ops}
+use Rattle.spec_arithmetic.specs.Polynomials.{trim, pad, size, deg, add, sub, quo}
 use Rattle.spec_definitions.specs.Walk.{Ideal, steps}
 use Rattle.spec_definitions.specs.Products.{turnsOf, degreeSum}
 use Rattle.spec_bridge.specs.Model.{series}

@@ -4,9 +4,9 @@ use native.Mathlib.Omega.{arith}
 use mathlib.Core.Path.{_≡_, ap, ap₂, _∙_}
 use mathlib.Core.List.{List, _∷_, _++_, map}
 use lib.ListN.{length, length-append, length-map}
-use Rattle.spec_definitions.specs.Field.{Ops, FieldName, prime, ops, modulo}
-use Rattle.spec_definitions.specs.Polynomials.{pad, sub, rem, monic}
-use Rattle.spec_definitions.specs.Words.{word, high, low}
+use Rattle.spec_arithmetic.specs.Field.{Ops, FieldName, prime, ops, modulo}
+use Rattle.spec_arithmetic.specs.Polynomials.{pad, sub, rem, monic}
+use Rattle.spec_arithmetic.specs.Words.{word, high, low}
 use Rattle.spec_definitions.specs.Ticket.{genus}
 use Rattle.spec_definitions.specs.Listing.{Entry, idealOf, recordWords}
 use Rattle.base_polynomial.specs.Record.{poly}

@@ -5,8 +5,8 @@ use mathlib.Core.Path.{_≡_, sym, ap, ap₂, _∙_, subst}
 use mathlib.Core.List.{List}
 use lib.ListN.{length, getD}
 use Rattle.math_ring.specs.Residues.{FqRing}
-use Rattle.spec_definitions.specs.Field.{prime, modulo}
-use Rattle.spec_definitions.specs.Polynomials.{trim, sub, rem, monic}
+use Rattle.spec_arithmetic.specs.Field.{prime, modulo}
+use Rattle.spec_arithmetic.specs.Polynomials.{trim, sub, rem, monic}
 use Rattle.spec_bridge.specs.Arithmetic.{at-sub, trim-sub, oks-sub}
 use Rattle.spec_bridge.specs.Monic.{trim-monic, length-monic}
 use Rattle.spec_bridge.specs.Division.{trim-rem, oks-rem, rem-less}

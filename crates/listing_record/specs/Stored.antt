@@ -7,9 +7,9 @@ use mathlib.Core.Path.{_≡_, refl, sym, ap, _∙_}
 use mathlib.Core.List.{List, [], _∷_, _++_, map, map-append}
 use lib.ListN.{length, getD, set, drop, length-map}
 use lib.Seq.{sets, length-sets, sets-eq}
-use Rattle.spec_definitions.specs.Field.{modulo}
-use Rattle.spec_definitions.specs.Polynomials.{pad}
-use Rattle.spec_definitions.specs.Words.{word, high, low}
+use Rattle.spec_arithmetic.specs.Field.{modulo}
+use Rattle.spec_arithmetic.specs.Polynomials.{pad}
+use Rattle.spec_arithmetic.specs.Words.{word, high, low}
 use Rattle.spec_definitions.specs.Ticket.{genus}
 use Rattle.spec_definitions.specs.Listing.{Entry, recordWords}
 use Rattle.base_polynomial.specs.Pad.{length-pad, pad-suc}

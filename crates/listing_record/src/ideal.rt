@@ -1,6 +1,6 @@
 // The ideal of a record: Q made monic, and P modulo that Q.
 ghost use Prim.Native.Nat.{_<_, _≤_};
-ghost use Rattle.spec_definitions.specs.Polynomials.{sub as subOf, rem as remOf, monic as monicOf};
+ghost use Rattle.spec_arithmetic.specs.Polynomials.{sub as subOf, rem as remOf, monic as monicOf};
 ghost use Rattle.base_field.specs.Named.{IsField, name, ops};
 ghost use Rattle.base_polynomial.specs.Places.{Within};
 ghost use Rattle.base_polynomial.specs.Record.{poly as polyAt, Held as HeldAt};

@@ -5,8 +5,8 @@ use mathlib.Core.Path.{_≡_, sym, ap, ap₂, _∙_, subst}
 use mathlib.Core.List.{List}
 use lib.ListN.{length}
 use Rattle.math_ring.specs.Residues.{FqRing}
-use Rattle.spec_definitions.specs.Field.{prime, modulo}
-use Rattle.spec_definitions.specs.Polynomials.{pad, sub}
+use Rattle.spec_arithmetic.specs.Field.{prime, modulo}
+use Rattle.spec_arithmetic.specs.Polynomials.{pad, sub}
 use Rattle.spec_definitions.specs.Walk.{walk}
 use Rattle.spec_definitions.specs.Walk as lists
 use Rattle.spec_definitions.specs.Listing.{idealOf}

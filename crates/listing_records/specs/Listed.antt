@@ -6,7 +6,7 @@ use native.Mathlib.Omega.{arith}
 use mathlib.Core.Path.{_≡_, refl, sym, ap, ap₂, _∙_, subst}
 use mathlib.Core.List.{List, _++_}
 use lib.ListN.{length, drop}
-use Rattle.spec_definitions.specs.Field.{FieldName, prime, ops, modulo}
+use Rattle.spec_arithmetic.specs.Field.{FieldName, prime, ops, modulo}
 use Rattle.spec_definitions.specs.Ticket.{genus, ticket}
 use Rattle.spec_definitions.specs.Walk.{degreeBefore}
 use Rattle.spec_definitions.specs.Answers.{rootOf}

@@ -4,7 +4,7 @@ use native.Mathlib.Omega.{arith}
 use mathlib.Core.Path.{_≡_, refl, sym, subst}
 use mathlib.Core.List.{List}
 use lib.ListN.{length, getD, take, drop, length-map, length-take, length-drop}
-use Rattle.spec_definitions.specs.Words.{value}
+use Rattle.spec_arithmetic.specs.Words.{value}
 use Rattle.spec_definitions.specs.Ticket.{Ticket, genus, ticketOf, refusalOf}
 use Rattle.spec_definitions.specs.Answers.{Outcome, found, spent, refused, said, said-injective, outcomeOf, wordsOutcome}
 use Rattle.spec_definitions.specs.Listing.{listingFrom, listingAnswer}

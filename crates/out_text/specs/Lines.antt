@@ -7,7 +7,7 @@ use mathlib.Core.List.{List, [], _∷_, _++_, map, append-assoc, append-nil}
 use lib.ListN.{length, getD, take, drop, length-append, List·getD-map}
 use lib.Seq.{take-suc}
 use borrow.Author.Tests.{ne-eqb}
-use Rattle.spec_definitions.specs.Words.{value, joined}
+use Rattle.spec_arithmetic.specs.Words.{value, joined}
 use Rattle.spec_definitions.specs.Text.{ascii, decimal, spaced, line}
 use Rattle.spec_definitions.specs.Answers.{said, refused}
 use Rattle.spec_definitions.specs.Program.{firstLine, recordLine}

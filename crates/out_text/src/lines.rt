@@ -3,7 +3,7 @@ ghost use mathlib.Core.Path.{_≡_};
 ghost use mathlib.Core.List.{[], _∷_, map};
 ghost use Prim.Native.Nat.{_+_, _*_, _<_, _≤_};
 ghost use lib.ListN.{length};
-ghost use Rattle.spec_definitions.specs.Words.{value};
+ghost use Rattle.spec_arithmetic.specs.Words.{value};
 ghost use Rattle.spec_definitions.specs.Answers.{said, found, spent};
 ghost use Rattle.spec_definitions.specs.Text.{ascii, decimal, spaced, line};
 ghost use Rattle.spec_definitions.specs.Program.{firstLine, recordLine};

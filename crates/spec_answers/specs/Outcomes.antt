@@ -9,7 +9,7 @@ use mathlib.Core.Logic.{_≢_, _↔_, _⊎_, inl, inr, ⊎-elim}
 use mathlib.Core.List.{List, [], _∷_}
 use lib.ListN.{length}
 use Rattle.math_ring.specs.Order.{le-or-lt}
-use Rattle.spec_definitions.specs.Polynomials.{deg}
+use Rattle.spec_arithmetic.specs.Polynomials.{deg}
 use Rattle.spec_definitions.specs.Ticket.{Ticket, ticketOf, refusalOf}
 use Rattle.spec_definitions.specs.Walk as walk
 use Rattle.spec_definitions.specs.Answers.{Outcome, found, spent, refused, Said, said, said-injective, opsOf, rootOf, wordsOutcome, regulatorOf}

@@ -14,9 +14,9 @@ use Rattle.math_ring.specs.Identity.{ring-from, times, quote}
 use Rattle.math_ring.specs.Series.{Series, addS, negS, conv, con}
 use Rattle.math_algebra.specs.Field.{Field}
 use Rattle.math_algebra.specs.Polynomial.{F, Px}
-use Rattle.spec_definitions.specs.Field.{FieldName, ops, reading}
-use Rattle.spec_definitions.specs.Polynomials.{size, deg, lead, pad, sub, scale, mul, quo, rem, monic, root}
-use Rattle.spec_definitions.specs.Words.{kind, value, word, high, low, joined}
+use Rattle.spec_arithmetic.specs.Field.{FieldName, ops, reading}
+use Rattle.spec_arithmetic.specs.Polynomials.{size, deg, lead, pad, sub, scale, mul, quo, rem, monic, root}
+use Rattle.spec_arithmetic.specs.Words.{kind, value, word, high, low, joined}
 use Rattle.spec_definitions.specs.Ticket.{Ticket, genus, ticketOf}
 use Rattle.spec_definitions.specs.Walk.{pBefore, degreeBefore}
 use Rattle.spec_definitions.specs.Walk as walk

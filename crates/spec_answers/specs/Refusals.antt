@@ -11,7 +11,7 @@ use mathlib.Core.List.{List, [], _∷_}
 use lib.ListN.{length, take, drop, length-drop}
 use lib.Seq.{length-take-le}
 use Rattle.math_ring.specs.Order.{le-or-lt}
-use Rattle.spec_definitions.specs.Field.{FieldName}
+use Rattle.spec_arithmetic.specs.Field.{FieldName}
 use Rattle.spec_definitions.specs.Ticket.{ticketOf, refusalOf}
 use Rattle.spec_definitions.specs.Walk.{Ideal}
 use Rattle.spec_definitions.specs.Answers.{Outcome, found, spent, refused, Said, said, said-injective, rootOf, outcomeOf, wordsOutcome, regulatorOf}

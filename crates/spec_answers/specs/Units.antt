@@ -7,7 +7,7 @@ use mathlib.Core.Path.{_≡_, refl, sym, ap, _∙_, subst}
 use mathlib.Core.Bool.{Bool, true, false}
 use mathlib.Core.List.{List, []}
 use lib.ListN.{getD, drop, List·getD-append}
-use Rattle.spec_definitions.specs.Polynomials.{size, deg, pad}
+use Rattle.spec_arithmetic.specs.Polynomials.{size, deg, pad}
 use Rattle.spec_definitions.specs.Ticket.{Ticket, genus, ticketOf}
 use Rattle.spec_definitions.specs.Walk.{unitOf, pBefore, sBefore, degreeBefore}
 use Rattle.spec_definitions.specs.Answers.{Outcome, found, refused, said, said-injective, opsOf, rootOf, wordsOutcome}

@@ -7,8 +7,8 @@ use Rattle.math_ring.specs.Ring.{CRing, zer-add}
 use Rattle.math_ring.specs.Identity.{ring, quote}
 use Rattle.math_ring.specs.Series.{S, Series, addS, conv, negS, zerS, con, conv-con}
 use Rattle.math_ring.specs.Division.{up, up-conv}
-use Rattle.spec_definitions.specs.Field.{Ops}
-use Rattle.spec_definitions.specs.Polynomials.{at, trim, zip, add, sub, scale, mul}
+use Rattle.spec_arithmetic.specs.Field.{Ops}
+use Rattle.spec_arithmetic.specs.Polynomials.{at, trim, zip, add, sub, scale, mul}
 use Rattle.spec_bridge.specs.Model.{Model, Oks, series, series-nil, add-zer-zer, sub-zer-zer, mul-by-zer}
 use Rattle.spec_bridge.specs.Trim.{Trim, at-trim, trim-idem, series-ext}
 

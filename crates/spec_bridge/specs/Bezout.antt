@@ -8,8 +8,8 @@ use lib.ListN.{length}
 use Rattle.math_ring.specs.Ring.{CRing}
 use Rattle.math_ring.specs.Identity.{ring, ring-from, times, plus, quote}
 use Rattle.math_ring.specs.Series.{Series, addS, conv, negS, con}
-use Rattle.spec_definitions.specs.Field.{Ops}
-use Rattle.spec_definitions.specs.Polynomials.{Bezout, trim, sub, mul, lead, quo, rem, gcd, bezoutIn, bezout}
+use Rattle.spec_arithmetic.specs.Field.{Ops}
+use Rattle.spec_arithmetic.specs.Polynomials.{Bezout, trim, sub, mul, lead, quo, rem, gcd, bezoutIn, bezout}
 use Rattle.spec_bridge.specs.Model.{Model, Inverts, Oks, series, series-nil}
 use Rattle.spec_bridge.specs.Trim.{Trim, trim-idem, length-trim, series-trim, oks-trim}
 use Rattle.spec_bridge.specs.Arithmetic.{series-sub, series-mul, trim-sub, oks-sub, oks-nil}

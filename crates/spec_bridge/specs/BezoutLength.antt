@@ -8,8 +8,8 @@ use mathlib.Core.List.{List, [], _∷_}
 use lib.ListN.{length}
 use Rattle.math_ring.specs.Ring.{CRing}
 use Rattle.math_ring.specs.Order.{le-or-lt}
-use Rattle.spec_definitions.specs.Field.{Ops}
-use Rattle.spec_definitions.specs.Polynomials.{Bezout, trim, mul, lead, quo, rem, bezout}
+use Rattle.spec_arithmetic.specs.Field.{Ops}
+use Rattle.spec_arithmetic.specs.Polynomials.{Bezout, trim, mul, lead, quo, rem, bezout}
 use Rattle.spec_bridge.specs.Model.{Model, Inverts}
 use Rattle.spec_bridge.specs.Trim.{trim-nil, length-trim}
 use Rattle.spec_bridge.specs.Lengths.{length-sub, length-mul, length-mul-none}

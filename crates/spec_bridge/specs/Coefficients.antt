@@ -7,7 +7,7 @@ use lib.ListN.{length}
 use Rattle.math_ring.specs.Ring.{CRing}
 use Rattle.math_ring.specs.Series.{S, tail}
 use Rattle.math_ring.specs.Degree.{Below}
-use Rattle.spec_definitions.specs.Field.{Ops}
+use Rattle.spec_arithmetic.specs.Field.{Ops}
 use Rattle.spec_bridge.specs.Model.{Model, Oks, series}
 
 -- each element b of the ring is that of the coefficient `back b`

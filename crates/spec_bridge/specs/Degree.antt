@@ -8,8 +8,8 @@ use lib.ListN.{length}
 use Rattle.math_ring.specs.Series.{zerS}
 use Rattle.math_algebra.specs.Field.{Field}
 use Rattle.math_algebra.specs.Polynomial.{F, Px, Deg, Monic, deg-below, monic-deg}
-use Rattle.spec_definitions.specs.Field.{Ops}
-use Rattle.spec_definitions.specs.Polynomials.{at, trim, size, deg}
+use Rattle.spec_arithmetic.specs.Field.{Ops}
+use Rattle.spec_arithmetic.specs.Polynomials.{at, trim, size, deg}
 use Rattle.spec_bridge.specs.Model.{Model, series, series-nil}
 use Rattle.spec_bridge.specs.Trim.{trim-nil, trim-none, below-size, size-le, series-trim, lead-some, lead-is}
 

@@ -11,8 +11,8 @@ use Rattle.math_ring.specs.Identity.{ring, quote}
 use Rattle.math_ring.specs.Series.{S}
 use Rattle.math_algebra.specs.Multiple.{natural}
 use Rattle.math_algebra.specs.Derivative.{derivative as derivativeOf, derivative-at}
-use Rattle.spec_definitions.specs.Field.{Ops}
-use Rattle.spec_definitions.specs.Polynomials.{at, trim, times, timesFrom, derivative}
+use Rattle.spec_arithmetic.specs.Field.{Ops}
+use Rattle.spec_arithmetic.specs.Polynomials.{at, trim, times, timesFrom, derivative}
 use Rattle.spec_bridge.specs.Model.{Model, Oks, series}
 use Rattle.spec_bridge.specs.Trim.{Trim, trim-idem, oks-trim, series-trim, below-size, length-le}
 

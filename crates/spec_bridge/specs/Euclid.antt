@@ -14,8 +14,8 @@ use Rattle.math_algebra.specs.Polynomial.{F}
 use Rattle.math_algebra.specs.Divides.{Divides}
 use Rattle.math_algebra.specs.Division.{Division, quotient-deg}
 use Rattle.math_algebra.specs.Gcd.{IsGcd, gcd-base-zero, gcd-base, gcd-step}
-use Rattle.spec_definitions.specs.Field.{Ops}
-use Rattle.spec_definitions.specs.Polynomials.{trim, lead, quo, rem, monic, gcd}
+use Rattle.spec_arithmetic.specs.Field.{Ops}
+use Rattle.spec_arithmetic.specs.Polynomials.{trim, lead, quo, rem, monic, gcd}
 use Rattle.spec_bridge.specs.Model.{Model, Inverts, series}
 use Rattle.spec_bridge.specs.Trim.{below-length, trim-nil, lead-is, lead-some}
 use Rattle.spec_bridge.specs.Division.{series-quo-rem, rem-below, rem-less, rem-by-zero, trim-rem, trim-quo}

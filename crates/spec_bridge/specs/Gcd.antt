@@ -6,8 +6,8 @@ use mathlib.Core.Path.{_≡_, refl, sym, ap, ap₂, _∙_}
 use mathlib.Core.List.{List, [], _∷_}
 use lib.ListN.{length}
 use Rattle.math_ring.specs.Ring.{CRing}
-use Rattle.spec_definitions.specs.Field.{Ops}
-use Rattle.spec_definitions.specs.Polynomials.{Bezout, trim, sub, mul, lead, quo, rem, monic, gcdIn, gcd, bezoutIn, bezout}
+use Rattle.spec_arithmetic.specs.Field.{Ops}
+use Rattle.spec_arithmetic.specs.Polynomials.{Bezout, trim, sub, mul, lead, quo, rem, monic, gcdIn, gcd, bezoutIn, bezout}
 use Rattle.spec_bridge.specs.Model.{Model, Inverts, series}
 use Rattle.spec_bridge.specs.Trim.{Trim, trim-idem, length-trim, size-series, series-trim}
 use Rattle.spec_bridge.specs.Division.{trim-rem, rem-less}

@@ -8,8 +8,8 @@ use lib.ListN.{length}
 use Rattle.math_ring.specs.Ring.{CRing, mul-zer, neg-zer}
 use Rattle.math_ring.specs.Series.{S, negS}
 use Rattle.math_ring.specs.Degree.{Below, below-add, below-conv, conv-none}
-use Rattle.spec_definitions.specs.Field.{Ops}
-use Rattle.spec_definitions.specs.Polynomials.{trim, add, sub, scale, mul}
+use Rattle.spec_arithmetic.specs.Field.{Ops}
+use Rattle.spec_arithmetic.specs.Polynomials.{trim, add, sub, scale, mul}
 use Rattle.spec_bridge.specs.Model.{Model, series}
 use Rattle.spec_bridge.specs.Trim.{below-size, length-le}
 use Rattle.spec_bridge.specs.Arithmetic.{at-scale, trim-add, trim-sub, trim-scale, trim-mul, series-add, series-sub, series-mul}

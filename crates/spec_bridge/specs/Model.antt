@@ -7,8 +7,8 @@ use mathlib.Core.Bool.{Bool, true, false}
 use mathlib.Core.List.{List, []}
 use Rattle.math_ring.specs.Ring.{CRing, mul-zer}
 use Rattle.math_ring.specs.Series.{S, zerS}
-use Rattle.spec_definitions.specs.Field.{Ops}
-use Rattle.spec_definitions.specs.Polynomials.{at}
+use Rattle.spec_arithmetic.specs.Field.{Ops}
+use Rattle.spec_arithmetic.specs.Polynomials.{at}
 
 pub record Model {A B : Type 0} (o : Ops A) (R : CRing B) : Type 1 where
   pub φ : A → B

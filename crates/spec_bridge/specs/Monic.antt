@@ -11,8 +11,8 @@ use Rattle.math_ring.specs.Ring.{CRing}
 use Rattle.math_ring.specs.Identity.{ring-from, times, plus, quote}
 use Rattle.math_ring.specs.Order.{le-or-lt}
 use Rattle.math_ring.specs.Series.{S, conv, con}
-use Rattle.spec_definitions.specs.Field.{Ops}
-use Rattle.spec_definitions.specs.Polynomials.{trim, scale, lead, monic}
+use Rattle.spec_arithmetic.specs.Field.{Ops}
+use Rattle.spec_arithmetic.specs.Polynomials.{trim, scale, lead, monic}
 use Rattle.spec_bridge.specs.Model.{Model, Inverts, Oks, series}
 use Rattle.spec_bridge.specs.Trim.{Trim, below-length, size-series, lead-some, lead-is}
 use Rattle.spec_bridge.specs.Arithmetic.{at-scale, scale-cong, trim-scale, oks-scale, series-scale}

@@ -6,8 +6,8 @@ use mathlib.Core.List.{[], _∷_}
 use Rattle.math_ring.specs.Series.{con}
 use Rattle.math_algebra.specs.Field.{Field}
 use Rattle.math_algebra.specs.Polynomial.{F}
-use Rattle.spec_definitions.specs.Field.{Ops}
-use Rattle.spec_definitions.specs.Polynomials.{keep, trim}
+use Rattle.spec_arithmetic.specs.Field.{Ops}
+use Rattle.spec_arithmetic.specs.Polynomials.{keep, trim}
 use Rattle.spec_bridge.specs.Model.{Model, Oks, series}
 use Rattle.spec_bridge.specs.Trim.{Trim}
 

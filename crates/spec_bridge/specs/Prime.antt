@@ -10,7 +10,7 @@ use lib.Dec.{ltb, eqb}
 use borrow.Author.Tests.{ltb-true, ltb-false, eqb-true, eqb-false, lt-ltb}
 use Rattle.math_ring.specs.Order.{le-or-lt}
 pub use Rattle.math_algebra.specs.Prime.{Prime}
-use Rattle.spec_definitions.specs.Primes.{noDivisor, oddPrime}
+use Rattle.spec_arithmetic.specs.Primes.{noDivisor, oddPrime}
 
 -- what a field is asked for
 pub record OddPrime (q : ℕ) : Type 0 where

@@ -13,8 +13,8 @@ use Rattle.math_ring.specs.Order.{le-or-lt}
 use Rattle.math_ring.specs.Residues.{FqRing, to, addF, mulF}
 use Rattle.math_ring.specs.Series.{S}
 use Rattle.math_ring.specs.Sums.{sum, sum-last, conv-sum}
-use Rattle.spec_definitions.specs.Field.{modulo}
-use Rattle.spec_definitions.specs.Polynomials.{mul}
+use Rattle.spec_arithmetic.specs.Field.{modulo}
+use Rattle.spec_arithmetic.specs.Polynomials.{mul}
 use Rattle.spec_bridge.specs.Model.{series}
 use Rattle.spec_bridge.specs.Arithmetic.{series-mul, oks-mul}
 use Rattle.spec_bridge.specs.Residues.{model, to-add, to-mul, to-mod}

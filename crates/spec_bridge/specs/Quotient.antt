@@ -13,8 +13,8 @@ use Rattle.math_ring.specs.Order.{le-or-lt}
 use Rattle.math_ring.specs.Series.{S, Series, addS, conv, negS, zerS, con}
 use Rattle.math_ring.specs.Degree.{Below, below-add}
 use Rattle.math_ring.specs.Division.{no-quo}
-use Rattle.spec_definitions.specs.Field.{Ops}
-use Rattle.spec_definitions.specs.Polynomials.{trim, divide, lead, quo, rem}
+use Rattle.spec_arithmetic.specs.Field.{Ops}
+use Rattle.spec_arithmetic.specs.Polynomials.{trim, divide, lead, quo, rem}
 use Rattle.spec_bridge.specs.Model.{Model, Inverts, series}
 use Rattle.spec_bridge.specs.Trim.{trim-idem, trim-none, trim-nil, below-length, below-size, length-le, size-series, series-trim, series-ext, lead-some, lead-none, lead-is}
 use Rattle.spec_bridge.specs.Division.{trim-rem, trim-quo, oks-rem, oks-quo, series-quo-rem, rem-by-zero, rem-below, rem-less}

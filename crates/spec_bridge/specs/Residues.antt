@@ -12,7 +12,7 @@ use borrow.Author.Tests.{leb-true, leb-false, eqb-true, eqb-false}
 use Rattle.math_ring.specs.Order.{le-or-lt}
 use Rattle.math_ring.specs.Residues.{Fq, FqRing, val-path, to, addF, mulF, negF, mod-mul-mod, mul-mod-mod}
 use Rattle.math_algebra.specs.Field.{Field}
-use Rattle.spec_definitions.specs.Field.{modulo, inverseIn, inverse}
+use Rattle.spec_arithmetic.specs.Field.{modulo, inverseIn, inverse}
 use Rattle.spec_bridge.specs.Model.{Model, Inverts}
 use Rattle.spec_bridge.specs.Coefficients.{Onto}
 use Rattle.spec_bridge.specs.Prime.{Prime}

@@ -9,8 +9,8 @@ use lib.ListN.{length, drop}
 use lib.Seq.{drop-cons}
 use Rattle.math_ring.specs.Ring.{CRing, mul-zer, zer-mul, neg-zer}
 use Rattle.math_ring.specs.Degree.{Below}
-use Rattle.spec_definitions.specs.Field.{Ops}
-use Rattle.spec_definitions.specs.Polynomials.{Split, at, put, divide}
+use Rattle.spec_arithmetic.specs.Field.{Ops}
+use Rattle.spec_arithmetic.specs.Polynomials.{Split, at, put, divide}
 use Rattle.spec_bridge.specs.Model.{Model, Oks, series}
 use Rattle.spec_bridge.specs.Division.{put-at, divide-oks, divide-quo-oks}
 

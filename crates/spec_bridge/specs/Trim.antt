@@ -12,8 +12,8 @@ use Rattle.math_ring.specs.Ring.{CRing}
 use Rattle.math_ring.specs.Order.{le-or-lt}
 use Rattle.math_ring.specs.Series.{S}
 use Rattle.math_ring.specs.Degree.{Below}
-use Rattle.spec_definitions.specs.Field.{Ops}
-use Rattle.spec_definitions.specs.Polynomials.{at, keep, cons, trim, size, lead}
+use Rattle.spec_arithmetic.specs.Field.{Ops}
+use Rattle.spec_arithmetic.specs.Polynomials.{at, keep, cons, trim, size, lead}
 use Rattle.spec_bridge.specs.Model.{Model, Oks, series, zer?-zer}
 
 module _ {A B : Type 0} {o : Ops A} {R : CRing B} (M : Model o R) where

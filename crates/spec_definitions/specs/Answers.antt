@@ -4,8 +4,8 @@ use Prim.Native.Nat.{ℕ, zero, suc}
 use mathlib.Core.Path.{_≡_, ap}
 use mathlib.Core.List.{List, [], _∷_}
 use mathlib.Core.Option.{none, some}
-use Rattle.spec_definitions.specs.Field.{Ops, ops}
-use Rattle.spec_definitions.specs.Polynomials.{root}
+use Rattle.spec_arithmetic.specs.Field.{Ops, ops}
+use Rattle.spec_arithmetic.specs.Polynomials.{root}
 use Rattle.spec_definitions.specs.Ticket.{Ticket, genus, ticketOf, refusalOf}
 use Rattle.spec_definitions.specs.Walk.{quasiPeriod, degreeBefore, constantOf}
 

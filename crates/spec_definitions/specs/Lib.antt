@@ -1,7 +1,3 @@
-pub mod Field
-pub mod Polynomials
-pub mod Primes
-pub mod Words
 pub mod Ticket
 pub mod Walk
 pub mod Answers

@@ -4,9 +4,9 @@ use mathlib.Core.Bool.{true, false}
 use mathlib.Core.List.{List, [], _∷_, _++_, map}
 use lib.Dec.{leb}
 use lib.ListN.{length, drop}
-use Rattle.spec_definitions.specs.Field.{Ops}
-use Rattle.spec_definitions.specs.Polynomials.{monic, rem, pad}
-use Rattle.spec_definitions.specs.Words.{word, high, low}
+use Rattle.spec_arithmetic.specs.Field.{Ops}
+use Rattle.spec_arithmetic.specs.Polynomials.{monic, rem, pad}
+use Rattle.spec_arithmetic.specs.Words.{word, high, low}
 use Rattle.spec_definitions.specs.Ticket.{Ticket, genus, ticketOf}
 use Rattle.spec_definitions.specs.Walk.{Ideal, walk, degreeBefore}
 use Rattle.spec_definitions.specs.Answers.{Outcome, found, spent, refused, Said, said, opsOf, rootOf, wordsOutcome}

@@ -4,7 +4,7 @@ use mathlib.Core.Bool.{Bool, true, false, not, _||_}
 use mathlib.Core.List.{List, [], _∷_, _++_, map}
 use lib.Dec.{leb, ltb, eqb}
 use lib.ListN.{length, getD, take, drop, replicate}
-use Rattle.spec_definitions.specs.Words.{kind, value, joined, same}
+use Rattle.spec_arithmetic.specs.Words.{kind, value, joined, same}
 use Rattle.spec_definitions.specs.Ticket.{genus, wrongDegree}
 
 -- the kinds of a record's words

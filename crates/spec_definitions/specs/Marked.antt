@@ -7,10 +7,10 @@ use mathlib.Core.Path.{_≡_, refl}
 use mathlib.Core.List.{List, [], _∷_, _++_, map}
 use lib.IntN.{ℤ, pos, negsuc}
 use lib.ListN.{length, take, drop, replicate}
-use Rattle.spec_definitions.specs.Field.{inverse, inverseIn, fits}
-use Rattle.spec_definitions.specs.Polynomials.{trim, size, deg, pad, zip, add, sub, scale, mul, lead, put, divide, quo, rem, monic, gcd, gcdIn, bezout, bezoutIn, times, timesFrom, derivative, monomial, root, rootIn}
-use Rattle.spec_definitions.specs.Primes.{oddPrime, noDivisor}
-use Rattle.spec_definitions.specs.Words.{kind, value, word, high, low, joined, same, someNot, oneOf}
+use Rattle.spec_arithmetic.specs.Field.{inverse, inverseIn, fits}
+use Rattle.spec_arithmetic.specs.Polynomials.{trim, size, deg, pad, zip, add, sub, scale, mul, lead, put, divide, quo, rem, monic, gcd, gcdIn, bezout, bezoutIn, times, timesFrom, derivative, monomial, root, rootIn}
+use Rattle.spec_arithmetic.specs.Primes.{oddPrime, noDivisor}
+use Rattle.spec_arithmetic.specs.Words.{kind, value, word, high, low, joined, same, someNot, oneOf}
 use Rattle.spec_definitions.specs.Ticket.{genus, ticketOf, wrongHead, wrongPrime, wrongDegree, laterKinds, wrongLayout, wrongCoefficient, wrongLead, notSquarefree, firstOf, testsOf, refusalOf}
 use Rattle.spec_definitions.specs.Walk.{Ideal, partial, nextP, next, steps, walk, pBefore, sBefore, constant?, firstFrom, quasiPeriod, degreeBefore, unitOf, constantOf}
 use Rattle.spec_definitions.specs.Answers.{Said, said, rootOf, outcomeOf, wordsOutcome, regulatorOf}

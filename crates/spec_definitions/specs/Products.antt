@@ -5,9 +5,9 @@ use mathlib.Core.List.{List, []}
 use lib.Dec.{leb, ltb, eqb}
 use lib.IntN.{ℤ, pos, _+ℤ_, _-ℤ_}
 use lib.ListN.{length}
-use Rattle.spec_definitions.specs.Field.{Ops, fits}
-use Rattle.spec_definitions.specs.Polynomials.{add, sub, mul, quo, rem, size, deg, lead, Bezout, bezout}
-use Rattle.spec_definitions.specs.Words.{someNot}
+use Rattle.spec_arithmetic.specs.Field.{Ops, fits}
+use Rattle.spec_arithmetic.specs.Polynomials.{add, sub, mul, quo, rem, size, deg, lead, Bezout, bezout}
+use Rattle.spec_arithmetic.specs.Words.{someNot}
 use Rattle.spec_definitions.specs.Ticket.{Ticket, genus, ticketOf, refusalOf}
 use Rattle.spec_definitions.specs.Walk.{Ideal, partial, steps}
 use Rattle.spec_definitions.specs.Answers.{opsOf, rootOf}

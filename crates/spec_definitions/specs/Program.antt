@@ -4,7 +4,7 @@ use mathlib.Core.Bool.{Bool, true, false, not}
 use mathlib.Core.List.{List, [], _∷_, _++_, map}
 use lib.Dec.{eqb}
 use lib.ListN.{length, getD, take, drop, replicate}
-use Rattle.spec_definitions.specs.Words.{value, joined}
+use Rattle.spec_arithmetic.specs.Words.{value, joined}
 use Rattle.spec_definitions.specs.Ticket.{ticketOf}
 use Rattle.spec_definitions.specs.Answers.{Said, said, refused}
 use Rattle.spec_definitions.specs.Listing.{ListingAnswer, listingAnswer}

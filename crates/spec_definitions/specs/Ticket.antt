@@ -4,10 +4,10 @@ use mathlib.Core.Bool.{Bool, true, false, not, _||_}
 use mathlib.Core.List.{List, [], _∷_, _++_, map}
 use lib.Dec.{ltb, eqb}
 use lib.ListN.{length, getD, take, drop, replicate}
-use Rattle.spec_definitions.specs.Field.{FieldName, prime, ops, fits}
-use Rattle.spec_definitions.specs.Polynomials.{size, gcd, derivative}
-use Rattle.spec_definitions.specs.Primes.{oddPrime}
-use Rattle.spec_definitions.specs.Words.{kind, value, same, someNot, oneOf}
+use Rattle.spec_arithmetic.specs.Field.{FieldName, prime, ops, fits}
+use Rattle.spec_arithmetic.specs.Polynomials.{size, gcd, derivative}
+use Rattle.spec_arithmetic.specs.Primes.{oddPrime}
+use Rattle.spec_arithmetic.specs.Words.{kind, value, same, someNot, oneOf}
 
 -- the ticket is the job record: which field, which D, and how many steps at most "kind 1: q; kind 2: n; kind
 -- 3, n+1 words: the coefficients of D, constant term first; kind 4: the step budget b"

@@ -4,7 +4,7 @@ use mathlib.Core.Bool.{Bool, true, false, _&&_}
 use mathlib.Core.List.{List, [], _++_}
 use lib.Dec.{leb}
 use lib.ListN.{length, drop}
-use Rattle.spec_definitions.specs.Polynomials.{pad}
+use Rattle.spec_arithmetic.specs.Polynomials.{pad}
 use Rattle.spec_definitions.specs.Ticket.{Ticket, ticketOf}
 use Rattle.spec_definitions.specs.Walk.{unitOf}
 use Rattle.spec_definitions.specs.Answers.{Outcome, found, spent, refused, Said, said, opsOf, rootOf, wordsOutcome}

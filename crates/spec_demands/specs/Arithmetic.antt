@@ -15,8 +15,8 @@ use Rattle.math_algebra.specs.Field.{Field}
 use Rattle.math_algebra.specs.Polynomial.{F, Px, Monic}
 use Rattle.math_algebra.specs.Divides.{Divides as DividesIn}
 use Rattle.math_algebra.specs.Gcd.{IsGcd, gcd-monic, gcd-greatest}
-use Rattle.spec_definitions.specs.Field.{FieldName, ops, reading}
-use Rattle.spec_definitions.specs.Polynomials.{size, lead, add, mul, quo, rem, monic, gcd}
+use Rattle.spec_arithmetic.specs.Field.{FieldName, ops, reading}
+use Rattle.spec_arithmetic.specs.Polynomials.{size, lead, add, mul, quo, rem, monic, gcd}
 use Rattle.spec_bridge.specs.Model.{Model, Inverts, Oks, series, series-nil}
 use Rattle.spec_bridge.specs.Trim.{below-length, trim-nil, size-is, lead-is}
 use Rattle.spec_bridge.specs.Arithmetic.{series-add, series-mul}

@@ -17,8 +17,8 @@ use Rattle.math_algebra.specs.Polynomial.{F, Px, low-path}
 use Rattle.math_algebra.specs.Root.{IsRoot, root-unique}
 use Rattle.math_ring.specs.Identity.{ring-from, times, quote}
 use Rattle.math_ring.specs.Series.{Series, addS, negS, conv}
-use Rattle.spec_definitions.specs.Field.{FieldName, Ops, ops, reading}
-use Rattle.spec_definitions.specs.Polynomials.{size, deg, add, sub, mul, root}
+use Rattle.spec_arithmetic.specs.Field.{FieldName, Ops, ops, reading}
+use Rattle.spec_arithmetic.specs.Polynomials.{size, deg, add, sub, mul, root}
 use Rattle.spec_definitions.specs.Ticket.{Ticket, genus, ticketOf, refusalOf}
 use Rattle.spec_definitions.specs.Walk.{quasiPeriod, degreeBefore, constantOf}
 use Rattle.spec_definitions.specs.Walk as walk

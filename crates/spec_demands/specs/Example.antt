@@ -3,10 +3,10 @@
 -- of degree 7 are the printed unit, its conjugate and their negatives.
 use mathlib.Core.Path.{_≡_, refl}
 use mathlib.Core.List.{[], _∷_}
-use Rattle.spec_definitions.specs.Field.{inverse, inverseIn, fits, prime}
-use Rattle.spec_definitions.specs.Polynomials.{trim, size, deg, zip, add, sub, scale, mul, lead, put, divide, quo, rem, monic, gcd, gcdIn, times, timesFrom, derivative, monomial, root, rootIn}
-use Rattle.spec_definitions.specs.Primes.{oddPrime, noDivisor}
-use Rattle.spec_definitions.specs.Words.{kind, value, word, same, someNot, oneOf}
+use Rattle.spec_arithmetic.specs.Field.{inverse, inverseIn, fits, prime}
+use Rattle.spec_arithmetic.specs.Polynomials.{trim, size, deg, zip, add, sub, scale, mul, lead, put, divide, quo, rem, monic, gcd, gcdIn, times, timesFrom, derivative, monomial, root, rootIn}
+use Rattle.spec_arithmetic.specs.Primes.{oddPrime, noDivisor}
+use Rattle.spec_arithmetic.specs.Words.{kind, value, word, same, someNot, oneOf}
 use Rattle.spec_definitions.specs.Ticket.{genus, ticketOf, wrongHead, wrongPrime, wrongDegree, laterKinds, wrongLayout, wrongCoefficient, wrongLead, notSquarefree, firstOf, testsOf, refusalOf}
 use Rattle.spec_definitions.specs.Walk.{partial, nextP, next, steps, walk, pBefore, sBefore, constant?, firstFrom, quasiPeriod, degreeBefore, unitOf, constantOf}
 use Rattle.spec_definitions.specs.Answers.{rootOf, outcomeOf, wordsOutcome}

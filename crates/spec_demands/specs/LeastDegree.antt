@@ -15,8 +15,8 @@ use Rattle.math_ring.specs.Series.{negS, conv, con, conv-con}
 use Rattle.math_algebra.specs.Field.{Field}
 use Rattle.math_algebra.specs.Polynomial.{F, Px}
 use Rattle.math_surd.specs.Units.{Scaled}
-use Rattle.spec_definitions.specs.Field.{FieldName, ops}
-use Rattle.spec_definitions.specs.Polynomials.{size, deg, sub, mul, scale, root}
+use Rattle.spec_arithmetic.specs.Field.{FieldName, ops}
+use Rattle.spec_arithmetic.specs.Polynomials.{size, deg, sub, mul, scale, root}
 use Rattle.spec_definitions.specs.Ticket.{Ticket, genus, ticketOf, refusalOf}
 use Rattle.spec_definitions.specs.Walk.{Unit as UnitPair, unitOf, pBefore, sBefore, quasiPeriod, degreeBefore, constantOf}
 use Rattle.spec_definitions.specs.Answers.{Outcome, found, spent, refused, opsOf, rootOf, outcomeOf, wordsOutcome}

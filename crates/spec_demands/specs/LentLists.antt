@@ -11,8 +11,8 @@ use lib.ListN.{length, take, drop, replicate, length-append, length-drop}
 use lib.Seq.{take-at, drop-at}
 use borrow.Author.Tests.{leb-true, leb-false, le-leb, lt-leb}
 use Rattle.math_ring.specs.Order.{le-or-lt}
-use Rattle.spec_definitions.specs.Field.{FieldName, ops}
-use Rattle.spec_definitions.specs.Polynomials.{pad}
+use Rattle.spec_arithmetic.specs.Field.{FieldName, ops}
+use Rattle.spec_arithmetic.specs.Polynomials.{pad}
 use Rattle.spec_definitions.specs.Ticket.{Ticket, genus, ticketOf, refusalOf}
 use Rattle.spec_definitions.specs.Answers.{Outcome, found, spent, refused, said, said-injective, opsOf, outcomeOf, wordsOutcome}
 use Rattle.spec_definitions.specs.Units.{Lists, UnitAnswer, longEnough, written, unitLists, unitFrom, unitAnswer}

@@ -13,9 +13,9 @@ use Rattle.math_algebra.specs.Polynomial.{F, _≺_ as Low, low-up}
 use Rattle.math_surd.specs.Step.{State}
 use Rattle.math_surd.specs.Walk.{prior}
 use Rattle.math_surd.specs.Walk as states
-use Rattle.spec_definitions.specs.Field.{FieldName, ops}
-use Rattle.spec_definitions.specs.Polynomials.{trim, monic, rem, root}
-use Rattle.spec_definitions.specs.Words.{kind, high}
+use Rattle.spec_arithmetic.specs.Field.{FieldName, ops}
+use Rattle.spec_arithmetic.specs.Polynomials.{trim, monic, rem, root}
+use Rattle.spec_arithmetic.specs.Words.{kind, high}
 use Rattle.spec_definitions.specs.Ticket.{Ticket, genus, ticketOf, refusalOf, wrongDegree}
 use Rattle.spec_definitions.specs.Walk.{degreeBefore}
 use Rattle.spec_definitions.specs.Walk as walk

@@ -11,7 +11,7 @@ use lib.Dec.{leb, ltb, eqb}
 use lib.ListN.{length, getD, take, drop, replicate, length-append, length-map, length-drop, length-replicate, List·getD-map}
 use lib.Seq.{length-take-le, getD-take, getD-drop}
 use borrow.Author.Tests.{ltb-true, ltb-false, leb-true, leb-false}
-use Rattle.spec_definitions.specs.Words.{kind, same}
+use Rattle.spec_arithmetic.specs.Words.{kind, same}
 use Rattle.spec_definitions.specs.Ticket.{genus, wrongDegree}
 use Rattle.spec_definitions.specs.Lookup.{recordKinds, recordAt, distanceAt, recordCount, rightKinds, rising, wrongListing, lastWithin, lookupOf, placeOf}
 use Rattle.spec_laws.specs.Admitted.{degree-of}

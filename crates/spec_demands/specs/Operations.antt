@@ -16,8 +16,8 @@ use Rattle.math_ring.specs.Residues.{FqRing}
 use Rattle.math_ring.specs.Series.{S}
 use Rattle.math_algebra.specs.Derivative.{derivative-at}
 use Rattle.math_algebra.specs.Polynomial.{F}
-use Rattle.spec_definitions.specs.Field.{FieldName, ops, reading, inverse}
-use Rattle.spec_definitions.specs.Polynomials.{trim, size, deg, add, sub, scale, mul, lead, quo, rem, monic, gcd, times, derivative, root}
+use Rattle.spec_arithmetic.specs.Field.{FieldName, ops, reading, inverse}
+use Rattle.spec_arithmetic.specs.Polynomials.{trim, size, deg, add, sub, scale, mul, lead, quo, rem, monic, gcd, times, derivative, root}
 use Rattle.spec_bridge.specs.Model.{Model, Inverts, Oks, series}
 use Rattle.spec_bridge.specs.Trim.{Trim, below-size, below-length, size-le, size-is, size-series, lead-is, lead-some}
 use Rattle.spec_bridge.specs.Arithmetic.{at-add, at-sub, at-scale, oks-add, oks-sub, oks-scale, oks-mul, trim-add, trim-sub, trim-scale, trim-mul}

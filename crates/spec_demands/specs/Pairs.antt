@@ -12,9 +12,9 @@ use lib.ListN.{length, getD}
 use borrow.Author.Tests.{eq-eqb, lt-ltb}
 use Rattle.math_algebra.specs.Field.{Field}
 use Rattle.math_algebra.specs.Polynomial.{F}
-use Rattle.spec_definitions.specs.Field.{FieldName, ops, fits}
-use Rattle.spec_definitions.specs.Polynomials.{trim, size, lead, sub, mul, rem}
-use Rattle.spec_definitions.specs.Words.{someNot}
+use Rattle.spec_arithmetic.specs.Field.{FieldName, ops, fits}
+use Rattle.spec_arithmetic.specs.Polynomials.{trim, size, lead, sub, mul, rem}
+use Rattle.spec_arithmetic.specs.Words.{someNot}
 use Rattle.spec_definitions.specs.Ticket.{Ticket, genus, ticketOf, refusalOf}
 use Rattle.spec_definitions.specs.Walk.{Ideal}
 use Rattle.spec_definitions.specs.Products.{ProductAnswer, GiantStepAnswer, isPair, wrongPair, wrongDistance, productDone, giantDone, productRefused, giantRefused, productAnswer, giantAnswer}

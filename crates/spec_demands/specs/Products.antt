@@ -14,8 +14,8 @@ use Rattle.math_algebra.specs.Field.{Field}
 use Rattle.math_algebra.specs.Polynomial.{F}
 use Rattle.math_surd.specs.Step.{State}
 use Rattle.math_ring.specs.Series.{addS, conv}
-use Rattle.spec_definitions.specs.Field.{FieldName, ops}
-use Rattle.spec_definitions.specs.Polynomials.{size, deg, lead, add, quo, rem, monic, gcd, root}
+use Rattle.spec_arithmetic.specs.Field.{FieldName, ops}
+use Rattle.spec_arithmetic.specs.Polynomials.{size, deg, lead, add, quo, rem, monic, gcd, root}
 use Rattle.spec_definitions.specs.Ticket.{Ticket, genus, ticketOf, refusalOf}
 use Rattle.spec_definitions.specs.Walk.{Ideal, partial, steps}
 use Rattle.spec_definitions.specs.Answers.{opsOf, rootOf}

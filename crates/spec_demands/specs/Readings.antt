@@ -12,8 +12,8 @@ use lib.Seq.{getD-take, getD-drop}
 use Rattle.math_ring.specs.Order.{le-or-lt}
 use lib.Dec.{eqb}
 use borrow.Author.Tests.{ltb-false}
-use Rattle.spec_definitions.specs.Field.{FieldName, fits}
-use Rattle.spec_definitions.specs.Words.{kind, value, same}
+use Rattle.spec_arithmetic.specs.Field.{FieldName, fits}
+use Rattle.spec_arithmetic.specs.Words.{kind, value, same}
 use Rattle.spec_definitions.specs.Ticket.{wrongHead, wrongPrime, wrongDegree, laterKinds, wrongLayout, wrongCoefficient, wrongLead}
 use Rattle.spec_lists.specs.Same.{one-of-one}
 use Rattle.spec_lists.specs.Layout.{length-later, later-coefficient, later-budget, later-end}

@@ -9,9 +9,9 @@ use mathlib.Core.List.{List, [], _∷_, _++_, map}
 use lib.ListN.{length, getD, take, drop, replicate, length-append}
 use lib.Seq.{take-at, drop-at, drop-drop, getD-take, getD-drop}
 use borrow.Author.Tests.{lt-ltb}
-use Rattle.spec_definitions.specs.Field.{FieldName, Ops, ops}
-use Rattle.spec_definitions.specs.Polynomials.{pad}
-use Rattle.spec_definitions.specs.Words.{kind, value, word, high, low, joined, same}
+use Rattle.spec_arithmetic.specs.Field.{FieldName, Ops, ops}
+use Rattle.spec_arithmetic.specs.Polynomials.{pad}
+use Rattle.spec_arithmetic.specs.Words.{kind, value, word, high, low, joined, same}
 use Rattle.spec_definitions.specs.Ticket.{Ticket, genus}
 use Rattle.spec_definitions.specs.Answers.{opsOf}
 use Rattle.spec_definitions.specs.Listing.{Entry, recordWords, entryOf, recordOf, recordsFrom, listingOf}

@@ -6,9 +6,9 @@ use mathlib.Core.Path.{_≡_}
 use mathlib.Core.Logic.{_≢_, _⊎_}
 use mathlib.Core.List.{List, [], _∷_, map}
 use lib.ListN.{length, getD, take, drop}
-use Rattle.spec_definitions.specs.Field.{FieldName, prime, ops, reading}
-use Rattle.spec_definitions.specs.Polynomials.{size, add, sub, mul}
-use Rattle.spec_definitions.specs.Words.{kind, value}
+use Rattle.spec_arithmetic.specs.Field.{FieldName, prime, ops, reading}
+use Rattle.spec_arithmetic.specs.Polynomials.{size, add, sub, mul}
+use Rattle.spec_arithmetic.specs.Words.{kind, value}
 
 module _ (w : List ℕ) where
   -- the kind and the value of word i

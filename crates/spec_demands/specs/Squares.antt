@@ -14,8 +14,8 @@ use Rattle.math_algebra.specs.Polynomial.{F, Px, Deg, deg-path, deg-not-zero, m
 use Rattle.math_algebra.specs.Gcd.{IsGcd, gcd-zero}
 use Rattle.math_algebra.specs.Derivative.{derivative as ∂}
 use Rattle.math_algebra.specs.Squarefree.{SquareFactor, square-gcd, gcd-square}
-use Rattle.spec_definitions.specs.Field.{FieldName, ops}
-use Rattle.spec_definitions.specs.Polynomials.{trim, size, mul, gcd, derivative}
+use Rattle.spec_arithmetic.specs.Field.{FieldName, ops}
+use Rattle.spec_arithmetic.specs.Polynomials.{trim, size, mul, gcd, derivative}
 use Rattle.spec_definitions.specs.Ticket.{notSquarefree}
 use Rattle.spec_bridge.specs.Model.{Model, series}
 use Rattle.spec_bridge.specs.Trim.{below-length, length-trim, size-is}

@@ -11,7 +11,7 @@ use lib.Dec.{ltb, eqb}
 use lib.ListN.{length, getD}
 use borrow.Author.Tests.{ltb-true, lt-ltb, eqb-true, eqb-false, eq-eqb}
 use Rattle.math_ring.specs.Order.{le-or-lt}
-use Rattle.spec_definitions.specs.Words.{same, someNot}
+use Rattle.spec_arithmetic.specs.Words.{same, someNot}
 use Rattle.spec_definitions.specs.Ticket.{firstOf}
 
 -- the test b is true exactly where P holds

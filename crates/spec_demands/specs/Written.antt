@@ -9,8 +9,8 @@ use mathlib.Core.Logic.{inl, inr, ⊎-elim}
 use mathlib.Core.List.{List, [], _∷_, _++_}
 use mathlib.Core.Option.{Option, none, some}
 use lib.ListN.{length, take}
-use Rattle.spec_definitions.specs.Field.{FieldName, ops}
-use Rattle.spec_definitions.specs.Polynomials.{size, deg, pad, sub, mul, scale, root}
+use Rattle.spec_arithmetic.specs.Field.{FieldName, ops}
+use Rattle.spec_arithmetic.specs.Polynomials.{size, deg, pad, sub, mul, scale, root}
 use Rattle.spec_definitions.specs.Ticket.{Ticket, genus, ticketOf, refusalOf}
 use Rattle.spec_definitions.specs.Walk.{Unit as UnitPair, unitOf, sBefore, quasiPeriod, degreeBefore, constantOf}
 use Rattle.spec_definitions.specs.Answers.{Outcome, found, spent, refused, said, said-injective, opsOf, rootOf, outcomeOf, wordsOutcome}

@@ -19,8 +19,8 @@ use Rattle.math_ring.specs.Division.{up}
 use Rattle.math_algebra.specs.Field.{Field}
 use Rattle.math_algebra.specs.Polynomial.{F, Px, _≺_ as Low, Deg, Monic, low-up, low-add, low-sub, low-mul, low-none, low-path, low-quotient, monic-mul, monic-deg, monic-path, deg-mul, deg-path}
 use Rattle.math_algebra.specs.Root.{IsRoot, root-unique}
-use Rattle.spec_definitions.specs.Field.{FieldName, ops}
-use Rattle.spec_definitions.specs.Polynomials.{size, add, sub, mul, monomial, root}
+use Rattle.spec_arithmetic.specs.Field.{FieldName, ops}
+use Rattle.spec_arithmetic.specs.Polynomials.{size, add, sub, mul, monomial, root}
 use Rattle.spec_definitions.specs.Ticket.{genus, ticketOf, refusalOf}
 use Rattle.spec_definitions.specs.Walk as walk
 use Rattle.spec_definitions.specs.Answers.{rootOf}

@@ -18,9 +18,9 @@ use Rattle.math_algebra.specs.Associate.{associate-path}
 use Rattle.math_surd.specs.Walk.{κ-first}
 use Rattle.math_surd.specs.Same.{Same, same-prior, same-κ}
 use Rattle.math_surd.specs.QuasiPeriod.{QuasiPeriod, quasi-period}
-use Rattle.spec_definitions.specs.Field.{FieldName, ops}
-use Rattle.spec_definitions.specs.Polynomials.{size, root}
-use Rattle.spec_definitions.specs.Words.{values}
+use Rattle.spec_arithmetic.specs.Field.{FieldName, ops}
+use Rattle.spec_arithmetic.specs.Polynomials.{size, root}
+use Rattle.spec_arithmetic.specs.Words.{values}
 use Rattle.spec_definitions.specs.Ticket.{Ticket, ticketOf, refusalOf}
 use Rattle.spec_definitions.specs.Walk as walk
 use Rattle.spec_definitions.specs.Answers.{opsOf, rootOf}

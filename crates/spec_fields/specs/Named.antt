@@ -10,7 +10,7 @@ use Rattle.math_ring.specs.Residues.{Fq}
 use Rattle.math_algebra.specs.Field.{Field}
 use Rattle.math_algebra.specs.Characteristic.{Perfect}
 use Rattle.math_algebra.specs.Fermat.{perfect-residues}
-use Rattle.spec_definitions.specs.Field.{FieldName, ops, fits, reading}
+use Rattle.spec_arithmetic.specs.Field.{FieldName, ops, fits, reading}
 use Rattle.spec_bridge.specs.Model.{Model, Inverts}
 use Rattle.spec_bridge.specs.Coefficients.{Onto}
 use Rattle.spec_bridge.specs.Prime.{Prime}

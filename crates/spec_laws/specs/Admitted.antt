@@ -13,10 +13,10 @@ use lib.Seq.{length-take-le}
 use borrow.Author.Tests.{ltb-false, eqb-true, not-false}
 use Rattle.math_algebra.specs.Polynomial.{Monic}
 use Rattle.math_surd.specs.Root.{No-square}
-use Rattle.spec_definitions.specs.Field.{FieldName, ops, fits}
-use Rattle.spec_definitions.specs.Polynomials.{trim, root}
-use Rattle.spec_definitions.specs.Primes.{oddPrime}
-use Rattle.spec_definitions.specs.Words.{value, someNot}
+use Rattle.spec_arithmetic.specs.Field.{FieldName, ops, fits}
+use Rattle.spec_arithmetic.specs.Polynomials.{trim, root}
+use Rattle.spec_arithmetic.specs.Primes.{oddPrime}
+use Rattle.spec_arithmetic.specs.Words.{value, someNot}
 use Rattle.spec_definitions.specs.Ticket.{Ticket, genus, ticketOf, wrongHead, wrongPrime, wrongDegree, wrongLayout, wrongCoefficient, wrongLead, notSquarefree, firstOf, testsOf, refusalOf}
 use Rattle.spec_bridge.specs.Model.{series}
 use Rattle.spec_bridge.specs.Trim.{below-length, length-trim}

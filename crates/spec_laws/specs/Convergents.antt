@@ -13,8 +13,8 @@ use Rattle.math_algebra.specs.Polynomial.{F, Px, deg-path}
 use Rattle.math_surd.specs.Walk.{a-first}
 use Rattle.math_surd.specs.Convergents as convergents
 use Rattle.math_surd.specs.Distance.{distance, distance-height, p-deg, s-deg, distance-rise, distance-least, distance-most}
-use Rattle.spec_definitions.specs.Field.{Ops}
-use Rattle.spec_definitions.specs.Polynomials.{trim, deg, add, mul}
+use Rattle.spec_arithmetic.specs.Field.{Ops}
+use Rattle.spec_arithmetic.specs.Polynomials.{trim, deg, add, mul}
 use Rattle.spec_definitions.specs.Walk.{pBefore, sBefore, degreeBefore}
 use Rattle.spec_definitions.specs.Walk as lists
 use Rattle.spec_bridge.specs.Model.{Model, Oks, series, series-nil}

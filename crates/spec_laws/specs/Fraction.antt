@@ -12,8 +12,8 @@ use Rattle.math_algebra.specs.Polynomial.{F, Px, _≺_ as Low, Deg, low-up}
 use Rattle.math_surd.specs.Root.{Root, root-of}
 use Rattle.math_surd.specs.Walk.{Walk, prior}
 use Rattle.math_surd.specs.WalkOf.{Computed, walk-of}
-use Rattle.spec_definitions.specs.Field.{Ops}
-use Rattle.spec_definitions.specs.Polynomials.{add, mul, rem}
+use Rattle.spec_arithmetic.specs.Field.{Ops}
+use Rattle.spec_arithmetic.specs.Polynomials.{add, mul, rem}
 use Rattle.spec_definitions.specs.Walk as lists
 use Rattle.spec_laws.specs.Surd.{Surd, deg-length, series-one, Q-zero, P-zero, a-is, P-suc, Q-suc, Q-trim}
 use Rattle.spec_laws.specs.Surd as surd

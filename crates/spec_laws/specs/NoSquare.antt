@@ -13,8 +13,8 @@ use Rattle.math_algebra.specs.Polynomial.{F, Px, Deg, Monic, degree, deg-mul, d
 use Rattle.math_algebra.specs.Gcd.{IsGcd}
 use Rattle.math_algebra.specs.Squarefree.{SquareFactor, square-gcd}
 use Rattle.math_surd.specs.Root.{No-square}
-use Rattle.spec_definitions.specs.Field.{Ops}
-use Rattle.spec_definitions.specs.Polynomials.{size, gcd, derivative}
+use Rattle.spec_arithmetic.specs.Field.{Ops}
+use Rattle.spec_arithmetic.specs.Polynomials.{size, gcd, derivative}
 use Rattle.spec_bridge.specs.Model.{Model, Inverts, series}
 use Rattle.spec_bridge.specs.Trim.{size-is}
 use Rattle.spec_bridge.specs.Degree.{deg-size}

@@ -15,8 +15,8 @@ use Rattle.math_algebra.specs.Polynomial.{F, Px, Deg, deg-path}
 use Rattle.math_surd.specs.Walk.{norm, P-sum}
 use Rattle.math_surd.specs.Convergents.{sign, sign-deg, norm-convergent, determinant}
 use Rattle.math_surd.specs.Convergents as convergents
-use Rattle.spec_definitions.specs.Field.{Ops}
-use Rattle.spec_definitions.specs.Polynomials.{at, add, sub, mul}
+use Rattle.spec_arithmetic.specs.Field.{Ops}
+use Rattle.spec_arithmetic.specs.Polynomials.{at, add, sub, mul}
 use Rattle.spec_definitions.specs.Walk.{pBefore, sBefore, constantOf}
 use Rattle.spec_definitions.specs.Walk as lists
 use Rattle.spec_bridge.specs.Model.{Model, series}

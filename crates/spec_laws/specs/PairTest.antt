@@ -9,9 +9,9 @@ use lib.ListN.{length, getD}
 use borrow.Author.Tests.{eqb-true, ltb-true, not-true, not-false}
 use Rattle.math_algebra.specs.Field.{Field}
 use Rattle.math_algebra.specs.Polynomial.{F}
-use Rattle.spec_definitions.specs.Field.{FieldName, ops, fits}
-use Rattle.spec_definitions.specs.Polynomials.{trim, size, lead, rem}
-use Rattle.spec_definitions.specs.Words.{someNot}
+use Rattle.spec_arithmetic.specs.Field.{FieldName, ops, fits}
+use Rattle.spec_arithmetic.specs.Polynomials.{trim, size, lead, rem}
+use Rattle.spec_arithmetic.specs.Words.{someNot}
 use Rattle.spec_definitions.specs.Ticket.{Ticket, genus}
 use Rattle.spec_definitions.specs.Walk.{Ideal}
 use Rattle.spec_definitions.specs.Products.{isPair, wrongPair}

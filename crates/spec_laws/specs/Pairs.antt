@@ -11,8 +11,8 @@ use Rattle.math_ring.specs.Series.{Series}
 use Rattle.math_algebra.specs.Field.{Field}
 use Rattle.math_algebra.specs.Polynomial.{F, Px, _≺_ as Low, Monic, low-up, monic-deg}
 use Rattle.math_surd.specs.Step.{State}
-use Rattle.spec_definitions.specs.Field.{Ops}
-use Rattle.spec_definitions.specs.Polynomials.{sub, mul, quo, rem}
+use Rattle.spec_arithmetic.specs.Field.{Ops}
+use Rattle.spec_arithmetic.specs.Polynomials.{sub, mul, quo, rem}
 use Rattle.spec_definitions.specs.Walk.{Ideal}
 use Rattle.spec_bridge.specs.Model.{Model, series, series-nil}
 use Rattle.spec_bridge.specs.Trim.{below-length}

@@ -17,8 +17,8 @@ use Rattle.math_algebra.specs.Gcd.{IsGcd, gcd-zero, gcd-monic}
 use Rattle.math_surd.specs.Step.{State}
 use Rattle.math_algebra.specs.Finite.{Finite, finite-mul, finite-by, finite-monic}
 use Rattle.math_ideals.specs.Product.{Common, Multipliers, Meets, product-Q, product-P, product-square, product-monic, meets-unique, remainder-meets, meets-norm}
-use Rattle.spec_definitions.specs.Field.{Ops}
-use Rattle.spec_definitions.specs.Polynomials.{trim, add, sub, mul, quo, rem, gcd, Bezout, bezout}
+use Rattle.spec_arithmetic.specs.Field.{Ops}
+use Rattle.spec_arithmetic.specs.Polynomials.{trim, add, sub, mul, quo, rem, gcd, Bezout, bezout}
 use Rattle.spec_definitions.specs.Walk.{Ideal}
 use Rattle.spec_definitions.specs.Products.{productOf}
 use Rattle.spec_definitions.specs.Products as lists

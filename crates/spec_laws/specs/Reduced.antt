@@ -14,8 +14,8 @@ use Rattle.math_algebra.specs.Divides.{Divides, divides-path, divides-add, divi
 use Rattle.math_algebra.specs.Associate.{Associate, associate-sym, associate-divides}
 use Rattle.math_surd.specs.Step.{State}
 use Rattle.math_algebra.specs.Finite.{Finite, finite-add}
-use Rattle.spec_definitions.specs.Field.{Ops}
-use Rattle.spec_definitions.specs.Polynomials.{trim, lead, quo, rem, monic}
+use Rattle.spec_arithmetic.specs.Field.{Ops}
+use Rattle.spec_arithmetic.specs.Polynomials.{trim, lead, quo, rem, monic}
 use Rattle.spec_definitions.specs.Walk.{Ideal}
 use Rattle.spec_bridge.specs.Model.{Model, Inverts, series}
 use Rattle.spec_bridge.specs.Trim.{below-length, lead-some}

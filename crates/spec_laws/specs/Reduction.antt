@@ -22,8 +22,8 @@ use Rattle.math_surd.specs.Step as states
 use Rattle.math_surd.specs.Ideal.{Follows, step-follows}
 use Rattle.math_ideals.specs.Reduction.{next-state}
 use Rattle.math_ideals.specs.Steps.{Steps, Above, above-more, turns-less, degree-falls, height-more, partial-deg, degree-sum, shift-most}
-use Rattle.spec_definitions.specs.Field.{Ops}
-use Rattle.spec_definitions.specs.Polynomials.{trim, size, deg, add, mul, quo, rem}
+use Rattle.spec_arithmetic.specs.Field.{Ops}
+use Rattle.spec_arithmetic.specs.Polynomials.{trim, size, deg, add, mul, quo, rem}
 use Rattle.spec_definitions.specs.Walk.{Ideal, partial, nextP, next, steps}
 use Rattle.spec_definitions.specs.Products.{reducedFrom, turnsOf, degreeSum}
 use Rattle.spec_bridge.specs.Model.{Model, series}

@@ -14,8 +14,8 @@ use Rattle.math_algebra.specs.Field.{Field}
 use Rattle.math_algebra.specs.Polynomial.{F, Px, low-up, low-add, low-path, deg-unique}
 use Rattle.math_surd.specs.Step.{State}
 use Rattle.math_ideals.specs.Steps.{degree-most}
-use Rattle.spec_definitions.specs.Field.{Ops}
-use Rattle.spec_definitions.specs.Polynomials.{trim, deg, add, mul}
+use Rattle.spec_arithmetic.specs.Field.{Ops}
+use Rattle.spec_arithmetic.specs.Polynomials.{trim, deg, add, mul}
 use Rattle.spec_definitions.specs.Walk.{Ideal, partial, nextP, next, steps}
 use Rattle.spec_bridge.specs.Model.{Model, Oks, series}
 use Rattle.spec_bridge.specs.Trim.{Trim, length-trim, size-le}

@@ -11,8 +11,8 @@ use Rattle.math_algebra.specs.Field.{Field}
 use Rattle.math_algebra.specs.Polynomial.{F}
 use Rattle.math_surd.specs.Step.{State}
 use Rattle.math_ideals.specs.Steps.{turns-most}
-use Rattle.spec_definitions.specs.Field.{Ops}
-use Rattle.spec_definitions.specs.Polynomials.{deg}
+use Rattle.spec_arithmetic.specs.Field.{Ops}
+use Rattle.spec_arithmetic.specs.Polynomials.{deg}
 use Rattle.spec_definitions.specs.Walk.{Ideal, steps}
 use Rattle.spec_definitions.specs.Products.{Product, productOf, turnsOf, degreeSum, shiftOf}
 use Rattle.spec_bridge.specs.Model.{Model, series}

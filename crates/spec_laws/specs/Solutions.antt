@@ -12,8 +12,8 @@ use Rattle.math_surd.specs.Units.{Scaled}
 use Rattle.math_surd.specs.QuasiPeriod.{QuasiPeriod}
 use Rattle.math_surd.specs.LeastDegree.{Solution}
 use Rattle.math_surd.specs.LeastDegree as least
-use Rattle.spec_definitions.specs.Field.{Ops}
-use Rattle.spec_definitions.specs.Polynomials.{trim, size, deg}
+use Rattle.spec_arithmetic.specs.Field.{Ops}
+use Rattle.spec_arithmetic.specs.Polynomials.{trim, size, deg}
 use Rattle.spec_definitions.specs.Walk.{sBefore, degreeBefore}
 use Rattle.spec_definitions.specs.Walk as lists
 use Rattle.spec_bridge.specs.Model.{Model, series}

@@ -12,8 +12,8 @@ use Rattle.math_ring.specs.Series.{Series}
 use Rattle.math_algebra.specs.Field.{Field}
 use Rattle.math_algebra.specs.Polynomial.{F, Px}
 use Rattle.math_surd.specs.Walk.{a-first}
-use Rattle.spec_definitions.specs.Field.{Ops}
-use Rattle.spec_definitions.specs.Polynomials.{add, sub, mul, quo, rem}
+use Rattle.spec_arithmetic.specs.Field.{Ops}
+use Rattle.spec_arithmetic.specs.Polynomials.{add, sub, mul, quo, rem}
 use Rattle.spec_definitions.specs.Walk as lists
 use Rattle.spec_bridge.specs.Model.{Model, Oks, series, series-nil}
 use Rattle.spec_bridge.specs.Trim.{Trim, series-ext}

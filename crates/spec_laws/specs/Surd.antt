@@ -8,8 +8,8 @@ use Rattle.math_algebra.specs.Field.{Field}
 use Rattle.math_algebra.specs.Polynomial.{F, Deg}
 use Rattle.math_algebra.specs.Root.{IsRoot}
 use Rattle.math_surd.specs.Root.{No-square}
-use Rattle.spec_definitions.specs.Field.{Ops}
-use Rattle.spec_definitions.specs.Polynomials.{trim, add, sub, mul, quo, rem}
+use Rattle.spec_arithmetic.specs.Field.{Ops}
+use Rattle.spec_arithmetic.specs.Polynomials.{trim, add, sub, mul, quo, rem}
 use Rattle.spec_definitions.specs.Walk.{partial, nextP, next, steps, walk}
 use Rattle.spec_definitions.specs.Walk as lists
 use Rattle.spec_bridge.specs.Model.{Model, Inverts, Oks, series}

@@ -13,8 +13,8 @@ use Rattle.math_algebra.specs.Field.{Field}
 use Rattle.math_algebra.specs.Polynomial.{F, Px, monic-deg}
 use Rattle.math_surd.specs.Walk.{P-rem, Q-rem, P-monic, a-deg}
 use Rattle.math_surd.specs.Walk as states
-use Rattle.spec_definitions.specs.Field.{Ops}
-use Rattle.spec_definitions.specs.Polynomials.{trim, add, sub, mul}
+use Rattle.spec_arithmetic.specs.Field.{Ops}
+use Rattle.spec_arithmetic.specs.Polynomials.{trim, add, sub, mul}
 use Rattle.spec_definitions.specs.Walk as lists
 use Rattle.spec_bridge.specs.Model.{Model, series}
 use Rattle.spec_bridge.specs.Trim.{series-ext}

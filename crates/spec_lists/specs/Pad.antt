@@ -6,8 +6,8 @@ use native.Mathlib.Omega.{arith}
 use mathlib.Core.Path.{_≡_, refl, ap, ap₂}
 use mathlib.Core.List.{List, [], _∷_, _++_}
 use lib.ListN.{length, take}
-use Rattle.spec_definitions.specs.Field.{Ops}
-use Rattle.spec_definitions.specs.Polynomials.{at, pad}
+use Rattle.spec_arithmetic.specs.Field.{Ops}
+use Rattle.spec_arithmetic.specs.Polynomials.{at, pad}
 
 module _ {A : Type 0} (o : Ops A) where
   pub length-pad : (k : ℕ) (l : List A) → length (pad o k l) ≡ k

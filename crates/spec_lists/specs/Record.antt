@@ -4,9 +4,9 @@ use native.Mathlib.Omega.{arith}
 use mathlib.Core.Path.{_≡_, _∙_}
 use mathlib.Core.List.{List, _++_, map}
 use lib.ListN.{length, length-append, length-map}
-use Rattle.spec_definitions.specs.Field.{Ops}
-use Rattle.spec_definitions.specs.Polynomials.{pad}
-use Rattle.spec_definitions.specs.Words.{word}
+use Rattle.spec_arithmetic.specs.Field.{Ops}
+use Rattle.spec_arithmetic.specs.Polynomials.{pad}
+use Rattle.spec_arithmetic.specs.Words.{word}
 use Rattle.spec_definitions.specs.Ticket.{genus}
 use Rattle.spec_definitions.specs.Listing.{Entry, recordWords}
 use Rattle.spec_lists.specs.Pad.{length-pad}

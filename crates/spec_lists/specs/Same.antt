@@ -6,7 +6,7 @@ use mathlib.Core.Bool.{Bool, true, false}
 use mathlib.Core.List.{List, [], _∷_}
 use lib.Dec.{eqb}
 use borrow.Author.Tests.{eqb-true, eq-eqb}
-use Rattle.spec_definitions.specs.Words.{same, oneOf}
+use Rattle.spec_arithmetic.specs.Words.{same, oneOf}
 
 pub same-refl : (l : List ℕ) → same l l ≡ true
 unfolding same

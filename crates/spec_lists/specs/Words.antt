@@ -3,7 +3,7 @@ use Prim.Native.Nat.{ℕ, _+_, _<_}
 use native.Mathlib.Nat.{mod-lt, mod-eq-of-lt, div-eq-of-lt, div-add-mod', add-zero, mul-add-div-right, mul-add-mod-self-right}
 use native.Mathlib.Omega.{arith}
 use mathlib.Core.Path.{_≡_, ap, _∙_}
-use Rattle.spec_definitions.specs.Words.{values, kind, value, word, high, low, joined}
+use Rattle.spec_arithmetic.specs.Words.{values, kind, value, word, high, low, joined}
 
 pub kind-word : (k v : ℕ) → v < values → kind (word k v) ≡ k
 unfolding kind word

@@ -15,7 +15,7 @@ use Rattle.math_algebra.specs.Field.{Field}
 use Rattle.math_algebra.specs.Polynomial.{Px, Monic}
 use Rattle.math_algebra.specs.Squarefree.{SquareFactor}
 use Rattle.math_algebra.specs.Fermat.{perfect-residues}
-use Rattle.spec_definitions.specs.Field.{prime, ops}
+use Rattle.spec_arithmetic.specs.Field.{prime, ops}
 use Rattle.spec_definitions.specs.Ticket.{notSquarefree}
 use Rattle.spec_bridge.specs.Model.{Model, series}
 use Rattle.spec_bridge.specs.Trim.{below-length}

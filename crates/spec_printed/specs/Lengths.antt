@@ -4,10 +4,10 @@ use Prim.Native.Nat.{ℕ}
 use mathlib.Core.Path.{_≡_, refl}
 use mathlib.Core.List.{List, [], _∷_, _++_}
 use lib.ListN.{length, replicate}
-use Rattle.spec_definitions.specs.Field.{inverse, inverseIn, fits}
-use Rattle.spec_definitions.specs.Polynomials.{trim, size, deg, zip, sub, scale, lead, put, divide, rem, monic, gcd, gcdIn, times, timesFrom, derivative}
-use Rattle.spec_definitions.specs.Primes.{oddPrime, noDivisor}
-use Rattle.spec_definitions.specs.Words.{kind, value, word, same, someNot, oneOf}
+use Rattle.spec_arithmetic.specs.Field.{inverse, inverseIn, fits}
+use Rattle.spec_arithmetic.specs.Polynomials.{trim, size, deg, zip, sub, scale, lead, put, divide, rem, monic, gcd, gcdIn, times, timesFrom, derivative}
+use Rattle.spec_arithmetic.specs.Primes.{oddPrime, noDivisor}
+use Rattle.spec_arithmetic.specs.Words.{kind, value, word, same, someNot, oneOf}
 use Rattle.spec_definitions.specs.Ticket.{ticketOf, wrongHead, wrongPrime, wrongDegree, laterKinds, wrongLayout, wrongCoefficient, wrongLead, notSquarefree, firstOf, testsOf, refusalOf}
 use Rattle.spec_definitions.specs.Walk.{pBefore, firstFrom, quasiPeriod, degreeBefore}
 use Rattle.spec_definitions.specs.Answers.{said, outcomeOf, wordsOutcome}

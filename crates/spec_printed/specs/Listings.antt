@@ -3,10 +3,10 @@
 -- (vectors/check.py).
 use mathlib.Core.Path.{refl}
 use mathlib.Core.List.{[], _∷_}
-use Rattle.spec_definitions.specs.Field.{inverse, inverseIn, fits}
-use Rattle.spec_definitions.specs.Polynomials.{trim, size, deg, pad, zip, add, sub, scale, mul, lead, put, divide, quo, rem, monic, gcd, gcdIn, times, timesFrom, derivative, monomial, root, rootIn}
-use Rattle.spec_definitions.specs.Primes.{oddPrime, noDivisor}
-use Rattle.spec_definitions.specs.Words.{kind, value, word, high, low, joined, same, someNot, oneOf}
+use Rattle.spec_arithmetic.specs.Field.{inverse, inverseIn, fits}
+use Rattle.spec_arithmetic.specs.Polynomials.{trim, size, deg, pad, zip, add, sub, scale, mul, lead, put, divide, quo, rem, monic, gcd, gcdIn, times, timesFrom, derivative, monomial, root, rootIn}
+use Rattle.spec_arithmetic.specs.Primes.{oddPrime, noDivisor}
+use Rattle.spec_arithmetic.specs.Words.{kind, value, word, high, low, joined, same, someNot, oneOf}
 use Rattle.spec_definitions.specs.Ticket.{genus, ticketOf, wrongHead, wrongPrime, wrongDegree, laterKinds, wrongLayout, wrongCoefficient, wrongLead, notSquarefree, firstOf, testsOf, refusalOf}
 use Rattle.spec_definitions.specs.Walk.{partial, nextP, next, steps, walk, pBefore, constant?, firstFrom, quasiPeriod, degreeBefore, constantOf}
 use Rattle.spec_definitions.specs.Answers.{said, rootOf, outcomeOf, wordsOutcome}

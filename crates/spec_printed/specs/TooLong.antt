@@ -7,10 +7,10 @@ use mathlib.Core.Bool.{false}
 use mathlib.Core.List.{List, _++_}
 use lib.ListN.{length, drop, replicate, length-replicate}
 use borrow.Author.Tests.{le-leb, lt-leb}
-use Rattle.spec_definitions.specs.Field.{inverse, inverseIn, fits}
-use Rattle.spec_definitions.specs.Polynomials.{trim, size, deg, zip, add, sub, scale, mul, lead, put, divide, quo, rem, monic, gcd, gcdIn, times, timesFrom, derivative, monomial, root, rootIn}
-use Rattle.spec_definitions.specs.Primes.{oddPrime, noDivisor}
-use Rattle.spec_definitions.specs.Words.{kind, value, word, same, someNot, oneOf}
+use Rattle.spec_arithmetic.specs.Field.{inverse, inverseIn, fits}
+use Rattle.spec_arithmetic.specs.Polynomials.{trim, size, deg, zip, add, sub, scale, mul, lead, put, divide, quo, rem, monic, gcd, gcdIn, times, timesFrom, derivative, monomial, root, rootIn}
+use Rattle.spec_arithmetic.specs.Primes.{oddPrime, noDivisor}
+use Rattle.spec_arithmetic.specs.Words.{kind, value, word, same, someNot, oneOf}
 use Rattle.spec_definitions.specs.Ticket.{Ticket, genus, ticketOf, wrongHead, wrongPrime, wrongDegree, laterKinds, wrongLayout, wrongCoefficient, wrongLead, notSquarefree, firstOf, testsOf, refusalOf}
 use Rattle.spec_definitions.specs.Walk.{partial, nextP, next, steps, walk, pBefore, constant?, firstFrom, quasiPeriod, degreeBefore, constantOf}
 use Rattle.spec_definitions.specs.Answers.{found, refused, said, rootOf, outcomeOf, wordsOutcome}

@@ -14,8 +14,8 @@ use Rattle.math_ring.specs.Series.{Series, addS, negS, conv, con, conv-con, zer
 use Rattle.math_algebra.specs.Field.{Field}
 use Rattle.math_algebra.specs.Polynomial.{F, Px, Monic, monic-deg, deg-scale, deg-unique, deg-path, deg-not-zero}
 use Rattle.math_algebra.specs.Divides.{Divides as DividesIn, divides-monic, zero-divides}
-use Rattle.spec_definitions.specs.Field.{FieldName, ops, reading}
-use Rattle.spec_definitions.specs.Polynomials.{trim, size, deg, lead, add, sub, scale, mul, quo, rem, monic, gcd}
+use Rattle.spec_arithmetic.specs.Field.{FieldName, ops, reading}
+use Rattle.spec_arithmetic.specs.Polynomials.{trim, size, deg, lead, add, sub, scale, mul, quo, rem, monic, gcd}
 use Rattle.spec_definitions.specs.Ticket.{ticketOf, refusalOf}
 use Rattle.spec_bridge.specs.Model.{Model, Inverts, series, series-nil}
 use Rattle.spec_bridge.specs.Trim.{below-length, below-size, size-is, size-series, lead-is, lead-some}

@@ -12,8 +12,8 @@ use lib.ListN.{length}
 use Rattle.math_ring.specs.Order.{le-or-lt}
 use Rattle.math_algebra.specs.Field.{Field}
 use Rattle.math_algebra.specs.Polynomial.{F}
-use Rattle.spec_definitions.specs.Field.{reading}
-use Rattle.spec_definitions.specs.Polynomials.{trim, size, deg, lead, add, sub, scale, mul, quo, rem, monic}
+use Rattle.spec_arithmetic.specs.Field.{reading}
+use Rattle.spec_arithmetic.specs.Polynomials.{trim, size, deg, lead, add, sub, scale, mul, quo, rem, monic}
 use Rattle.spec_definitions.specs.Ticket.{Ticket, genus, ticketOf, refusalOf}
 use Rattle.spec_definitions.specs.Walk.{Ideal, partial, nextP, next, steps}
 use Rattle.spec_definitions.specs.Answers.{opsOf, rootOf}

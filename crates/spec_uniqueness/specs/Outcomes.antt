@@ -12,8 +12,8 @@ use lib.Dec.{eqb}
 use lib.ListN.{length, getD}
 use Rattle.math_algebra.specs.Field.{Field}
 use Rattle.math_algebra.specs.Polynomial.{F}
-use Rattle.spec_definitions.specs.Field.{FieldName, ops, reading}
-use Rattle.spec_definitions.specs.Polynomials.{size, deg, sub, root}
+use Rattle.spec_arithmetic.specs.Field.{FieldName, ops, reading}
+use Rattle.spec_arithmetic.specs.Polynomials.{size, deg, sub, root}
 use Rattle.spec_definitions.specs.Ticket.{Ticket, genus, ticketOf, refusalOf}
 use Rattle.spec_definitions.specs.Walk.{quasiPeriod, degreeBefore, constantOf}
 use Rattle.spec_definitions.specs.Walk as walk

@@ -12,8 +12,8 @@ use Rattle.math_ring.specs.Identity.{ring-from, times, plus, quote}
 use Rattle.math_ring.specs.Series.{Series, addS, negS, conv, zerS}
 use Rattle.math_algebra.specs.Field.{Field}
 use Rattle.math_algebra.specs.Polynomial.{F, Px, Monic, cancel, deg-mul, monic-deg, low-up, low-sub}
-use Rattle.spec_definitions.specs.Field.{FieldName, ops, reading}
-use Rattle.spec_definitions.specs.Polynomials.{trim, lead, add, sub, mul, quo}
+use Rattle.spec_arithmetic.specs.Field.{FieldName, ops, reading}
+use Rattle.spec_arithmetic.specs.Polynomials.{trim, lead, add, sub, mul, quo}
 use Rattle.spec_definitions.specs.Ticket.{genus, ticketOf, refusalOf}
 use Rattle.spec_definitions.specs.Walk.{Ideal}
 use Rattle.spec_definitions.specs.Products.{Product, ProductAnswer, productDone, productAnswer}

@@ -18,9 +18,9 @@ use Rattle.math_algebra.specs.Field.{Field}
 use Rattle.math_algebra.specs.Polynomial.{F, Px, Monic, low-sub, monic-deg}
 use Rattle.math_algebra.specs.Divides.{Divides as DividesK, divides-sub, divides-path, rigid}
 use Rattle.math_algebra.specs.Associate.{Associate, associate-sym, associate-trans, associate-monic-equal}
-use Rattle.spec_definitions.specs.Field.{FieldName, ops}
-use Rattle.spec_definitions.specs.Polynomials.{trim, size, lead, sub, scale}
-use Rattle.spec_definitions.specs.Words.{kind, value, joined}
+use Rattle.spec_arithmetic.specs.Field.{FieldName, ops}
+use Rattle.spec_arithmetic.specs.Polynomials.{trim, size, lead, sub, scale}
+use Rattle.spec_arithmetic.specs.Words.{kind, value, joined}
 use Rattle.spec_definitions.specs.Ticket.{Ticket, genus, ticketOf, refusalOf}
 use Rattle.spec_definitions.specs.Walk as walk
 use Rattle.spec_definitions.specs.Answers.{found, said, opsOf, rootOf, wordsOutcome}

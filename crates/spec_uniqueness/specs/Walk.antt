@@ -11,8 +11,8 @@ use Rattle.math_ring.specs.Identity.{ring, quote}
 use Rattle.math_ring.specs.Series.{Series, addS, conv}
 use Rattle.math_algebra.specs.Field.{Field}
 use Rattle.math_algebra.specs.Polynomial.{F}
-use Rattle.spec_definitions.specs.Field.{FieldName, ops, reading}
-use Rattle.spec_definitions.specs.Polynomials.{trim, size, add, sub, mul, root}
+use Rattle.spec_arithmetic.specs.Field.{FieldName, ops, reading}
+use Rattle.spec_arithmetic.specs.Polynomials.{trim, size, add, sub, mul, root}
 use Rattle.spec_definitions.specs.Ticket.{genus, ticketOf, refusalOf}
 use Rattle.spec_definitions.specs.Walk.{Ideal, partial, nextP, next, steps}
 use Rattle.spec_definitions.specs.Walk as walk

@@ -4,8 +4,8 @@ use native.Mathlib.Omega.{arith}
 use mathlib.Core.Path.{_≡_, sym, ap, _∙_, subst}
 use mathlib.Core.List.{List}
 use lib.ListN.{length}
-use Rattle.spec_definitions.specs.Field.{FieldName}
-use Rattle.spec_definitions.specs.Words.{values}
+use Rattle.spec_arithmetic.specs.Field.{FieldName}
+use Rattle.spec_arithmetic.specs.Words.{values}
 use Rattle.spec_definitions.specs.Ticket.{Ticket, ticket, genus, ticketOf, refusalOf}
 use Rattle.spec_laws.specs.Admitted.{Admitted, is-field, admitted, passed, degree-of, budget-less}
 use Rattle.base_field.specs.Named.{name, IsField}

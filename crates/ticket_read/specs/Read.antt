@@ -3,7 +3,7 @@ use Prim.Native.Nat.{ℕ, zero, suc}
 use native.Mathlib.Omega.{arith}
 use mathlib.Core.Path.{_≡_, refl, sym, ap, _∙_, subst, subst₂}
 use mathlib.Core.List.{List, []}
-use Rattle.spec_definitions.specs.Field.{prime}
+use Rattle.spec_arithmetic.specs.Field.{prime}
 use Rattle.spec_definitions.specs.Ticket.{Ticket, ticket, ticketOf, refusalOf}
 use Rattle.base_field.specs.Named.{name, IsField}
 use Rattle.base_polynomial.specs.declared.Poly.{Poly}

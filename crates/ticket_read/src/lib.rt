@@ -3,7 +3,7 @@
 ghost use mathlib.Core.Path.{_≡_};
 ghost use Prim.Native.Nat.{_+_, _<_, _≤_};
 ghost use lib.ListN.{length, getD};
-ghost use Rattle.spec_definitions.specs.Words.{value as valueOf};
+ghost use Rattle.spec_arithmetic.specs.Words.{value as valueOf};
 ghost use Rattle.spec_definitions.specs.Ticket.{ticket, firstOf};
 ghost use Rattle.base_field.specs.Named.{name, IsField};
 ghost use Rattle.ticket_tests.specs.Radicand.{coefficients};

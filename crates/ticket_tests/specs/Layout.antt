@@ -6,7 +6,7 @@ use mathlib.Core.Bool.{true, false}
 use mathlib.Core.List.{List, map}
 use lib.ListN.{length, getD, drop, length-map, length-drop, List·getD-map}
 use lib.Seq.{ext-getD, getD-drop}
-use Rattle.spec_definitions.specs.Words.{kind, same}
+use Rattle.spec_arithmetic.specs.Words.{kind, same}
 use Rattle.spec_definitions.specs.Ticket.{laterKinds}
 use Rattle.spec_lists.specs.Same.{same-refl, same-not}
 use Rattle.spec_lists.specs.Layout.{length-later}

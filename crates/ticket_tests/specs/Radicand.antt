@@ -8,9 +8,9 @@ use mathlib.Core.List.{List, [], _∷_, map}
 use lib.ListN.{length, getD, take, drop, length-map, length-drop, List·getD-map}
 use lib.Seq.{length-take-le, getD-take, getD-drop}
 use borrow.Author.Tests.{ne-eqb}
-use Rattle.spec_definitions.specs.Field.{Ops, FieldName, ops, fits}
-use Rattle.spec_definitions.specs.Polynomials.{at, keep, cons, trim}
-use Rattle.spec_definitions.specs.Words.{value, someNot}
+use Rattle.spec_arithmetic.specs.Field.{Ops, FieldName, ops, fits}
+use Rattle.spec_arithmetic.specs.Polynomials.{at, keep, cons, trim}
+use Rattle.spec_arithmetic.specs.Words.{value, someNot}
 use Rattle.spec_definitions.specs.Ticket.{wrongCoefficient, wrongLead}
 use Rattle.spec_fields.specs.Named.{IsField, Ok, ok-fits, ok-zero}
 use Rattle.spec_laws.specs.Admitted.{below-of, lead-of}

@@ -6,8 +6,8 @@ use mathlib.Core.Bool.{Bool, true, false}
 use mathlib.Core.List.{List, [], _∷_, _++_}
 use lib.ListN.{length, getD}
 use borrow.Author.Tests.{ltb-false, eqb-true, not-false}
-use Rattle.spec_definitions.specs.Field.{FieldName, prime}
-use Rattle.spec_definitions.specs.Words.{value}
+use Rattle.spec_arithmetic.specs.Field.{FieldName, prime}
+use Rattle.spec_arithmetic.specs.Words.{value}
 use Rattle.spec_definitions.specs.Ticket.{Ticket, ticket, ticketOf, wrongHead, wrongPrime, wrongDegree, wrongLayout, wrongCoefficient, wrongLead, notSquarefree, firstOf, testsOf, refusalOf}
 use Rattle.spec_laws.specs.Admitted.{degree-of}
 use Rattle.ticket_tests.specs.Any.{none-first}

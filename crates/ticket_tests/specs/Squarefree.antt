@@ -6,8 +6,8 @@ use mathlib.Core.Bool.{not}
 use mathlib.Core.List.{List}
 use lib.Dec.{eqb}
 use lib.ListN.{length}
-use Rattle.spec_definitions.specs.Field.{FieldName, ops}
-use Rattle.spec_definitions.specs.Polynomials.{size, gcd, derivative}
+use Rattle.spec_arithmetic.specs.Field.{FieldName, ops}
+use Rattle.spec_arithmetic.specs.Polynomials.{size, gcd, derivative}
 use Rattle.spec_definitions.specs.Ticket.{notSquarefree}
 use Rattle.spec_bridge.specs.Prime.{Prime}
 use Rattle.spec_bridge.specs.Residues.{model, inverts}

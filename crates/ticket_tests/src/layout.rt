@@ -4,7 +4,7 @@ ghost use mathlib.Core.Bool.{not};
 ghost use mathlib.Core.List.{map};
 ghost use Prim.Native.Nat.{_+_, _<_, _≤_};
 ghost use lib.ListN.{length, getD, drop};
-ghost use Rattle.spec_definitions.specs.Words.{kind as kindOf, same};
+ghost use Rattle.spec_arithmetic.specs.Words.{kind as kindOf, same};
 ghost use Rattle.spec_definitions.specs.Ticket.{laterKinds, wrongLayout};
 use base_words::kind;
 use base_words::value;

@@ -6,8 +6,8 @@ use native.Mathlib.Omega.{arith}
 use mathlib.Core.Path.{_≡_, refl, ap, _∙_}
 use mathlib.Core.List.{List, [], _∷_, _++_}
 use lib.ListN.{length, drop}
-use Rattle.spec_definitions.specs.Field.{prime, modulo}
-use Rattle.spec_definitions.specs.Polynomials.{pad}
+use Rattle.spec_arithmetic.specs.Field.{prime, modulo}
+use Rattle.spec_arithmetic.specs.Polynomials.{pad}
 use Rattle.spec_definitions.specs.Ticket.{genus, ticket}
 use Rattle.spec_definitions.specs.Walk.{pBefore, sBefore, degreeBefore, unitOf}
 use Rattle.spec_definitions.specs.Answers.{rootOf}

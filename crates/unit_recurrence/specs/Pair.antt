@@ -7,8 +7,8 @@ use native.Mathlib.Omega.{arith}
 use mathlib.Core.Path.{_≡_, refl, sym, ap, subst, fun-ext}
 use mathlib.Core.List.{List}
 use lib.ListN.{length, getD}
-use Rattle.spec_definitions.specs.Field.{FieldName, prime, ops, modulo}
-use Rattle.spec_definitions.specs.Polynomials.{add, mul}
+use Rattle.spec_arithmetic.specs.Field.{FieldName, prime, ops, modulo}
+use Rattle.spec_arithmetic.specs.Polynomials.{add, mul}
 use Rattle.spec_bridge.specs.Arithmetic.{mul-cong}
 use Rattle.spec_bridge.specs.Residues.{model}
 use Rattle.unit_recurrence.specs.Written.{Written}

@@ -7,7 +7,7 @@ use mathlib.Core.Path.{_≡_, sym, ap, _∙_, subst, subst₂}
 use mathlib.Core.Logic.{⊎-elim}
 use mathlib.Core.List.{List, [], _∷_}
 use lib.ListN.{length, getD}
-use Rattle.spec_definitions.specs.Field.{FieldName, prime, ops, modulo}
+use Rattle.spec_arithmetic.specs.Field.{FieldName, prime, ops, modulo}
 use Rattle.spec_definitions.specs.Walk.{pBefore, sBefore, degreeBefore, a}
 use Rattle.spec_bridge.specs.Residues.{pos}
 use Rattle.spec_laws.specs.Admitted.{Admitted, surd-of}

@@ -8,8 +8,8 @@ use Rattle.math_ring.specs.Ring.{CRing}
 use Rattle.math_ring.specs.Series.{Series}
 use Rattle.math_algebra.specs.Field.{Field}
 use Rattle.math_algebra.specs.Polynomial.{F, Px}
-use Rattle.spec_definitions.specs.Field.{Ops}
-use Rattle.spec_definitions.specs.Polynomials.{add, mul}
+use Rattle.spec_arithmetic.specs.Field.{Ops}
+use Rattle.spec_arithmetic.specs.Polynomials.{add, mul}
 use Rattle.spec_definitions.specs.Walk.{pBefore, sBefore, degreeBefore}
 use Rattle.spec_definitions.specs.Walk as lists
 use Rattle.spec_bridge.specs.Model.{Model, Oks, series, series-nil}

@@ -8,8 +8,8 @@ use mathlib.Core.List.{List}
 use lib.ListN.{length, getD, take, length-take, List·getD-eq-default}
 use lib.Seq.{getD-take}
 use Rattle.math_ring.specs.Order.{le-or-lt}
-use Rattle.spec_definitions.specs.Field.{FieldName, prime, ops, modulo}
-use Rattle.spec_definitions.specs.Polynomials.{add, mul}
+use Rattle.spec_arithmetic.specs.Field.{FieldName, prime, ops, modulo}
+use Rattle.spec_arithmetic.specs.Polynomials.{add, mul}
 use Rattle.spec_bridge.specs.Arithmetic.{at-add}
 use Rattle.spec_bridge.specs.Product.{dots, dots-bound, dots-mul}
 use Rattle.spec_bridge.specs.Residues.{model}

@@ -8,8 +8,8 @@ use lib.ListN.{length, getD, set, drop, length-set, length-append, length-drop, 
 use lib.Seq.{getD-set-same, getD-set-other, getD-append-add, getD-drop, ext-getD}
 use borrow.Author.Count.{below-more}
 use Rattle.math_ring.specs.Order.{le-or-lt}
-use Rattle.spec_definitions.specs.Field.{modulo}
-use Rattle.spec_definitions.specs.Polynomials.{pad}
+use Rattle.spec_arithmetic.specs.Field.{modulo}
+use Rattle.spec_arithmetic.specs.Polynomials.{pad}
 use Rattle.base_polynomial.specs.Pad.{length-pad, at-pad}
 
 pub record Written (k : ℕ) (l old list : List ℕ) : Type 0 where

@@ -3,7 +3,7 @@ ghost use mathlib.Core.Path.{_≡_};
 ghost use mathlib.Core.List.{[]};
 ghost use Prim.Native.Nat.{_+_, _<_, _≤_};
 ghost use lib.ListN.{length};
-ghost use Rattle.spec_definitions.specs.Polynomials.{add, mul};
+ghost use Rattle.spec_arithmetic.specs.Polynomials.{add, mul};
 ghost use Rattle.base_field.specs.Named.{IsField, name, ops};
 ghost use Rattle.base_polynomial.specs.Places.{Within};
 ghost use Rattle.unit_recurrence.specs.Written.{Written};

@@ -4,8 +4,8 @@ use native.Mathlib.Omega.{arith}
 use mathlib.Core.Path.{_≡_, sym, ap, _∙_}
 use mathlib.Core.List.{List}
 use mathlib.Core.Option.{Option, none, some}
-use Rattle.spec_definitions.specs.Field.{FieldName, ops}
-use Rattle.spec_definitions.specs.Words.{values}
+use Rattle.spec_arithmetic.specs.Field.{FieldName, ops}
+use Rattle.spec_arithmetic.specs.Words.{values}
 use Rattle.spec_definitions.specs.Ticket.{ticket, genus}
 use Rattle.spec_definitions.specs.Walk.{quasiPeriod, degreeBefore, constantOf}
 use Rattle.spec_definitions.specs.Answers.{Outcome, found, spent, outcomeOf, rootOf}

@@ -7,7 +7,7 @@ use mathlib.Core.Option.{Option, none, some}
 use lib.Dec.{eqb}
 use lib.ListN.{getD}
 use borrow.Author.Tests.{eqb-true, eqb-false}
-use Rattle.spec_definitions.specs.Field.{FieldName, prime, ops, modulo}
+use Rattle.spec_arithmetic.specs.Field.{FieldName, prime, ops, modulo}
 use Rattle.spec_definitions.specs.Ticket.{genus}
 use Rattle.spec_definitions.specs.Walk.{Q, degreeBefore, constantOf}
 use Rattle.spec_definitions.specs.Answers.{found, spent, refused, rootOf, outcomeOf}

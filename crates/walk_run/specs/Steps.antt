@@ -5,7 +5,7 @@ use native.Mathlib.Omega.{arith}
 use mathlib.Core.Path.{_≡_, sym, ap, ap₂, _∙_, subst}
 use mathlib.Core.List.{List}
 use lib.ListN.{getD}
-use Rattle.spec_definitions.specs.Field.{FieldName, prime, ops}
+use Rattle.spec_arithmetic.specs.Field.{FieldName, prime, ops}
 use Rattle.spec_definitions.specs.Ticket.{genus}
 use Rattle.spec_definitions.specs.Walk.{Q, degreeBefore}
 use Rattle.spec_definitions.specs.Answers.{found, spent, outcomeOf}

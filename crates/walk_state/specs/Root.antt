@@ -10,8 +10,8 @@ use mathlib.Core.List.{List}
 use lib.ListN.{length, getD, take, set, length-set, List·getD-eq-default}
 use lib.Seq.{getD-set-same, getD-set-other, getD-take, length-take-le, ext-getD}
 use Rattle.math_ring.specs.Order.{le-or-lt}
-use Rattle.spec_definitions.specs.Field.{prime, modulo}
-use Rattle.spec_definitions.specs.Polynomials.{pad, add, sub, mul, monomial, rootIn, root}
+use Rattle.spec_arithmetic.specs.Field.{prime, modulo}
+use Rattle.spec_arithmetic.specs.Polynomials.{pad, add, sub, mul, monomial, rootIn, root}
 use Rattle.spec_bridge.specs.Model.{series, add-zer-right}
 use Rattle.spec_bridge.specs.Trim.{length-trim}
 use Rattle.spec_bridge.specs.Arithmetic.{at-add, at-sub, mul-cong}

@@ -7,8 +7,8 @@ use mathlib.Core.Path.{_≡_, sym, ap, _∙_, subst}
 use mathlib.Core.List.{List, [], _∷_}
 use lib.ListN.{length, getD, set}
 use lib.Seq.{ext-getD}
-use Rattle.spec_definitions.specs.Field.{prime, FieldName, ops, modulo}
-use Rattle.spec_definitions.specs.Polynomials.{trim, pad, add, root}
+use Rattle.spec_arithmetic.specs.Field.{prime, FieldName, ops, modulo}
+use Rattle.spec_arithmetic.specs.Polynomials.{trim, pad, add, root}
 use Rattle.spec_definitions.specs.Ticket.{genus}
 use Rattle.spec_bridge.specs.Arithmetic.{at-add}
 use Rattle.spec_bridge.specs.Lengths.{length-add}

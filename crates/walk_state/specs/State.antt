@@ -6,8 +6,8 @@ use mathlib.Core.Path.{_≡_, sym, ap, ap₂, _∙_, fun-ext, subst, subst₂}
 use mathlib.Core.List.{List, [], _∷_}
 use lib.ListN.{length, getD, List·getD-eq-default}
 use Rattle.math_ring.specs.Residues.{FqRing}
-use Rattle.spec_definitions.specs.Field.{FieldName, prime, ops, modulo}
-use Rattle.spec_definitions.specs.Polynomials.{trim, pad, add, sub, quo, root}
+use Rattle.spec_arithmetic.specs.Field.{FieldName, prime, ops, modulo}
+use Rattle.spec_arithmetic.specs.Polynomials.{trim, pad, add, sub, quo, root}
 use Rattle.spec_definitions.specs.Walk.{Q}
 use Rattle.spec_bridge.specs.Model.{Model, Inverts, series}
 use Rattle.spec_bridge.specs.Arithmetic.{add-cong, sub-cong, mul-cong, oks-add}

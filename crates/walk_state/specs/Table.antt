@@ -7,7 +7,7 @@ use mathlib.Core.List.{List}
 use lib.ListN.{length, getD, set, length-set, replicate, length-replicate, getD-replicate}
 use lib.Seq.{getD-set-same, getD-set-other}
 use borrow.Author.Count.{below-more}
-use Rattle.spec_definitions.specs.Field.{inverse}
+use Rattle.spec_arithmetic.specs.Field.{inverse}
 use Rattle.spec_bridge.specs.Residues.{inverse-one, inverse-more}
 
 -- 4,096 entries, of which those below n are inverses modulo q

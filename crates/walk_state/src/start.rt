@@ -2,7 +2,7 @@
 ghost use mathlib.Core.Path.{_≡_};
 ghost use Prim.Native.Nat.{ℕ, _+_, _<_, _≤_};
 ghost use lib.ListN.{getD};
-ghost use Rattle.spec_definitions.specs.Polynomials.{pad, mul as mulOf, root as rootOf};
+ghost use Rattle.spec_arithmetic.specs.Polynomials.{pad, mul as mulOf, root as rootOf};
 ghost use Rattle.spec_definitions.specs.Ticket.{genus};
 ghost use Rattle.spec_laws.specs.Admitted.{Admitted};
 ghost use Rattle.base_field.specs.Named.{IsField, name, ops};

@@ -8,8 +8,8 @@ use Rattle.math_ring.specs.Ring.{CRing}
 use Rattle.math_ring.specs.Identity.{ring, ring-from, times, plus, quote}
 use Rattle.math_ring.specs.Residues.{Fq, FqRing, to}
 use Rattle.math_ring.specs.Series.{S, Series, addS, conv, negS}
-use Rattle.spec_definitions.specs.Field.{modulo}
-use Rattle.spec_definitions.specs.Polynomials.{add, sub, mul}
+use Rattle.spec_arithmetic.specs.Field.{modulo}
+use Rattle.spec_arithmetic.specs.Polynomials.{add, sub, mul}
 use Rattle.spec_bridge.specs.Model.{Model, series}
 use Rattle.spec_bridge.specs.Residues.{model, to-path, to-add, to-mod, to-sub}
 use Rattle.spec_bridge.specs.Arithmetic.{series-add, series-sub, series-mul, oks-add, oks-sub}

@@ -7,8 +7,8 @@ use mathlib.Core.Path.{_≡_, refl, sym, ap, ap₂, _∙_}
 use mathlib.Core.List.{List, [], _∷_}
 use lib.ListN.{getD}
 use Rattle.math_ring.specs.Residues.{mod-mul-mod, mul-mod-mod}
-use Rattle.spec_definitions.specs.Field.{prime, modulo, inverse}
-use Rattle.spec_definitions.specs.Polynomials.{add, sub, mul}
+use Rattle.spec_arithmetic.specs.Field.{prime, modulo, inverse}
+use Rattle.spec_arithmetic.specs.Polynomials.{add, sub, mul}
 use Rattle.spec_bridge.specs.Prime.{Prime}
 use Rattle.spec_bridge.specs.Product.{shifted, rows, rows-mul}
 use Rattle.base_polynomial.specs.Row.{Ends}

@@ -10,8 +10,8 @@ use Rattle.math_ring.specs.Identity.{ring, ring-from, times, quote}
 use Rattle.math_ring.specs.Residues.{Fq, FqRing, to}
 use Rattle.math_ring.specs.Series.{S, Series, addS, conv, negS}
 use Rattle.math_ring.specs.Degree.{Below, lead-conv}
-use Rattle.spec_definitions.specs.Field.{prime, modulo, inverse}
-use Rattle.spec_definitions.specs.Polynomials.{add, sub, mul}
+use Rattle.spec_arithmetic.specs.Field.{prime, modulo, inverse}
+use Rattle.spec_arithmetic.specs.Polynomials.{add, sub, mul}
 use Rattle.spec_bridge.specs.Model.{Model, series}
 use Rattle.spec_bridge.specs.Prime.{Prime}
 use Rattle.spec_bridge.specs.Residues.{model, inverts, to-mul, to-mod}

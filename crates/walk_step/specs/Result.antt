@@ -4,8 +4,8 @@ use native.Mathlib.Omega.{arith}
 use mathlib.Core.Path.{_≡_, refl, sym, ap, _∙_, subst}
 use mathlib.Core.List.{List}
 use lib.ListN.{length, getD, List·getD-eq-default}
-use Rattle.spec_definitions.specs.Field.{prime, modulo}
-use Rattle.spec_definitions.specs.Polynomials.{trim, add, sub, mul}
+use Rattle.spec_arithmetic.specs.Field.{prime, modulo}
+use Rattle.spec_arithmetic.specs.Polynomials.{trim, add, sub, mul}
 use Rattle.spec_bridge.specs.Prime.{Prime}
 use Rattle.spec_bridge.specs.Arithmetic.{trim-add}
 use Rattle.spec_bridge.specs.Residues.{model}

@@ -6,8 +6,8 @@ use mathlib.Core.Logic.{⊎-elim}
 use mathlib.Core.List.{List}
 use lib.ListN.{length, getD, List·getD-eq-default}
 use Rattle.math_ring.specs.Order.{le-or-lt}
-use Rattle.spec_definitions.specs.Field.{prime, modulo}
-use Rattle.spec_definitions.specs.Polynomials.{trim, sub}
+use Rattle.spec_arithmetic.specs.Field.{prime, modulo}
+use Rattle.spec_arithmetic.specs.Polynomials.{trim, sub}
 use Rattle.spec_bridge.specs.Prime.{Prime}
 use Rattle.spec_bridge.specs.Trim.{trim-le, trim-past}
 use Rattle.spec_bridge.specs.Arithmetic.{trim-sub}

@@ -4,8 +4,8 @@ use mathlib.Core.Path.{_≡_}
 use mathlib.Core.List.{List}
 use Prim.Native.Nat.{ℕ, _-_, _<_, _≤_}
 use lib.ListN.{length, getD}
-use Rattle.spec_definitions.specs.Field.{FieldName, ops}
-use Rattle.spec_definitions.specs.Polynomials.{add, sub, mul, quo, rem, pad}
+use Rattle.spec_arithmetic.specs.Field.{FieldName, ops}
+use Rattle.spec_arithmetic.specs.Polynomials.{add, sub, mul, quo, rem, pad}
 use Rattle.base_polynomial.specs.Places.{Places, Within}
 
 module _ (f : FieldName) where

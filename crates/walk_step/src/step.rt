@@ -5,7 +5,7 @@
 ghost use mathlib.Core.Path.{_≡_};
 ghost use Prim.Native.Nat.{ℕ, _+_, _-_, _<_, _≤_};
 ghost use lib.ListN.{length, getD};
-ghost use Rattle.spec_definitions.specs.Polynomials.{add, sub, mul};
+ghost use Rattle.spec_arithmetic.specs.Polynomials.{add, sub, mul};
 ghost use Rattle.base_field.specs.Named.{IsField, name, ops};
 ghost use Rattle.base_polynomial.specs.Places.{Places, Within};
 ghost use Rattle.base_polynomial.specs.Row.{Bounded};

@@ -3,7 +3,7 @@ use Prim.Native.Nat.{ℕ, _+_, _-_, _<_, _≤_}
 use mathlib.Core.Path.{_≡_}
 use mathlib.Core.List.{List}
 use lib.ListN.{getD, set}
-use Rattle.spec_definitions.specs.Field.{FieldName}
+use Rattle.spec_arithmetic.specs.Field.{FieldName}
 use Rattle.base_polynomial.specs.Places.{zeros}
 use Rattle.walk_step.specs.Step.{Inverses, Ready, Stepped}
 use Rattle.walk_stride.specs.declared.Progress.{Progress}

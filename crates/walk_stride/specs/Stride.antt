@@ -7,7 +7,7 @@ use mathlib.Core.Path.{_≡_, sym, ap, _∙_, subst}
 use mathlib.Core.Logic.{⊎-elim}
 use mathlib.Core.List.{List}
 use lib.ListN.{length, getD}
-use Rattle.spec_definitions.specs.Field.{prime, modulo}
+use Rattle.spec_arithmetic.specs.Field.{prime, modulo}
 use Rattle.spec_definitions.specs.Walk.{Q, degreeBefore}
 use Rattle.spec_laws.specs.Admitted.{Admitted, surd-of}
 use Rattle.spec_laws.specs.Fraction.{Q-length}

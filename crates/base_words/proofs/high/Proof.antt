@@ -2,7 +2,7 @@
 use mathlib.Core.Path.{refl}
 use native.Mathlib.Omega.{arith}
 use borrow.Author.Needs.{needs}
-use Rattle.spec_definitions.specs.Words.{high}
+use Rattle.spec_arithmetic.specs.Words.{high}
 use Rattle.base_words.proofs.high.Statement.{statement}
 use Rattle.base_words.proofs.high.Tie as tie
 

@@ -1,7 +1,7 @@
 -- Two numbers of 32 bits fit into 60.
 use mathlib.Core.Path.{refl}
 use borrow.Author.Needs.{needs}
-use Rattle.spec_definitions.specs.Words.{joined}
+use Rattle.spec_arithmetic.specs.Words.{joined}
 use Rattle.base_words.proofs.joined.Statement.{statement}
 use Rattle.base_words.proofs.joined.Tie as tie
 

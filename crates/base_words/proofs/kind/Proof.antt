@@ -1,6 +1,6 @@
 -- The kind is the quotient by 2^28.
 use mathlib.Core.Path.{refl}
-use Rattle.spec_definitions.specs.Words.{kind}
+use Rattle.spec_arithmetic.specs.Words.{kind}
 use Rattle.base_words.proofs.kind.Statement.{statement}
 use Rattle.base_words.proofs.kind.Tie as tie
 

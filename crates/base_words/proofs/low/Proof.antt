@@ -2,7 +2,7 @@
 use mathlib.Core.Path.{refl}
 use native.Mathlib.Omega.{arith}
 use borrow.Author.Needs.{needs}
-use Rattle.spec_definitions.specs.Words.{low}
+use Rattle.spec_arithmetic.specs.Words.{low}
 use Rattle.base_words.proofs.low.Statement.{statement}
 use Rattle.base_words.proofs.low.Tie as tie
 

@@ -1,6 +1,6 @@
 -- The value is the remainder by 2^28.
 use mathlib.Core.Path.{refl}
-use Rattle.spec_definitions.specs.Words.{value}
+use Rattle.spec_arithmetic.specs.Words.{value}
 use Rattle.base_words.proofs.value.Statement.{statement}
 use Rattle.base_words.proofs.value.Tie as tie
 

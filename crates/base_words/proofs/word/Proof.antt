@@ -1,7 +1,7 @@
 -- A kind below 16 and a value below 2^28 fit into 32 bits.
 use mathlib.Core.Path.{refl}
 use borrow.Author.Needs.{needs}
-use Rattle.spec_definitions.specs.Words.{word}
+use Rattle.spec_arithmetic.specs.Words.{word}
 use Rattle.base_words.proofs.word.Statement.{statement}
 use Rattle.base_words.proofs.word.Tie as tie
 

@@ -1,7 +1,7 @@
 -- The number of two words' values.
 use mathlib.Core.Path.{ap₂, _∙_}
 use borrow.Author.Needs.{needs}
-use Rattle.spec_definitions.specs.Words.{joined}
+use Rattle.spec_arithmetic.specs.Words.{joined}
 use Rattle.call_lookup.specs.Passes.{distanceFrom}
 use Rattle.call_lookup.proofs.distance_at.Statement.{statement}
 use Rattle.call_lookup.proofs.distance_at.Tie as tie

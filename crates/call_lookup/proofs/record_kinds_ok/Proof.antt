@@ -6,7 +6,7 @@ use lib.ListN.{getD}
 use borrow.Author.Count.{below-more}
 use borrow.Author.Needs.{needs}
 use borrow.Author.Tests.{eqb-true, eqb-false, not-true, not-false}
-use Rattle.spec_definitions.specs.Words.{kind}
+use Rattle.spec_arithmetic.specs.Words.{kind}
 use Rattle.spec_definitions.specs.Lookup.{recordKinds}
 use Rattle.call_lookup.specs.Kinds.{Allowed, allowed, kinds-right, kinds-wrong}
 use Rattle.call_lookup.proofs.record_kinds_ok.Statement.{statement}

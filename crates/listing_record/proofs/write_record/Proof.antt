@@ -1,7 +1,7 @@
 -- The ideal in 129 places gives the same words as the ideal itself.
 use native.Mathlib.Omega.{arith}
-use Rattle.spec_definitions.specs.Field.{modulo}
-use Rattle.spec_definitions.specs.Polynomials.{sub}
+use Rattle.spec_arithmetic.specs.Field.{modulo}
+use Rattle.spec_arithmetic.specs.Polynomials.{sub}
 use Rattle.listing_record.specs.Remainder.{monic-result, remainder-held, value-fits}
 use Rattle.listing_record.specs.Entry.{record-written}
 use borrow.Author.Needs.{needs}

@@ -2,8 +2,8 @@
 use mathlib.Core.Path.{_≡_, sym, _∙_}
 use mathlib.Core.Bool.{true}
 use native.Mathlib.Omega.{arith}
-use Rattle.spec_definitions.specs.Primes.{oddPrime}
-use Rattle.spec_definitions.specs.Field.{prime}
+use Rattle.spec_arithmetic.specs.Primes.{oddPrime}
+use Rattle.spec_arithmetic.specs.Field.{prime}
 use Rattle.spec_bridge.specs.Prime.{odd-prime-true, odd-prime-more}
 use Rattle.spec_fields.specs.Named.{IsField}
 use Rattle.base_field.specs.Named.{made}

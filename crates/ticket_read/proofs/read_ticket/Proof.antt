@@ -7,8 +7,8 @@ use mathlib.Core.List.{List, [], _∷_}
 use lib.ListN.{length, getD}
 use denote.Ref.{now}
 use borrow.Author.Needs.{needs}
-use Rattle.spec_definitions.specs.Field.{FieldName, prime}
-use Rattle.spec_definitions.specs.Words.{value}
+use Rattle.spec_arithmetic.specs.Field.{FieldName, prime}
+use Rattle.spec_arithmetic.specs.Words.{value}
 use Rattle.spec_definitions.specs.Ticket.{ticket, wrongHead, firstOf}
 use Rattle.spec_laws.specs.Admitted.{field-of}
 use Rattle.base_field.specs.Named.{IsField, made}

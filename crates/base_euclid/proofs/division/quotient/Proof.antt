@@ -4,8 +4,8 @@ use Prim.Native.Nat.{ℕ, _≤_, _<_, _+_, _-_, _*_}
 use native.Mathlib.Nat.{mod-lt, mul-le-mul}
 use native.Mathlib.Omega.{arith}
 use lib.ListN.{getD, take}
-use Rattle.spec_definitions.specs.Field.{modulo}
-use Rattle.spec_definitions.specs.Polynomials.{quo}
+use Rattle.spec_arithmetic.specs.Field.{modulo}
+use Rattle.spec_arithmetic.specs.Polynomials.{quo}
 use Rattle.spec_bridge.specs.Residues.{inverse-lt}
 use Rattle.base_polynomial.specs.Linear.{held-within}
 use Rattle.base_euclid.specs.Down.{Down, down-none, down-more, down-all}

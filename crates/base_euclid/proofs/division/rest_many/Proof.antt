@@ -4,7 +4,7 @@ use Prim.Native.Nat.{ℕ, _<_}
 use native.Mathlib.Nat.{mod-lt}
 use native.Mathlib.Omega.{arith}
 use lib.ListN.{getD}
-use Rattle.spec_definitions.specs.Field.{modulo}
+use Rattle.spec_arithmetic.specs.Field.{modulo}
 use borrow.Author.Needs.{needs}
 use Rattle.base_euclid.proofs.division.rest_many.Statement.{statement}
 use Rattle.base_euclid.proofs.division.rest_many.Tie as tie

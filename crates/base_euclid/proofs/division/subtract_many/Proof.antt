@@ -3,8 +3,8 @@ use mathlib.Core.Path.{_≡_, sym, ap, _∙_, subst}
 use Prim.Native.Nat.{ℕ, _≤_, _<_, _-_}
 use native.Mathlib.Omega.{arith}
 use lib.ListN.{getD}
-use Rattle.spec_definitions.specs.Field.{modulo}
-use Rattle.spec_definitions.specs.Polynomials.{mul}
+use Rattle.spec_arithmetic.specs.Field.{modulo}
+use Rattle.spec_arithmetic.specs.Polynomials.{mul}
 use Rattle.base_places.specs.Dots.{mul-past}
 use Rattle.base_places.specs.Zeros.{sub-zeros}
 use Rattle.base_euclid.specs.Passed.{Passed, passed-none, passed-more, passed-all}

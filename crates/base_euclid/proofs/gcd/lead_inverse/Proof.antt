@@ -3,7 +3,7 @@ use mathlib.Core.Path.{_≡_, sym, ap, _∙_}
 use Prim.Native.Nat.{ℕ, suc, _-_}
 use native.Mathlib.Nat.{zero-mod}
 use native.Mathlib.Omega.{arith}
-use Rattle.spec_definitions.specs.Field.{modulo, inverseIn, inverse}
+use Rattle.spec_arithmetic.specs.Field.{modulo, inverseIn, inverse}
 use Rattle.base_polynomial.specs.Linear.{held-within, lead-place}
 use borrow.Author.Needs.{needs}
 use Rattle.base_euclid.proofs.gcd.lead_inverse.Statement.{statement}

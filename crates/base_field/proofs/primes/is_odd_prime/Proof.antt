@@ -6,7 +6,7 @@ use mathlib.Core.Logic.{⊎-elim}
 use lib.ListN.{getD}
 use borrow.Author.Needs.{needs}
 use Rattle.math_ring.specs.Order.{le-or-lt}
-use Rattle.spec_definitions.specs.Primes.{oddPrime}
+use Rattle.spec_arithmetic.specs.Primes.{oddPrime}
 use Rattle.base_field.specs.Primes.{primes, less-from, more-from, not-listed, prime-listed}
 use Rattle.base_field.proofs.primes.is_odd_prime.Statement.{statement}
 use Rattle.base_field.proofs.primes.is_odd_prime.Tie as tie

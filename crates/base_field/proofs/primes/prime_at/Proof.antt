@@ -1,7 +1,7 @@
 -- The table is the list of the odd primes: one computed test.
 use mathlib.Core.Path.{refl}
 use borrow.Author.Needs.{needs}
-use Rattle.spec_definitions.specs.Primes.{oddPrime, noDivisor}
+use Rattle.spec_arithmetic.specs.Primes.{oddPrime, noDivisor}
 use Rattle.base_field.specs.Primes.{primes, passing}
 use Rattle.base_field.proofs.primes.prime_at.Statement.{statement}
 use Rattle.base_field.proofs.primes.prime_at.Tie as tie

@@ -5,7 +5,7 @@ use mathlib.Core.Path.{_≡_}
 use lib.ListN.{getD}
 use borrow.Author.Needs.{needs}
 use Rattle.base_places.specs.Zeros.{add-zeros}
-use Rattle.spec_definitions.specs.Field.{modulo}
+use Rattle.spec_arithmetic.specs.Field.{modulo}
 use Rattle.base_places.specs.Places.{Filled, filled-none, filled-more, filled-all}
 use Rattle.base_places.proofs.linear.add_places.Statement.{statement}
 use Rattle.base_places.proofs.linear.add_places.Tie as tie

@@ -2,8 +2,8 @@
 use Prim.Native.Nat.{_≤_, _-_}
 use native.Mathlib.Omega.{arith}
 use lib.ListN.{getD}
-use Rattle.spec_definitions.specs.Field.{modulo}
-use Rattle.spec_definitions.specs.Polynomials.{mul}
+use Rattle.spec_arithmetic.specs.Field.{modulo}
+use Rattle.spec_arithmetic.specs.Polynomials.{mul}
 use Rattle.base_places.specs.Places.{Filled, filled-none, filled-more, filled-all}
 use Rattle.base_places.specs.Dots.{mul-past}
 use borrow.Author.Needs.{needs}

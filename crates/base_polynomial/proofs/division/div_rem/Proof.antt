@@ -2,7 +2,7 @@
 use mathlib.Core.Path.{_≡_, sym, subst}
 use mathlib.Core.List.{List}
 use Prim.Native.Nat.{ℕ}
-use Rattle.spec_definitions.specs.Field.{prime}
+use Rattle.spec_arithmetic.specs.Field.{prime}
 use Rattle.base_polynomial.specs.Record.{Is}
 use Rattle.base_polynomial.specs.Division.{quo-zero, is-rem-zero}
 use borrow.Author.Needs.{needs}

@@ -3,8 +3,8 @@ use mathlib.Core.Path.{_≡_, sym, subst}
 use mathlib.Core.List.{List}
 use native.Mathlib.Omega.{arith}
 use borrow.Author.Needs.{needs}
-use Rattle.spec_definitions.specs.Field.{prime}
-use Rattle.spec_definitions.specs.Polynomials.{sub, mul}
+use Rattle.spec_arithmetic.specs.Field.{prime}
+use Rattle.spec_arithmetic.specs.Polynomials.{sub, mul}
 use Rattle.base_polynomial.specs.Record.{Is}
 use Rattle.base_polynomial.specs.Result.{result-quo, result-rem, size-rem}
 use Rattle.base_polynomial.specs.Bezout.{none-gcd, none-u, none-v, turn-gcd, turn-u, turn-v, turn-last-u, turn-last-v, turn-product, turn-fits}

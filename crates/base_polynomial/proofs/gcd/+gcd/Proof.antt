@@ -3,8 +3,8 @@ use mathlib.Core.Path.{sym, ap, _∙_, subst}
 use mathlib.Core.List.{List}
 use native.Mathlib.Omega.{arith}
 use borrow.Author.Needs.{needs}
-use Rattle.spec_definitions.specs.Field.{modulo, prime}
-use Rattle.spec_definitions.specs.Polynomials.{gcd as gcdOf}
+use Rattle.spec_arithmetic.specs.Field.{modulo, prime}
+use Rattle.spec_arithmetic.specs.Polynomials.{gcd as gcdOf}
 use Rattle.base_polynomial.specs.Record.{poly, Is}
 use Rattle.base_polynomial.specs.Result.{result-rem, size-rem}
 use Rattle.base_polynomial.specs.Gcd.{gcd-none, gcd-some}

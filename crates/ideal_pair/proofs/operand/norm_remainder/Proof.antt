@@ -4,8 +4,8 @@ use native.Mathlib.Omega.{arith}
 use mathlib.Core.Path.{ap, _∙_}
 use mathlib.Core.List.{List}
 use lib.ListN.{length}
-use Rattle.spec_definitions.specs.Field.{ops}
-use Rattle.spec_definitions.specs.Polynomials.{rem}
+use Rattle.spec_arithmetic.specs.Field.{ops}
+use Rattle.spec_arithmetic.specs.Polynomials.{rem}
 use Rattle.base_field.specs.Named.{name}
 use Rattle.base_polynomial.specs.Over.{poly}
 use Rattle.base_polynomial.specs.Held.{held-length}

@@ -7,8 +7,8 @@ use mathlib.Core.List.{List}
 use denote.Ref.{now}
 use borrow.Author.Needs.{needs}
 use borrow.Author.Tests.{not-true, not-false}
-use Rattle.spec_definitions.specs.Field.{ops}
-use Rattle.spec_definitions.specs.Polynomials.{trim}
+use Rattle.spec_arithmetic.specs.Field.{ops}
+use Rattle.spec_arithmetic.specs.Polynomials.{trim}
 use Rattle.spec_definitions.specs.Ticket.{genus}
 use Rattle.spec_fields.specs.Named.{ok-zero}
 use Rattle.base_field.specs.Named.{name, named}

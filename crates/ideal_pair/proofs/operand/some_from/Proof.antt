@@ -8,8 +8,8 @@ use lib.Seq.{take-length}
 use denote.Ref.{now}
 use borrow.Author.Needs.{needs}
 use borrow.Author.Count.{below-more}
-use Rattle.spec_definitions.specs.Words.{someNot}
-use Rattle.spec_definitions.specs.Field.{fits}
+use Rattle.spec_arithmetic.specs.Words.{someNot}
+use Rattle.spec_arithmetic.specs.Field.{fits}
 use Rattle.base_field.specs.Named.{name}
 use Rattle.ticket_tests.specs.Radicand.{take-none, take-at}
 use Rattle.ideal_pair.proofs.operand.some_from.Statement.{statement}

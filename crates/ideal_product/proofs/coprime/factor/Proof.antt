@@ -3,8 +3,8 @@ use native.Mathlib.Omega.{arith}
 use mathlib.Core.Path.{ap, _∙_, subst}
 use mathlib.Core.List.{List}
 use Prim.Native.Nat.{ℕ}
-use Rattle.spec_definitions.specs.Field.{ops}
-use Rattle.spec_definitions.specs.Polynomials.{mul, rem}
+use Rattle.spec_arithmetic.specs.Field.{ops}
+use Rattle.spec_arithmetic.specs.Polynomials.{mul, rem}
 use Rattle.base_field.specs.Named.{name}
 use Rattle.base_polynomial.specs.Record.{poly, Is}
 use Rattle.base_polynomial.specs.Result.{result-sub, result-mul}

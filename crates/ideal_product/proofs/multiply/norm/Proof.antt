@@ -4,8 +4,8 @@ use native.Mathlib.Omega.{arith}
 use mathlib.Core.Path.{ap₂, subst}
 use mathlib.Core.List.{List}
 use borrow.Author.Needs.{needs}
-use Rattle.spec_definitions.specs.Field.{FieldName, ops}
-use Rattle.spec_definitions.specs.Polynomials.{quo}
+use Rattle.spec_arithmetic.specs.Field.{FieldName, ops}
+use Rattle.spec_arithmetic.specs.Polynomials.{quo}
 use Rattle.base_field.specs.Named.{name}
 use Rattle.base_polynomial.specs.Over.{Is, result-mul}
 use Rattle.ideal_product.proofs.multiply.norm.Statement.{statement}

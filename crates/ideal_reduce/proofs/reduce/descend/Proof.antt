@@ -3,8 +3,8 @@ use Prim.Native.Nat.{ℕ, suc, _+_, _-_, _/_, _≤_, _<_}
 use native.Mathlib.Omega.{arith}
 use mathlib.Core.Path.{_≡_}
 use borrow.Author.Needs.{needs}
-use Rattle.spec_definitions.specs.Field.{modulo}
-use Rattle.spec_definitions.specs.Polynomials.{add, pad}
+use Rattle.spec_arithmetic.specs.Field.{modulo}
+use Rattle.spec_arithmetic.specs.Polynomials.{add, pad}
 use Rattle.spec_definitions.specs.Ticket.{genus}
 use Rattle.base_field.specs.Named.{name}
 use Rattle.base_polynomial.specs.Record.{poly}

@@ -4,9 +4,9 @@ use mathlib.Core.List.{[], _∷_, map}
 use Prim.Native.Nat.{ℕ, _≤_, _-_, _+_}
 use native.Mathlib.Omega.{arith}
 use lib.ListN.{length, getD}
-use Rattle.spec_definitions.specs.Field.{modulo}
-use Rattle.spec_definitions.specs.Polynomials.{pad}
-use Rattle.spec_definitions.specs.Words.{word}
+use Rattle.spec_arithmetic.specs.Field.{modulo}
+use Rattle.spec_arithmetic.specs.Polynomials.{pad}
+use Rattle.spec_arithmetic.specs.Words.{word}
 use Rattle.listing_record.specs.Stored.{stored, stored-none, length-stored, stored-more}
 use borrow.Author.Needs.{needs}
 use Rattle.listing_record.proofs.record.put_coefficients.Statement.{statement}

@@ -3,7 +3,7 @@ use mathlib.Core.Path.{ap, _∙_}
 use mathlib.Core.List.{[], _∷_}
 use Prim.Native.Nat.{_+_}
 use native.Mathlib.Omega.{arith}
-use Rattle.spec_definitions.specs.Words.{word, high, low}
+use Rattle.spec_arithmetic.specs.Words.{word, high, low}
 use Rattle.listing_record.specs.Stored.{stored, stored-append}
 use borrow.Author.Needs.{needs}
 use Rattle.listing_record.proofs.record.put_number.Statement.{statement}

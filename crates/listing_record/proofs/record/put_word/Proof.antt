@@ -1,6 +1,6 @@
 -- One store of the definition's word, which fits: there are 16 kinds of 2²⁸ values.
 use mathlib.Core.Path.{sym}
-use Rattle.spec_definitions.specs.Words.{word}
+use Rattle.spec_arithmetic.specs.Words.{word}
 use Rattle.listing_record.specs.Stored.{stored-one}
 use borrow.Author.Needs.{needs}
 use Rattle.listing_record.proofs.record.put_word.Statement.{statement}

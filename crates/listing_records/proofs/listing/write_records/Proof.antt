@@ -1,7 +1,7 @@
 -- The invariant: the records of the indices 1 to the walk's are stored.
 use Prim.Native.Nat.{_+_, _-_, _/_, _≤_, _<_}
 use native.Mathlib.Omega.{arith}
-use Rattle.spec_definitions.specs.Field.{prime}
+use Rattle.spec_arithmetic.specs.Field.{prime}
 use Rattle.base_polynomial.specs.Record.{poly}
 use Rattle.listing_records.specs.Ideal.{Q-held}
 use Rattle.listing_records.specs.Listed.{Listed, degree-two, degree-most, top-fits, root-within, regulator-fits, listed-first, listed-all, place-fits, place-small, degree-within, rest-places, listed-going, listed-next}

@@ -1,6 +1,6 @@
 -- Two values of 28 bits, so that the number fits in 56.
 use borrow.Author.Needs.{needs}
-use Rattle.spec_definitions.specs.Words.{value, joined}
+use Rattle.spec_arithmetic.specs.Words.{value, joined}
 use Rattle.out_text.specs.Lines.{joinedAt}
 use Rattle.out_text.proofs.lines.joined.Statement.{statement}
 use Rattle.out_text.proofs.lines.joined.Tie as tie

@@ -5,7 +5,7 @@ use mathlib.Core.Path.{sym, ap₂, subst}
 use mathlib.Core.List.{_∷_, _++_}
 use lib.ListN.{length, getD}
 use borrow.Author.Needs.{needs}
-use Rattle.spec_definitions.specs.Words.{value}
+use Rattle.spec_arithmetic.specs.Words.{value}
 use Rattle.spec_definitions.specs.Text.{decimal}
 use Rattle.out_text.specs.Lines.{headBytes, digits-value, digits-joinedAt}
 use Rattle.out_text.specs.Writing.{put-then, put-same, put-length}

@@ -6,7 +6,7 @@ use mathlib.Core.List.{_∷_, map}
 use lib.ListN.{length, getD, take, length-map}
 use lib.Seq.{take-all}
 use borrow.Author.Needs.{needs}
-use Rattle.spec_definitions.specs.Words.{value}
+use Rattle.spec_arithmetic.specs.Words.{value}
 use Rattle.spec_definitions.specs.Text.{decimal, spaced}
 use Rattle.out_text.specs.Lines.{digits-value, numbers-more, at-values}
 use Rattle.out_text.specs.Writing.{Put, put-none, put-then, put-same, put-length}

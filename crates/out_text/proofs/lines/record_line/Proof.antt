@@ -6,7 +6,7 @@ use mathlib.Core.List.{[], _∷_, _++_, map}
 use lib.ListN.{length, take, drop, length-drop}
 use lib.Seq.{take-all, length-take-le}
 use borrow.Author.Needs.{needs}
-use Rattle.spec_definitions.specs.Words.{value}
+use Rattle.spec_arithmetic.specs.Words.{value}
 use Rattle.spec_definitions.specs.Text.{spaced}
 use Rattle.out_text.specs.Lines.{headBytes, length-head, record-line}
 use Rattle.out_text.specs.Writing.{put-then, put-same, put-length, line-put}

@@ -7,7 +7,7 @@ use lib.ListN.{getD}
 use denote.Ref.{now}
 use borrow.Author.Needs.{needs}
 use borrow.Author.Count.{below-more}
-use Rattle.spec_definitions.specs.Words.{kind}
+use Rattle.spec_arithmetic.specs.Words.{kind}
 use Rattle.spec_definitions.specs.Ticket.{laterKinds}
 use Rattle.ticket_tests.specs.Layout.{kinds-right, kinds-wrong}
 use Rattle.ticket_tests.proofs.layout.wrong_kinds.Statement.{statement}

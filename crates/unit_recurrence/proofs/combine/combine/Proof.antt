@@ -3,8 +3,8 @@ use Prim.Native.Nat.{ℕ, _+_, _-_, _%_, _≤_}
 use native.Mathlib.Omega.{arith}
 use mathlib.Core.Path.{_≡_, ap, _∙_, subst}
 use lib.ListN.{getD}
-use Rattle.spec_definitions.specs.Field.{modulo}
-use Rattle.spec_definitions.specs.Polynomials.{add, mul}
+use Rattle.spec_arithmetic.specs.Field.{modulo}
+use Rattle.spec_arithmetic.specs.Polynomials.{add, mul}
 use Rattle.unit_recurrence.specs.Written.{Written, written-none, written-more}
 use Rattle.unit_recurrence.specs.Sum.{square-small, sum-at}
 use borrow.Author.Needs.{needs}

@@ -2,7 +2,7 @@
 use Prim.Native.Nat.{ℕ, suc, _+_, _-_, _/_, _≤_, _<_}
 use native.Mathlib.Omega.{arith}
 use mathlib.Core.Path.{_≡_, sym, subst, subst₂}
-use Rattle.spec_definitions.specs.Field.{prime}
+use Rattle.spec_arithmetic.specs.Field.{prime}
 use Rattle.spec_definitions.specs.Ticket.{genus}
 use Rattle.base_polynomial.specs.Record.{poly}
 use Rattle.walk_step.specs.Result.{division}

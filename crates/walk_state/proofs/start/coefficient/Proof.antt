@@ -4,7 +4,7 @@ use native.Mathlib.Nat.{mod-lt}
 use native.Mathlib.Omega.{arith}
 use mathlib.Core.Path.{sym, ap, ap₂, _∙_, subst}
 use lib.ListN.{getD}
-use Rattle.spec_definitions.specs.Field.{modulo}
+use Rattle.spec_arithmetic.specs.Field.{modulo}
 use Rattle.spec_bridge.specs.Arithmetic.{oks-mul}
 use Rattle.spec_bridge.specs.Residues.{model, inverse-below}
 use borrow.Author.Needs.{needs}

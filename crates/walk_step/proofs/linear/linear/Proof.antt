@@ -1,7 +1,7 @@
 -- The two coefficients, then the two passes.
 use Prim.Native.Nat.{_+_, _<_}
 use borrow.Author.Needs.{needs}
-use Rattle.spec_definitions.specs.Field.{prime}
+use Rattle.spec_arithmetic.specs.Field.{prime}
 use Rattle.walk_step.specs.Step.{Division}
 use Rattle.walk_step.specs.Result.{division}
 use Rattle.walk_step.proofs.linear.linear.Statement.{statement}

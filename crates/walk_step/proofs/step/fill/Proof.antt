@@ -2,7 +2,7 @@
 use mathlib.Core.Path.{_≡_, subst}
 use Prim.Native.Nat.{ℕ, _+_}
 use native.Mathlib.Omega.{arith}
-use Rattle.spec_definitions.specs.Field.{prime}
+use Rattle.spec_arithmetic.specs.Field.{prime}
 use Rattle.walk_step.specs.Step.{Ready}
 use borrow.Author.Needs.{needs}
 use Rattle.walk_step.proofs.step.fill.Statement.{statement}

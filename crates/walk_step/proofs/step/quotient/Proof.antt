@@ -5,8 +5,8 @@ use native.Mathlib.Omega.{arith}
 use mathlib.Core.Path.{ap, _∙_}
 use lib.ListN.{getD}
 use borrow.Author.Needs.{needs}
-use Rattle.spec_definitions.specs.Field.{prime, modulo}
-use Rattle.spec_definitions.specs.Polynomials.{sub, mul}
+use Rattle.spec_arithmetic.specs.Field.{prime, modulo}
+use Rattle.spec_arithmetic.specs.Polynomials.{sub, mul}
 use Rattle.spec_bridge.specs.Arithmetic.{oks-sub}
 use Rattle.spec_bridge.specs.Residues.{model, inverse-lt}
 use Rattle.walk_step.specs.Step.{stepQuo}

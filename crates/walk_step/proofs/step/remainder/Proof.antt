@@ -3,7 +3,7 @@ use Prim.Native.Nat.{_-_, _≤_}
 use native.Mathlib.Omega.{arith}
 use lib.ListN.{getD}
 use borrow.Author.Needs.{needs}
-use Rattle.spec_definitions.specs.Field.{prime}
+use Rattle.spec_arithmetic.specs.Field.{prime}
 use Rattle.base_polynomial.specs.Places.{Filled, filled-none, filled-more, filled-all}
 use Rattle.walk_step.specs.Step.{nextRem}
 use Rattle.walk_step.specs.Sizes.{rem-past, quo-within}

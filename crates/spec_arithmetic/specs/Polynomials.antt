@@ -5,7 +5,7 @@ use Prim.Native.Nat.{ℕ, zero, suc, _+_, _-_}
 use mathlib.Core.Bool.{Bool, true, false}
 use mathlib.Core.List.{List, [], _∷_, map}
 use lib.ListN.{length, getD}
-use Rattle.spec_definitions.specs.Field.{Ops}
+use Rattle.spec_arithmetic.specs.Field.{Ops}
 
 -- a quotient and a remainder
 pub record Split (A : Type 0) : Type 0 where

@@ -1,0 +1,4 @@
+pub mod Field
+pub mod Polynomials
+pub mod Primes
+pub mod Words
