@@ -1,4 +1,5 @@
--- One step of the walk on records, with the quotient a given: the next P = a·Q − P is short, and the next Q = (D − P²)/Q is held.
+-- One step of the walk on records, with the quotient a given: the next P = a·Q − P is short, and the next Q =
+-- (D − P²)/Q is held.
 use Prim.Native.Nat.{ℕ, _+_, _≤_, _<_}
 use native.Mathlib.Omega.{arith}
 use mathlib.Core.Path.{_≡_, ap, ap₂, _∙_, subst}

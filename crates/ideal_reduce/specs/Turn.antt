@@ -1,4 +1,5 @@
--- The reduction at its index j: the pair with its quotient a, and the sum of the degrees of a so far. A step takes one to the next, and the size of Q falls.
+-- The reduction at its index j: the pair with its quotient a, and the sum of the degrees of a so far. A step
+-- takes one to the next, and the size of Q falls.
 use Prim.Native.Nat.{ℕ, suc, _+_, _-_, _≤_, _<_}
 use native.Mathlib.Omega.{arith}
 use mathlib.Core.Path.{_≡_, refl, sym, ap, ap₂, _∙_, subst}

@@ -1,4 +1,5 @@
--- The loop's invariant: the stage is that of an index, with every Q before it of degree above g, and the sum runs to that index. The size of Q falls.
+-- The loop's invariant: the stage is that of an index, with every Q before it of degree above g, and the sum
+-- runs to that index. The size of Q falls.
 use native.Mathlib.Omega.{arith}
 use Prim.Native.Nat.{ℕ, suc, _<_}
 use Rattle.spec_definitions.specs.Ticket.{genus}
