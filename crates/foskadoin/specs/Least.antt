@@ -1,4 +1,5 @@
--- T3 of an answer as plain numbers, for the calls on a ticket: what the numbers say of every p and s with s ≠ 0 and p² − D·s² a nonzero constant.
+-- T3 of an answer as plain numbers, for the calls on a ticket: what the numbers say of every p and s with s ≠
+-- 0 and p² − D·s² a nonzero constant.
 use Prim.Native.Nat.{ℕ, _<_}
 use native.Mathlib.Omega.{arith}
 use mathlib.Core.Path.{_≡_, sym, ap, _∙_, subst}
@@ -15,7 +16,8 @@ use Rattle.spec_demands.specs.Numbered.{Numbered}
 use Rattle.spec_demands.specs.LeastAnswers.{LeastWritten}
 use Rattle.foskadoin.specs.Numbers.{Plain}
 
--- the ticket of the words w: where the number is 0, the unit u has the least degree, `first`, and the norm `third`; where it is 11, every solution's degree is above `second`
+-- the ticket of the words w: where the number is 0, the unit u has the least degree, `first`, and the norm
+-- `third`; where it is 11, every solution's degree is above `second`
 pub record LeastNumbers (w : List ℕ) (u : UnitPair ℕ) (number first second third : ℕ) : Type 0 where
   pub if-found : number ≡ 0 → LeastFound (ticketOf w .field) (ticketOf w .D) u first third
   pub if-spent : number ≡ 11 → (p s : List ℕ) → Solves (ticketOf w .field) (ticketOf w .D) p s → second < deg (ops (ticketOf w .field)) p

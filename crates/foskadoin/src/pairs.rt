@@ -1,4 +1,5 @@
-// The calls `product` and `giant_step`: their polynomials go into lent arrays of 129 numbers, with their sizes in the answer.
+// The calls `product` and `giant_step`: their polynomials go into lent arrays of 129 numbers, with their
+// sizes in the answer.
 ghost use mathlib.Core.Path.{_≡_};
 ghost use lib.ListN.{length};
 ghost use Rattle.spec_definitions.specs.Products.{productAnswer, giantAnswer};
@@ -9,7 +10,8 @@ use base_counters::Distance;
 use engine::giant_step::giant_step;
 use engine::product::product;
 
-// The number of words handed in, the number of a refusal or 0, and the sizes of S, Q and P: the degree + 1, or 0 for the zero polynomial.
+// The number of words handed in, the number of a refusal or 0, and the sizes of S, Q and P: the degree + 1,
+// or 0 for the zero polynomial.
 #[repr(C)]
 pub struct ProductNumbers {
     pub words: u64,

@@ -1,4 +1,5 @@
-// Products, divisions and greatest common divisors of sample polynomials, written out to be compared with values found by another program.
+// Products, divisions and greatest common divisors of sample polynomials, written out to be compared with
+// values found by another program.
 ghost use Prim.Native.Nat.{_+_, _<_, _≤_};
 ghost use Rattle.base_field.specs.Named.{IsField};
 ghost use Rattle.base_polynomial.specs.Whole.{Held};

@@ -1,5 +1,7 @@
-// Runs the jobs of vectors/products.txt through `product` and `giant_step` and compares every number and every polynomial with the stored ones.
-// The input is the number of jobs, then the jobs as the file has them. Prints a line for each job that differs, then the counts.
+// Runs the jobs of vectors/products.txt through `product` and `giant_step` and compares every number and
+// every polynomial with the stored ones.
+// The input is the number of jobs, then the jobs as the file has them. Prints a line for each job that
+// differs, then the counts.
 ghost use Prim.Native.Nat.{_≤_};
 ghost use lib.ListN.{length};
 ghost use Rattle.ideal_giant.specs.Signed.{twoDistances};
@@ -158,7 +160,8 @@ fn step(ticket: &[u32], x: Operand, y: Operand) -> GiantStepAnswer
     )
 }
 
-// A job after its ticket. The line of one that differs has the number that its product said, or its giant step.
+// A job after its ticket. The line of one that differs has the number that its product said, or its giant
+// step.
 fn compare(job: u32, ticket: &[u32]) -> u32
     ensures { λ r. ⌜ r ≤ 1 ⌝ }
 {
