@@ -1,4 +1,5 @@
--- An array that holds the quotient of two records: within the places that the sizes leave it, and as a factor.
+-- An array that holds the quotient of two records: within the places that the sizes leave it, and as a
+-- factor.
 use Prim.Native.Nat.{ℕ, _+_, _-_, _<_, _≤_}
 use native.Mathlib.Omega.{arith}
 use mathlib.Core.Path.{_≡_, refl, sym, ap, ap₂, _∙_, fun-ext, subst}
@@ -9,15 +10,16 @@ use Rattle.math_ring.specs.Order.{le-or-lt}
 use Rattle.spec_definitions.specs.Field.{modulo, prime}
 use Rattle.spec_definitions.specs.Polynomials.{trim, sub, mul, quo, rem, pad}
 use Rattle.spec_bridge.specs.Arithmetic.{mul-cong}
-use Rattle.spec_bridge.specs.Division.{oks-quo}
-use Rattle.spec_bridge.specs.Quotient.{quo-length}
+use Rattle.spec_bridge.specs.Trim.{series-ext}
+use Rattle.spec_bridge.specs.Division.{oks-quo, trim-rem, oks-rem}
+use Rattle.spec_bridge.specs.Quotient.{quo-length, rem-low}
 use Rattle.spec_bridge.specs.Prime.{Prime}
 use Rattle.spec_bridge.specs.Residues.{model, inverts}
 use Rattle.base_places.specs.Places.{Places, Within}
 use Rattle.base_places.specs.Record.{poly, Held, Is}
-use Rattle.base_places.specs.Row.{at-take}
+use Rattle.base_places.specs.Row.{Ends, at-take}
 use Rattle.base_places.specs.Pad.{length-pad, at-pad}
-use Rattle.base_places.specs.Held.{held-positive, at-poly, is-of}
+use Rattle.base_places.specs.Held.{held-positive, length-poly, at-poly, is-of}
 use Rattle.base_polynomial.specs.Result.{held-size}
 use Rattle.base_euclid.specs.Quotient.{rem-difference, quo-at}
 use Rattle.base_euclid.specs.Down.{Down}
@@ -89,3 +91,20 @@ module _ (q : ℕ) {a : List ℕ} {m : ℕ} (held-a : Held (prime q) a m) {b : L
 
       pub is-remainder : (c : List ℕ) (r : ℕ) → Is (prime q) c r (sub (modulo q) (poly a m) (mul (modulo q) (poly z l) (poly b n))) → Is (prime q) c r (rem (modulo q) (poly a m) (poly b n))
       is-remainder c r = subst (λ (x : List ℕ). Is (prime q) c r x) (ap (sub (modulo q) (poly a m)) (quo-factor (poly b n)) ∙ rem-difference (model q pos) (poly a m) (poly b n))
+
+  -- a dividend with fewer places than the divisor: the quotient is 0 and the remainder the dividend
+  module _ (less : m < n) where
+    reduced-a : (i : ℕ) → getD (poly a m) i 0 < q
+    reduced-a i = subst (λ (x : ℕ). x < q) (sym (at-poly q a m held-a i)) (held-a .reduced i)
+
+    rem-same : rem (modulo q) (poly a m) (poly b n) ≡ poly a m
+    rem-same =
+        let x = held-size q a m held-a in
+        let y = held-size q b n held-b in
+        series-ext (model q pos) _ _ (trim-rem (model q pos) (poly a m) (poly b n)) (held-a .trimmed) (oks-rem (model q pos) (poly a m) (poly b n)) reduced-a (rem-low (model q pos) (poly a m) (poly b n) (omega arith))
+
+    pub is-rem-same : Is (prime q) a m (rem (modulo q) (poly a m) (poly b n))
+    is-rem-same = subst (λ (x : List ℕ). Is (prime q) a m x) (sym rem-same) (record { places = held-a .places; size-is = sym (length-poly q a m held-a) })
+
+    pub quo-none : (z : List ℕ) → length z ≡ 129 → Ends z 0 → z ≡ pad (modulo q) 129 quotient
+    quo-none z long none = quo-pad z (omega arith) (record { long = long; at = λ i. none i (omega arith) ∙ sym (quo-past i (omega arith)) })

@@ -5,3 +5,5 @@ pub mod Difference
 pub mod Divided
 pub mod Monic
 pub mod Turn
+pub mod Two
+pub mod Constant

@@ -1,5 +1,5 @@
--- The coefficient of a quotient at k is what clears a − z·b at the top, where z has the coefficients above k: there the product quo·b has
--- one term more than z·b. The remainder is a − quo·b.
+-- The coefficient of a quotient at k is what clears a − z·b at the top, where z has the coefficients above k:
+-- there the product quo·b has one term more than z·b. The remainder is a − quo·b.
 use Prim.Native.Nat.{ℕ, suc, _+_ as _+ₙ_, _-_ as _-ₙ_, _<_, _≤_}
 use native.Mathlib.Omega.{arith}
 use mathlib.Core.Path.{_≡_, sym, ap, ap₂, _∙_}

@@ -1,15 +1,20 @@
--- One turn of the recursion: from the arrays of quotient and remainder and of the factors of b and the remainder to the factors of a and b.
+-- One turn of the recursion: from the arrays of quotient and remainder and of the factors of b and the
+-- remainder to the factors of a and b.
 use Prim.Native.Nat.{ℕ, _+_, _-_, _<_, _≤_}
 use native.Mathlib.Omega.{arith}
 use mathlib.Core.Path.{_≡_, sym, ap, ap₂, _∙_, subst}
 use mathlib.Core.List.{List, [], _∷_}
+use lib.ListN.{length}
 use Rattle.spec_definitions.specs.Field.{modulo, prime}
 use Rattle.spec_definitions.specs.Polynomials.{trim, lead, monic, sub, mul, quo, rem, gcd, pad}
 use Rattle.spec_bridge.specs.Prime.{Prime}
+use Rattle.spec_bridge.specs.Residues.{model, inverts}
 use Rattle.base_places.specs.Record.{poly, Held, Is}
-use Rattle.base_polynomial.specs.Result.{Result, result-rem}
+use Rattle.base_places.specs.Held.{held-positive}
+use Rattle.base_polynomial.specs.Result.{Result, held-size, result-rem}
 use Rattle.base_polynomial.specs.Gcd.{gcd-none, gcd-some}
 use Rattle.base_polynomial.specs.Bezout.{factors, result-u, result-v, size-v, none-gcd, none-u, none-v, some-gcd, some-u, some-v}
+use Rattle.base_euclid.specs.Constant.{constant-gcd, constant-factor-gcd, constant-u, constant-v}
 use Rattle.base_euclid.specs.Divided.{quo-places, quo-factor}
 
 -- the last turn, where b is 0
@@ -25,6 +30,26 @@ module _ (q : ℕ) (p : Prime q) {a : List ℕ} {m : ℕ} (held-a : Held (prime 
 
   pub last-v : Is (prime q) c k [] → Is (prime q) c k (factors q a m b n .v)
   last-v = subst (λ (x : List ℕ). Is (prime q) c k x) (sym (none-v q p a m held-a b n held-b none))
+
+-- the turn before it, where b is constant
+module _ (q : ℕ) (p : Prime q) {a : List ℕ} {m : ℕ} (held-a : Held (prime q) a m) {b : List ℕ} {n : ℕ} (held-b : Held (prime q) b n) (one : n ≡ 1) (c : List ℕ) (k : ℕ) where
+  pos : 0 < q
+  pos = held-positive q b n held-b
+
+  size-b : length (trim (modulo q) (poly b n)) ≡ 1
+  size-b = held-size q b n held-b ∙ one
+
+  pub gcd-one : Is (prime q) c k (monic (modulo q) (poly b n)) → Is (prime q) c k (gcd (modulo q) (poly a m) (poly b n))
+  gcd-one = subst (λ (x : List ℕ). Is (prime q) c k x) (sym (constant-gcd (model q pos) (inverts q pos p) (poly a m) (poly b n) size-b))
+
+  pub one-gcd : Is (prime q) c k (monic (modulo q) (poly b n)) → Is (prime q) c k (factors q a m b n .gcd)
+  one-gcd = subst (λ (x : List ℕ). Is (prime q) c k x) (sym (constant-factor-gcd (model q pos) (inverts q pos p) (poly a m) (poly b n) size-b))
+
+  pub one-u : Is (prime q) c k [] → Is (prime q) c k (factors q a m b n .u)
+  one-u = subst (λ (x : List ℕ). Is (prime q) c k x) (sym (constant-u (model q pos) (inverts q pos p) (poly a m) (poly b n) size-b))
+
+  pub one-v : Is (prime q) c k (trim (modulo q) (modulo q .inv (lead (modulo q) (poly b n)) ∷ [])) → Is (prime q) c k (factors q a m b n .v)
+  one-v = subst (λ (x : List ℕ). Is (prime q) c k x) (sym (constant-v (model q pos) (inverts q pos p) (poly a m) (poly b n) size-b))
 
 module _ (q : ℕ) (p : Prime q) {a : List ℕ} {m : ℕ} (held-a : Held (prime q) a m) {b : List ℕ} {n : ℕ} (held-b : Held (prime q) b n) (some : 0 < n) where
   module _ {r : List ℕ} {r-size : ℕ} (r-is : Is (prime q) r r-size (rem (modulo q) (poly a m) (poly b n))) where

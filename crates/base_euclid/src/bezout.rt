@@ -1,4 +1,5 @@
-// The greatest common divisor with Bezout's factors, on arrays that take turns: a becomes the remainder by b, and b is the first of the next pair.
+// The greatest common divisor with Bezout's factors, on arrays that take turns: a becomes the remainder by b,
+// and b is the first of the next pair.
 ghost use mathlib.Core.Path.{_≡_};
 ghost use mathlib.Core.List.{[], _∷_};
 ghost use Rattle.spec_definitions.specs.Polynomials.{trim, lead as leadOf, monic as monicOf, bezout as bezoutOf};
@@ -26,7 +27,7 @@ pub struct FirstSizes {
     pub u: usize,
 }
 
-// u becomes the constant c; its size.
+// u becomes the constant c. Returns its size.
 fn constant(f: Field, c: u32, u: &mut [u32; 129]) -> usize
     requires { ⌜ IsField f × Ok f c ⌝ }
     ensures { λ r. ⌜ Is (name f) (now (u .exit)) r (trim (ops f) (c ∷ [])) ⌝ }
@@ -58,8 +59,10 @@ fn bezout_zero(
     Sizes { gcd, u: size, v: 0 }
 }
 
-// g becomes the greatest common divisor of a, of m places, and b, of n; u and v become its factors: g is u·a + v·b. From those of b and
-// the remainder of a by b, exchanged, with the quotient's multiple taken away. What a and b hold is used up.
+// g becomes the greatest common divisor of a, of m places, and b, of n; u and v become its factors:
+// g is u·a + v·b. From those of b and the remainder of a by b, exchanged, with the quotient's multiple taken away.
+// Where b is a constant other than 0, the remainder is 0, and nothing is taken away. What a and b hold is
+// used up.
 pub fn bezout(
     f: Field,
     a: &mut [u32; 129],
@@ -79,6 +82,13 @@ pub fn bezout(
 {
     if n == 0 {
         bezout_zero(f, a, m, g, u, v)
+    } else if n == 1 {
+        let s = bezout_zero(f, b, n, g, v, u);
+        Sizes {
+            gcd: s.gcd,
+            u: s.v,
+            v: s.u,
+        }
     } else {
         let mut w = [0u32; 129];
         let r = divide_cleared(f, a, m, b, n, &mut w);
@@ -93,8 +103,8 @@ pub fn bezout(
     }
 }
 
-// g becomes the greatest common divisor of a, of m places, and b, of n; u its first factor. The second one, the longest product of all, is
-// left out, and so is the first quotient. What a and b hold is used up.
+// g becomes the greatest common divisor of a, of m places, and b, of n; u its first factor. The second one,
+// the longest product of all, is left out, and so is the first quotient. What a and b hold is used up.
 pub fn first_factor(
     f: Field,
     a: &mut [u32; 129],

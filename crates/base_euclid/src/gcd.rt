@@ -20,7 +20,7 @@ pub fn lead_inverse(f: Field, a: &[u32; 129], m: usize) -> u32
     }
 }
 
-// g becomes a, of m places, over its leading coefficient, whose inverse is w; its size.
+// g becomes a, of m places, over its leading coefficient, whose inverse is w. Returns its size.
 pub fn monic_by(f: Field, w: u32, a: &[u32; 129], m: usize, g: &mut [u32; 129]) -> usize
     requires { ⌜ IsField f × Held (name f) (now a) m × (w ≡ ops f .inv (leadOf (ops f) (poly (now a) m))) ⌝ }
     ensures { λ r. ⌜ Is (name f) (now (g .exit)) r (monicOf (ops f) (poly (now (a .entry)) m)) ⌝ }
@@ -29,8 +29,9 @@ pub fn monic_by(f: Field, w: u32, a: &[u32; 129], m: usize, g: &mut [u32; 129]) 
     top(g, m)
 }
 
-// g becomes the greatest common divisor of a, of m places, and b, of n; its size. It is that of b and the remainder of a by b,
-// and a made monic where b is 0. What a and b hold is used up.
+// g becomes the greatest common divisor of a, of m places, and b, of n. Returns its size. It is that of b and the
+// remainder of a by b, a made monic where b is 0, and 1 where b is another constant. What a and b hold is
+// used up.
 pub fn gcd(
     f: Field,
     a: &mut [u32; 129],
@@ -47,6 +48,9 @@ pub fn gcd(
     if n == 0 {
         let w = lead_inverse(f, a, m);
         monic_by(f, w, a, m, g)
+    } else if n == 1 {
+        let w = lead_inverse(f, b, n);
+        monic_by(f, w, b, n, g)
     } else {
         let r = remainder(f, a, m, b, n);
         gcd(f, b, n, a, r, g)

@@ -1,10 +1,10 @@
 -- A whole record over a field's name, for lemmas: that it is held, the polynomial that it stands for, and what a caller keeps of each operation's result.
-use mathlib.Core.Path.{_≡_}
-use mathlib.Core.List.{List}
-use Prim.Native.Nat.{ℕ, _+_, _-_, _<_, _≤_}
+use mathlib.Core.Path.{_≡_, refl, ap, _∙_}
+use mathlib.Core.List.{List, [], _∷_}
+use Prim.Native.Nat.{ℕ, zero, suc, _+_, _-_, _<_, _≤_}
 use lib.ListN.{length, getD}
 use Rattle.spec_definitions.specs.Field.{FieldName, ops}
-use Rattle.spec_definitions.specs.Polynomials.{trim, add, sub, mul, quo, rem, gcd, monic, bezout}
+use Rattle.spec_definitions.specs.Polynomials.{trim, pad, add, sub, mul, quo, rem, gcd, monic, bezout}
 use Rattle.spec_bridge.specs.Prime.{Prime}
 use Rattle.spec_fields.specs.Named.{Ok}
 use Rattle.base_polynomial.specs.declared.Poly.{Poly}
@@ -24,6 +24,19 @@ Held f a = places.Held f (a .c) (a .size)
 -- it is the record that stands for the polynomial l
 abbrev pub Is : FieldName → Poly → List ℕ → Type 0
 Is f a l = places.Is f (a .c) (a .size) l
+
+-- the same over every field, since the places past the polynomial hold 0
+abbrev pub Holds : Poly → List ℕ → Type 0
+Holds a l = (f : FieldName) → Is f a l
+
+pad-any : (f g : FieldName) (k : ℕ) (l : List ℕ) → pad (ops f) k l ≡ pad (ops g) k l
+unfolding pad
+pad-any f g zero l = refl
+pad-any f g (suc k) [] = ap (λ (t : List ℕ). 0 ∷ t) (pad-any f g k [])
+pad-any f g (suc k) (x ∷ l) = ap (λ (t : List ℕ). x ∷ t) (pad-any f g k l)
+
+pub holds : {f : FieldName} {a : Poly} {l : List ℕ} → Is f a l → Holds a l
+holds {f} {a} {l} h g = record { places = h .places ∙ pad-any f g 129 l; size-is = h .size-is }
 
 -- it is held, and its polynomial is l
 abbrev pub Result : FieldName → Poly → List ℕ → Type 0

@@ -5,7 +5,7 @@ use Rattle.base_field.specs.declared.Field.{Field}
 use Rattle.base_field.specs.Named.{name}
 use Rattle.base_polynomial.specs.declared.Poly.{Poly}
 use Rattle.base_polynomial.specs.Over as over
-pub use Rattle.base_polynomial.specs.Over.{poly}
+pub use Rattle.base_polynomial.specs.Over.{poly, Holds}
 
 -- a record as every function keeps it
 abbrev pub Held : Field → Poly → Type 0

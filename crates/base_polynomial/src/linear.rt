@@ -2,10 +2,8 @@
 ghost use mathlib.Core.Path.{_≡_};
 ghost use Prim.Native.Nat.{ℕ, _≤_};
 ghost use mathlib.Core.List.{[]};
-ghost use Rattle.spec_definitions.specs.Field.{FieldName};
 ghost use Rattle.spec_definitions.specs.Polynomials.{add as addOf, sub as subOf, scale as scaleOf, lead as leadOf, monic as monicOf, derivative as derivativeOf};
-ghost use Rattle.base_polynomial.specs.Record.{Is as IsAt};
-ghost use Rattle.base_polynomial.specs.Whole.{poly, Held, Is};
+ghost use Rattle.base_polynomial.specs.Whole.{poly, Held, Is, Holds};
 ghost use Rattle.base_field.specs.Named.{ops, IsField, Ok};
 use crate::Poly;
 use base_field::Field;
@@ -24,7 +22,7 @@ fn larger(m: usize, n: usize) -> usize
 
 // The zero polynomial.
 pub fn zero() -> Poly
-    ensures { λ r. ⌜ ((f : FieldName) → IsAt f (r .c) (r .size) []) ⌝ }
+    ensures { λ r. ⌜ Holds r [] ⌝ }
 {
     Poly {
         c: [0u32; 129],

@@ -1,4 +1,4 @@
--- The answer of the call `giant_step`, case by case, and what its records hold.
+-- The answer of the call `giant_step`, case by case, and what its polynomials are.
 use Prim.Native.Nat.{ℕ, zero, suc, _+_, _≤_, _<_}
 use native.Mathlib.Omega.{arith}
 use mathlib.Core.Path.{_≡_, refl, sym, ap, _∙_, subst}
@@ -7,41 +7,50 @@ use mathlib.Core.List.{List, []}
 use lib.Dec.{ltb}
 use lib.IntN.{ℤ, pos, _+ℤ_}
 use borrow.Author.Tests.{lt-ltb, le-ltb, ltb-false}
-use Rattle.spec_definitions.specs.Ticket.{Ticket, genus, ticketOf, refusalOf}
+use Rattle.spec_definitions.specs.Field.{FieldName}
+use Rattle.spec_definitions.specs.Ticket.{Ticket, ticket, genus, ticketOf, refusalOf}
 use Rattle.spec_definitions.specs.Walk.{Ideal, steps}
 use Rattle.spec_definitions.specs.Answers.{opsOf, rootOf}
 use Rattle.spec_definitions.specs.Listing.{idealOf}
 use Rattle.spec_definitions.specs.Products.{Product, GiantStepAnswer, productOf, turnsOf, shiftOf, wrongPair, wrongDistance, giantDone, giantRefused, giantAnswer}
-use Rattle.base_polynomial.specs.Record.{Is}
+use Rattle.base_polynomial.specs.declared.Poly.{Poly}
+use Rattle.base_polynomial.specs.Over.{Holds, holds}
+use Rattle.ideal_giant.specs.declared.Giant.{Giant}
+use Rattle.ideal_giant.specs.Signed.{farthest}
+use Rattle.ideal_giant.specs.Stepped.{Stepped}
+use Rattle.call_giant_step.specs.declared.GiantStepAnswer.{GiantStepAnswer as Given}
 
--- what a call of `giant_step` answers is a
-pub record GiantSays (q : ℕ) (a : GiantStepAnswer) (number : ℕ) (c : List ℕ) (m : ℕ) (e : List ℕ) (j : ℕ) (f distance : ℤ) : Type 0 where
-  pub number-is : number ≡ a .number
-  pub q-is : Is q c m (a .q)
-  pub p-is : Is q e j (a .p)
-  pub f-is : f ≡ a .f
-  pub distance-is : distance ≡ a .distance
+-- r is the answer a
+pub record GiantStepSays (r : Given) (a : GiantStepAnswer) : Type 0 where
+  pub number-is : r .number ≡ a .number
+  pub q-is : Holds (r .q) (a .q)
+  pub p-is : Holds (r .p) (a .p)
+  pub f-is : r .f ≡ a .f
+  pub distance-is : r .distance ≡ a .distance
+
+pub says-path : {r : Given} {a b : GiantStepAnswer} → a ≡ b → GiantStepSays r b → GiantStepSays r a
+says-path {r} e h = subst (GiantStepSays r) (sym e) h
 
 -- zeros in a refusal
-pub giant-zeros : (q k : ℕ) (a : GiantStepAnswer) {number : ℕ} {c e : List ℕ} {m j : ℕ} {f g : ℤ} → number ≡ k → f ≡ pos 0 → g ≡ pos 0 → a ≡ giantRefused k → Is q c m [] → Is q e j [] → GiantSays q a number c m e j f g
+pub giant-zeros : {words k : ℕ} {z : Poly} → Holds z [] → {u v : ℤ} → u ≡ pos 0 → v ≡ pos 0 → GiantStepSays (record { words = words; number = k; q = z; p = z; f = u; distance = v }) (giantRefused k)
 unfolding giantRefused
-giant-zeros q k a {number} {c} {e} {m} {j} {f} {g} n u v h x y = subst (λ (b : GiantStepAnswer). GiantSays q b number c m e j f g) (sym h) (record { number-is = n; q-is = x; p-is = y; f-is = u; distance-is = v })
+giant-zeros h e f = record { number-is = refl; q-is = h; p-is = h; f-is = e; distance-is = f }
 
-pub first-far : (d e : ℕ) → 1099511627776 < d → wrongDistance d e ≡ true
+pub first-far : (d e : ℕ) → farthest < d → wrongDistance d e ≡ true
 unfolding wrongDistance
-first-far d e h = rw (lt-ltb 1099511627776 d h)
+first-far d e h = rw (lt-ltb farthest d h)
 
-pub far-second : (d e : ℕ) → d ≤ 1099511627776 → ltb 1099511627776 e ≡ wrongDistance d e
+pub far-second : (d e : ℕ) → d ≤ farthest → ltb farthest e ≡ wrongDistance d e
 unfolding wrongDistance
-far-second d e h = rw (le-ltb 1099511627776 d h)
+far-second d e h = rw (le-ltb farthest d h)
 
 -- neither distance is far
-pub both-near : (d e : ℕ) → wrongDistance d e ≡ false → (d ≤ 1099511627776) × (e ≤ 1099511627776)
+pub both-near : (d e : ℕ) → wrongDistance d e ≡ false → (d ≤ farthest) × (e ≤ farthest)
 unfolding wrongDistance
-both-near d e h = go (ltb 1099511627776 d) (ltb 1099511627776 e) refl refl h
+both-near d e h = go (ltb farthest d) (ltb farthest e) refl refl h
   where
-    go : (a b : Bool) → ltb 1099511627776 d ≡ a → ltb 1099511627776 e ≡ b → (a || b) ≡ false → (d ≤ 1099511627776) × (e ≤ 1099511627776)
-    go false false i j k = (ltb-false 1099511627776 d i, ltb-false 1099511627776 e j)
+    go : (a b : Bool) → ltb farthest d ≡ a → ltb farthest e ≡ b → (a || b) ≡ false → (d ≤ farthest) × (e ≤ farthest)
+    go false false i j k = (ltb-false farthest d i, ltb-false farthest e j)
     go false true i j k = absurd (let z : _≡_ {A = ℕ} 0 1 = cc in omega arith)
     go true b i j k = absurd (let z : _≡_ {A = ℕ} 0 1 = cc in omega arith)
 
@@ -112,10 +121,13 @@ giant-near w x d y e t r is h x′ y′ same = go (wrongDistance d e) refl
     go true k = giant-far w x d y e t r is h k ∙ sym (near-far t x′ d y′ e k)
     go false k = giant-done w x d y e t r is h k ∙ giant-same t x y x′ y′ same d e ∙ sym (near-done t x′ d y′ e k)
 
-pub giant-done-says : (q : ℕ) (t : Ticket) (x : Ideal ℕ) (d : ℕ) (y : Ideal ℕ) (e : ℕ) (c : List ℕ) (m : ℕ) (u : List ℕ) (k : ℕ) (f distance : ℤ) → wrongDistance d e ≡ false → Is q c m (giantDone t x d y e .q) → Is q u k (giantDone t x d y e .p) → f ≡ giantDone t x d y e .f → distance ≡ giantDone t x d y e .distance → GiantSays q (giantNear t x d y e) 0 c m u k f distance
+number-zero : (t : Ticket) (x : Ideal ℕ) (d : ℕ) (y : Ideal ℕ) (e : ℕ) → 0 ≡ giantDone t x d y e .number
 unfolding giantDone
-giant-done-says q t x d y e c m u k f distance h a b g i = subst (λ (z : GiantStepAnswer). GiantSays q z 0 c m u k f distance) (sym (near-done t x d y e h)) (record { number-is = refl; q-is = a; p-is = b; f-is = g; distance-is = i })
+number-zero t x d y e = refl
 
--- the same modulus
-pub giant-modulus : {q q′ : ℕ} {a b : GiantStepAnswer} {number : ℕ} {c : List ℕ} {m : ℕ} {e : List ℕ} {j : ℕ} {f g : ℤ} → q ≡ q′ → b ≡ a → GiantSays q a number c m e j f g → GiantSays q′ b number c m e j f g
-giant-modulus {q} {q′} {a} {b} {number} {c} {m} {e} {j} {f} {g} h k x = subst (λ (n : ℕ). GiantSays n b number c m e j f g) h (subst (λ (z : GiantStepAnswer). GiantSays q z number c m e j f g) (sym k) x)
+pub giant-done-says : {f : FieldName} {n : ℕ} {D : List ℕ} (b : ℕ) {x : Ideal ℕ} {d : ℕ} {y : Ideal ℕ} {e : ℕ} {r : Giant} → wrongDistance d e ≡ false → Stepped f n D x d y e r → {words : ℕ} {u v : ℤ} → u ≡ r .f → v ≡ r .distance
+    → GiantStepSays (record { words = words; number = 0; q = r .q; p = r .p; f = u; distance = v }) (giantNear (ticket f n D b) x d y e)
+giant-done-says {f} {n} {D} b {x} {d} {y} {e} h s i j = says-path (near-done (ticket f n D b) x d y e h) (done s i j)
+  where
+    done : {r : Giant} → Stepped f n D x d y e r → {words : ℕ} {u v : ℤ} → u ≡ r .f → v ≡ r .distance → GiantStepSays (record { words = words; number = 0; q = r .q; p = r .p; f = u; distance = v }) (giantDone (ticket f n D b) x d y e)
+    done s i j = record { number-is = number-zero (ticket f n D b) x d y e; q-is = holds (s .q-is b); p-is = holds (s .p-is b); f-is = i ∙ s .f-is b; distance-is = j ∙ s .distance-is b }

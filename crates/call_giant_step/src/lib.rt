@@ -1,30 +1,30 @@
 // The call `giant_step`: two pairs of any words with their distances, tested, then multiplied and reduced.
 ghost use mathlib.Core.Path.{_≡_};
-ghost use mathlib.Core.List.{[]};
-ghost use Prim.Native.Nat.{ℕ, _≤_};
-ghost use lib.IntN.{pos};
+ghost use Prim.Native.Nat.{_≤_};
 ghost use lib.ListN.{length};
-ghost use Rattle.spec_definitions.specs.Ticket.{ticketOf, genus};
-ghost use Rattle.spec_definitions.specs.Products.{giantAnswer, wrongDistance};
+ghost use Rattle.spec_definitions.specs.Ticket.{ticket, genus};
+ghost use Rattle.spec_definitions.specs.Products.{giantRefused, giantAnswer, wrongDistance};
 ghost use Rattle.spec_laws.specs.Admitted.{Admitted};
-ghost use Rattle.base_polynomial.specs.Record.{Is as IsAt};
+ghost use Rattle.base_field.specs.Named.{name, IsField};
 ghost use Rattle.base_polynomial.specs.Whole.{poly, Held};
 ghost use Rattle.ideal_product.specs.Operand.{heldPair, Operand};
-ghost use Rattle.walk_run.specs.Outcome.{ticket};
-ghost use Rattle.call_product.specs.Products.{pairOf};
-ghost use Rattle.call_giant_step.specs.GiantSteps.{GiantSays, giantNear};
+ghost use Rattle.ideal_pair.specs.Pair.{pairOf};
+ghost use Rattle.call_giant_step.specs.GiantSteps.{GiantStepSays, giantNear};
 use base_counters::Distance;
 use base_polynomial::Poly;
 use base_polynomial::linear::zero;
-use call_product::both;
 use ideal_giant::step::giant;
 use ideal_pair::Pair;
+use ideal_pair::operand::both;
 use ideal_pair::operand::pair;
 use ideal_reduce::root::root_of;
 use ticket_read::Ticket;
 use ticket_read::read_ticket;
 
-// The number of words handed in, the number of a refusal or 0, the reduced ideal, f and the distance: zero in a refusal.
+// The largest distance that a giant step takes: 2⁴⁰.
+const FARTHEST: u64 = 1099511627776;
+
+// Invariant (`GiantStepSays`): the number of words handed in, the number of a refusal or 0, the reduced ideal, f and the distance: zero in a refusal.
 pub struct GiantStepAnswer {
     pub words: u64,
     pub number: u32,
@@ -36,8 +36,8 @@ pub struct GiantStepAnswer {
 
 // The answer of a refusal.
 fn refused(words: u64, number: u32) -> GiantStepAnswer
-    ensures { λ r. ⌜ (r .words ≡ words) × (r .number ≡ number) × (r .f ≡ pos 0) × (r .distance ≡ pos 0) ⌝ }
-    ensures { λ r. ⌜ ((k : ℕ) → IsAt k (r .q .c) (r .q .size) [] × IsAt k (r .p .c) (r .p .size) []) ⌝ }
+    ensures { λ r. ⌜ r .words ≡ words ⌝ }
+    ensures { λ r. ⌜ GiantStepSays r (giantRefused number) ⌝ }
 {
     let z = zero();
     GiantStepAnswer {
@@ -50,23 +50,23 @@ fn refused(words: u64, number: u32) -> GiantStepAnswer
     }
 }
 
-// A distance is above 2^40.
+// A distance is above the largest.
 fn far(d1: Distance, d2: Distance) -> bool
     ensures { λ r. ⌜ r ≡ wrongDistance (d1 .0) (d2 .0) ⌝ }
 {
-    if d1.0 > 1099511627776 {
+    if d1.0 > FARTHEST {
         return true;
     }
-    d2.0 > 1099511627776
+    d2.0 > FARTHEST
 }
 
 // The giant step of two ideals that passed their tests.
 fn stepped(words: u64, t: Ticket, x: Pair, d1: Distance, y: Pair, d2: Distance) -> GiantStepAnswer
-    requires { ⌜ Admitted (t .field .q) (genus (t .n)) (poly (t .radicand)) × Held (t .field) (t .radicand) × (2 ≤ t .n) ⌝ }
-    requires { ⌜ Operand (t .field .q) (genus (t .n)) (poly (t .radicand)) (x .q .c) (x .q .size) (x .p .c) (x .p .size) ⌝ }
-    requires { ⌜ Operand (t .field .q) (genus (t .n)) (poly (t .radicand)) (y .q .c) (y .q .size) (y .p .c) (y .p .size) ⌝ }
+    requires { ⌜ IsField (t .field) × Admitted (name (t .field)) (genus (t .n)) (poly (t .radicand)) × Held (t .field) (t .radicand) × (2 ≤ t .n) ⌝ }
+    requires { ⌜ Operand (name (t .field)) (genus (t .n)) (poly (t .radicand)) (x .q) (x .p) ⌝ }
+    requires { ⌜ Operand (name (t .field)) (genus (t .n)) (poly (t .radicand)) (y .q) (y .p) ⌝ }
     ensures { λ r. ⌜ r .words ≡ words ⌝ }
-    ensures { λ r. ⌜ GiantSays (t .field .q) (giantNear (ticket (t .field .q) (t .n) (poly (t .radicand)) (t .budget)) (heldPair (x .q .c) (x .q .size) (x .p .c) (x .p .size)) (d1 .0) (heldPair (y .q .c) (y .q .size) (y .p .c) (y .p .size)) (d2 .0)) (r .number) (r .q .c) (r .q .size) (r .p .c) (r .p .size) (r .f) (r .distance) ⌝ }
+    ensures { λ r. ⌜ GiantStepSays r (giantNear (ticket (name (t .field)) (t .n) (poly (t .radicand)) (t .budget)) (heldPair (x .q) (x .p)) (d1 .0) (heldPair (y .q) (y .p)) (d2 .0)) ⌝ }
 {
     if far(d1, d2) {
         return refused(words, 10);
@@ -96,7 +96,7 @@ pub fn giant_step(
     d2: Distance,
 ) -> GiantStepAnswer
     ensures words { λ r. ⌜ r .words ≡ length (now (ticket .entry)) ⌝ }
-    ensures says { λ r. ⌜ GiantSays (ticketOf (now (ticket .entry)) .q) (giantAnswer (now (ticket .entry)) (pairOf (now (q1 .entry)) (now (p1 .entry))) (d1 .0) (pairOf (now (q2 .entry)) (now (p2 .entry))) (d2 .0)) (r .number) (r .q .c) (r .q .size) (r .p .c) (r .p .size) (r .f) (r .distance) ⌝ }
+    ensures says { λ r. ⌜ GiantStepSays r (giantAnswer (now (ticket .entry)) (pairOf (now (q1 .entry)) (now (p1 .entry))) (d1 .0) (pairOf (now (q2 .entry)) (now (p2 .entry))) (d2 .0)) ⌝ }
 {
     let words = ticket.len() as u64;
     let t = read_ticket(ticket);

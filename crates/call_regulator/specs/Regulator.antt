@@ -3,12 +3,13 @@ use Prim.Native.Nat.{ℕ, zero, suc}
 use native.Mathlib.Omega.{arith}
 use mathlib.Core.Path.{_≡_, refl, sym, ap, _∙_, subst}
 use mathlib.Core.List.{List}
-use Rattle.spec_definitions.specs.Ticket.{ticketOf, refusalOf}
+use Rattle.spec_definitions.specs.Ticket.{ticket, ticketOf, refusalOf}
 use Rattle.spec_definitions.specs.Answers.{Outcome, refused, said, said-injective, outcomeOf, wordsOutcome, regulatorOf}
-use Rattle.base_polynomial.specs.Record.{poly}
-use Rattle.walk_run.specs.Outcome.{ticket}
+use Rattle.base_field.specs.Named.{name}
+use Rattle.base_polynomial.specs.Over.{poly}
 use Rattle.spec_demands.specs.LeastDegree.{Least, t3}
-use Rattle.call_regulator.specs.Accepted.{Accepted}
+use Rattle.ticket_read.specs.declared.Ticket.{Ticket as Said}
+use Rattle.ticket_read.specs.Accepted.{Accepted}
 
 module _ (w : List ℕ) where
   pub refused-outcome : (k : ℕ) → k ≡ refusalOf w → (k ≡ 0 → ⊥) → refused k ≡ wordsOutcome w
@@ -19,7 +20,7 @@ module _ (w : List ℕ) where
       go zero z = absurd (h z)
       go (suc j) z = ap refused z
 
-  pub accepted-outcome : {q n : ℕ} {c : List ℕ} {size b : ℕ} (x : Outcome) → Accepted w q n c size b → x ≡ outcomeOf (ticket q n (poly c size) b) → x ≡ wordsOutcome w
+  pub accepted-outcome : {t : Said} (x : Outcome) → Accepted w t → x ≡ outcomeOf (ticket (name (t .field)) (t .n) (poly (t .radicand)) (t .budget)) → x ≡ wordsOutcome w
   unfolding wordsOutcome
   accepted-outcome x a e = e ∙ ap outcomeOf (sym (a .ticket-is)) ∙ go (refusalOf w) (a .passes)
     where

@@ -5,14 +5,9 @@ ghost use Rattle.spec_definitions.specs.Answers.{said, regulatorOf};
 ghost use Rattle.spec_demands.specs.LeastDegree.{Least};
 ghost use Rattle.walk_run.specs.Outcome.{meaning};
 use ticket_read::read_ticket;
+pub use walk_run::Answer;
 use walk_run::Outcome;
 use walk_run::run;
-
-// The number of words handed in, and one of three outcomes.
-pub struct Answer {
-    pub words: u64,
-    pub outcome: Outcome,
-}
 
 // The outcome of a ticket: its first refusal, or what its walk finds within its budget.
 fn outcome(ticket: &[u32]) -> Outcome

@@ -10,9 +10,13 @@ use mir.Syntax.{w64}
 use mir.Val.{SFits, toZ, ofZ}
 use mir.ValLaws.{toZ-ofZ}
 
--- 2^41
-abbrev most : ℕ
-most = 2199023255552
+-- 2^40, the largest distance that a giant step takes
+abbrev pub farthest : ℕ
+farthest = 1099511627776
+
+-- 2^41, the largest sum of two of them
+abbrev pub twoDistances : ℕ
+twoDistances = 2199023255552
 
 mag-sub : (a b k : ℕ) → a ≤ k → b ≤ k → mag (pos a -ℤ pos b) ≤ k
 mag-sub a zero k h l = omega arith
@@ -22,15 +26,15 @@ mag-sub a (suc b) k h l = go (ltb a (suc b))
     go true = omega arith
     go false = omega arith
 
-fits : (z : ℤ) → mag z ≤ most → SFits w64 z
+fits : (z : ℤ) → mag z ≤ twoDistances → SFits w64 z
 fits z h = record { sfits = omega arith }
 
-signed : (a : ℕ) → a ≤ most → toZ w64 a ≡ pos a
+signed : (a : ℕ) → a ≤ twoDistances → toZ w64 a ≡ pos a
 signed a h = toZ-ofZ w64 (pos a) (fits (pos a) h)
 
-module _ (a b : ℕ) (h : a ≤ 2199023255552) (l : b ≤ 2199023255552) where
+module _ (a b : ℕ) (h : a ≤ twoDistances) (l : b ≤ twoDistances) where
   pub difference-fits : SFits w64 (toZ w64 a -ℤ toZ w64 b)
-  difference-fits = subst₂ (λ (u v : ℤ). SFits w64 (u -ℤ v)) (sym (signed a h)) (sym (signed b l)) (fits (pos a -ℤ pos b) (mag-sub a b most h l))
+  difference-fits = subst₂ (λ (u v : ℤ). SFits w64 (u -ℤ v)) (sym (signed a h)) (sym (signed b l)) (fits (pos a -ℤ pos b) (mag-sub a b twoDistances h l))
 
   pub difference-is : toZ w64 (ofZ w64 (toZ w64 a -ℤ toZ w64 b)) ≡ pos a -ℤ pos b
   difference-is = toZ-ofZ w64 _ difference-fits ∙ ap₂ _-ℤ_ (signed a h) (signed b l)

@@ -7,6 +7,8 @@ ghost use Rattle.spec_laws.specs.Admitted.{Admitted};
 ghost use Rattle.base_polynomial.specs.Whole.{poly, Held, Is};
 ghost use Rattle.walk_state.specs.State.{rootD};
 ghost use Rattle.ideal_product.specs.Operand.{heldPair, Operand};
+ghost use Rattle.base_field.specs.Named.{name, IsField};
+ghost use Rattle.ideal_giant.specs.Signed.{farthest, twoDistances};
 ghost use Rattle.ideal_giant.specs.Stepped.{Stepped};
 use crate::Giant;
 use base_counters::Distance;
@@ -19,7 +21,7 @@ use ideal_reduce::reduce::reduce;
 
 // total − lower.
 fn signed(total: u64, lower: u64) -> i64
-    requires { ⌜ (total ≤ 2199023255552) × (lower ≤ 2199023255552) ⌝ }
+    requires { ⌜ (total ≤ twoDistances) × (lower ≤ twoDistances) ⌝ }
     ensures { λ r. ⌜ r ≡ pos total -ℤ pos lower ⌝ }
 {
     total as i64 - lower as i64
@@ -46,18 +48,18 @@ pub fn giant(
     p2: Poly,
     d2: Distance,
 ) -> Giant
-    requires { ⌜ Admitted (f .q) (genus n) (poly radicand) × Held f radicand × (2 ≤ n) ⌝ }
-    requires { ⌜ Is f d (rootD (f .q) (genus n) (poly radicand)) ⌝ }
-    requires { ⌜ Operand (f .q) (genus n) (poly radicand) (q1 .c) (q1 .size) (p1 .c) (p1 .size) ⌝ }
-    requires { ⌜ Operand (f .q) (genus n) (poly radicand) (q2 .c) (q2 .size) (p2 .c) (p2 .size) ⌝ }
-    requires { ⌜ (d1 .0 ≤ 1099511627776) × (d2 .0 ≤ 1099511627776) ⌝ }
-    ensures { λ r. ⌜ Stepped (f .q) n (poly radicand) (heldPair (q1 .c) (q1 .size) (p1 .c) (p1 .size)) (d1 .0) (heldPair (q2 .c) (q2 .size) (p2 .c) (p2 .size)) (d2 .0) (r .q .c) (r .q .size) (r .p .c) (r .p .size) (r .f) (r .distance) ⌝ }
+    requires { ⌜ IsField f × Admitted (name f) (genus n) (poly radicand) × Held f radicand × (2 ≤ n) ⌝ }
+    requires { ⌜ Is f d (rootD (name f) (genus n) (poly radicand)) ⌝ }
+    requires { ⌜ Operand (name f) (genus n) (poly radicand) q1 p1 ⌝ }
+    requires { ⌜ Operand (name f) (genus n) (poly radicand) q2 p2 ⌝ }
+    requires { ⌜ (d1 .0 ≤ farthest) × (d2 .0 ≤ farthest) ⌝ }
+    ensures { λ r. ⌜ Stepped (name f) n (poly radicand) (heldPair q1 p1) (d1 .0) (heldPair q2 p2) (d2 .0) r ⌝ }
 {
     let m = product(f, n, radicand, q1, p1, q2, p2);
     let s = m.s;
     let q = m.q;
     let p = m.p;
-    let r = reduce(f, n, radicand, d, q, p);
+    let r = reduce(f, n, radicand, &d.c, q, p);
     let x = r.q;
     let y = r.p;
     let less = lower(q.size, s.size, x.size, r.sum);

@@ -1,3 +1,4 @@
-pub mod Advance
+pub mod Height
+pub mod Recurrence
 pub mod Start
 pub mod Turn

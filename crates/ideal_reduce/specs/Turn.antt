@@ -1,203 +1,372 @@
--- The reduction at its index j, as records: the pair with its quotient a, and the sum of the degrees of a so far. A step takes one to the next, and the size of Q falls.
-use Prim.Native.Nat.{ℕ, suc, _+_, _-_, _≤_, _<_}
+-- The reduction at its index j, in arrays of 129 places: Q_j, the Q before it and the remainder of the step before, with the sum of the degrees of a so far. A step of the walk
+-- takes one to the next, and the size of Q falls.
+use Prim.Native.Nat.{ℕ, zero, suc, _+_, _-_, _≤_, _<_}
 use native.Mathlib.Omega.{arith}
-use mathlib.Core.Path.{_≡_, refl, sym, ap, ap₂, _∙_, subst}
+use mathlib.Core.Path.{_≡_, refl, sym, ap, ap₂, _∙_, subst, subst₂}
 use mathlib.Core.Logic.{⊎-elim}
 use mathlib.Core.List.{List}
-use lib.ListN.{length}
+use lib.ListN.{length, getD, List·getD-eq-default}
+use lib.Seq.{ext-getD}
 use Rattle.math_ring.specs.Order.{le-or-lt}
 use Rattle.math_surd.specs.Step.{State}
-use Rattle.math_ideals.specs.Steps.{shift-most}
-use Rattle.spec_definitions.specs.Field.{modulo}
-use Rattle.spec_definitions.specs.Polynomials.{trim, size, deg}
-use Rattle.spec_definitions.specs.Walk.{Ideal, partial, nextP, next, steps}
+use Rattle.math_ideals.specs.Steps.{shift-most, height-more, degree-sum}
+use Rattle.spec_definitions.specs.Field.{FieldName, ops}
+use Rattle.spec_definitions.specs.Polynomials.{trim, pad, size, deg, add, sub, quo}
+use Rattle.spec_definitions.specs.Walk.{Ideal, steps}
 use Rattle.spec_definitions.specs.Products.{turnsOf, degreeSum}
 use Rattle.spec_bridge.specs.Model.{series}
 use Rattle.spec_bridge.specs.Trim.{length-trim}
-use Rattle.spec_bridge.specs.Division.{trim-quo, oks-quo}
-use Rattle.spec_laws.specs.Admitted.{Admitted, surd-of}
-use Rattle.spec_laws.specs.Pairs.{cofactorAt, ideal-state}
-use Rattle.spec_laws.specs.Reduction.{Q-size, a-size, degree-sum-is, sequence, size-falls, turns-unique}
-use Rattle.spec_laws.specs.ReductionSizes.{Q-trim, P-trim, Q-oks, P-oks, Q-most, P-most, partial-most}
-use Rattle.base_polynomial.specs.Record.{poly, Held, Is}
-use Rattle.base_polynomial.specs.Result.{Result, result}
-use Rattle.walk_state.specs.State.{rootD}
-use Rattle.ideal_product.specs.Operand.{heldPair, K, M}
-use Rattle.ideal_reduce.specs.Start.{Start, Begun, root-result, same-poly, same-pair}
+use Rattle.spec_bridge.specs.Arithmetic.{at-sub, add-cong, sub-cong, mul-cong, oks-add}
+use Rattle.spec_bridge.specs.Lengths.{length-add, length-sub}
+use Rattle.spec_bridge.specs.Division.{rem-less}
+use Rattle.spec_bridge.specs.Quotient.{quo-length, quo-cong, rem-cong}
+use Rattle.spec_bridge.specs.Residues.{pos}
+use Rattle.spec_laws.specs.Admitted.{Admitted, surd-of, D-most}
+use Rattle.spec_laws.specs.Pairs.{normAt, cofactorAt, ideal-state}
+use Rattle.spec_laws.specs.Walk.{d-length}
+use Rattle.spec_laws.specs.Reduction.{Q-size, Q-deg, degree-sum-is, sequence, size-falls, turns-unique}
+use Rattle.spec_laws.specs.ReductionSizes.{Q-trim, P-trim, Q-oks, P-oks, Q-most, P-most, norm-most, sum-most}
+use Rattle.base_polynomial.specs.declared.Poly.{Poly}
+use Rattle.base_polynomial.specs.Over.{poly, Held, Is, Result, result, length-poly, at-poly, held-size}
+use Rattle.base_polynomial.specs.Linear.{is-result, held-within, sub-zeros}
+use Rattle.base_polynomial.specs.Pad.{length-pad, at-pad}
+use Rattle.base_polynomial.specs.Places.{Places, Within, Top}
+use Rattle.walk_step.specs.Step.{stepQuo, nextRem, nextQ, Ready, Stepped}
+use Rattle.walk_state.specs.State.{rootD, pad-within, pad-series}
+use Rattle.ideal_product.specs.Operand.{heldPair, K, M, I}
+use Rattle.ideal_reduce.specs.declared.Reduced.{Reduced}
+use Rattle.ideal_reduce.specs.Height.{Height, height-length}
+use Rattle.ideal_reduce.specs.Recurrence.{before, left, left-oks, before-oks, P-left, dividend, left-next, Q-step, height-size}
+use Rattle.ideal_reduce.specs.Start.{Start, Begun, begun, p-less}
 
--- the degree of each Q before is above g
-pub record At (q g : ℕ) (D : List ℕ) (x : Ideal ℕ) (u : List ℕ) (k : ℕ) (c : List ℕ) (m : ℕ) (e : List ℕ) (n sum : ℕ) : Type 0 where
+-- the arrays, the size of Q and the sum are those of an index; the degree of each Q before is above g; `top` bounds the sizes of the next step
+pub record At (f : FieldName) (g : ℕ) (D : List ℕ) (x : Ideal ℕ) (before-array current rest : List ℕ) (size top sum : ℕ) : Type 0 where
   pub index : ℕ
-  pub a-is : Is q u k (partial (modulo q) D (rootD q g D) (steps (modulo q) D (rootD q g D) x index))
-  pub q-is : Is q c m (steps (modulo q) D (rootD q g D) x index .q)
-  pub p-is : Is q e n (steps (modulo q) D (rootD q g D) x index .p)
-  pub sum-is : sum ≡ degreeSum (modulo q) D (rootD q g D) g x index
-  pub above : (i : ℕ) → i < index → suc g < length (trim (modulo q) (steps (modulo q) D (rootD q g D) x i .q))
+  pub before-is : before-array ≡ pad (ops f) 129 (before (ops f) D (rootD f g D) x index)
+  pub q-is : current ≡ pad (ops f) 129 (steps (ops f) D (rootD f g D) x index .q)
+  pub left-is : rest ≡ pad (ops f) 129 (left (ops f) D (rootD f g D) x index)
+  pub size-is : size ≡ length (steps (ops f) D (rootD f g D) x index .q)
+  pub sum-is : sum ≡ degreeSum (ops f) D (rootD f g D) g x index
+  pub above : (i : ℕ) → i < index → suc g < length (trim (ops f) (steps (ops f) D (rootD f g D) x i .q))
+  pub top-most : top ≤ 128
+  pub top-least : size ≤ top
+  pub rest-past : (i : ℕ) → top ≤ i → suc (suc g) ≤ i → getD rest i 0 ≡ 0
 
-at-first : {q g : ℕ} {D : List ℕ} {x : Ideal ℕ} {u : List ℕ} {k : ℕ} {c : List ℕ} {m : ℕ} {e : List ℕ} {n : ℕ} → Is q u k (partial (modulo q) D (rootD q g D) x) → Is q c m (x .q) → Is q e n (x .p) → At q g D x u k c m e n 0
-unfolding steps degreeSum
-at-first a b c = record { index = 0; a-is = a; q-is = b; p-is = c; sum-is = refl; above = λ i l. absurd (omega arith) }
+-- r is the first pair whose Q has degree at most g, with the sum of the degrees of a to its index
+pub record Reduces (f : FieldName) (g : ℕ) (D : List ℕ) (x : Ideal ℕ) (r : Reduced) : Type 0 where
+  pub q-is : Is f (r .q) (steps (ops f) D (rootD f g D) x (turnsOf (ops f) D (rootD f g D) g x) .q)
+  pub p-is : Is f (r .p) (steps (ops f) D (rootD f g D) x (turnsOf (ops f) D (rootD f g D) g x) .p)
+  pub sum-is : r .sum ≡ degreeSum (ops f) D (rootD f g D) g x (turnsOf (ops f) D (rootD f g D) g x)
+  pub held-q : Held f (r .q)
+  pub held-p : Held f (r .p)
+  pub some : 0 < r .q .size
+  pub most : r .q .size + r .sum ≤ length (x .q)
 
--- the records stand for the first pair whose Q has degree at most g, with the sum of the degrees of a to its index
-pub record Reduces (q g : ℕ) (D : List ℕ) (x : Ideal ℕ) (c : List ℕ) (m : ℕ) (e : List ℕ) (n sum : ℕ) : Type 0 where
-  pub q-is : Is q c m (steps (modulo q) D (rootD q g D) x (turnsOf (modulo q) D (rootD q g D) g x) .q)
-  pub p-is : Is q e n (steps (modulo q) D (rootD q g D) x (turnsOf (modulo q) D (rootD q g D) g x) .p)
-  pub sum-is : sum ≡ degreeSum (modulo q) D (rootD q g D) g x (turnsOf (modulo q) D (rootD q g D) g x)
-  pub held-q : Held q c m
-  pub held-p : Held q e n
-  pub some : 0 < m
-  pub most : m + sum ≤ length (x .q)
-
--- the first, from the start's records
-pub at-start : {q g : ℕ} {a : List ℕ} {i : ℕ} {d : List ℕ} {j : ℕ} {c : List ℕ} {m : ℕ} {e : List ℕ} {n : ℕ} (s : Start q g a i d j c m e n) {c′ : List ℕ} {m′ : ℕ} (c-is : Is q c′ m′ (poly c m)) {e′ : List ℕ} {n′ : ℕ} (e-is : Is q e′ n′ (poly e n)) {u : List ℕ} {k : ℕ}
-    → Is q u k (partial (modulo q) (poly a i) (poly d j) (heldPair c m e n)) → At q g (poly a i) (heldPair c′ m′ e′ n′) u k c′ m′ e′ n′ 0
-at-start {q} {g} {a} {i} s {c′} {m′} c-is {e′} {n′} e-is {u} {k} a-is =
-    at-first (subst (Is q u k) (ap₂ (partial (modulo q) (poly a i)) (root-result (s .admitted) (s .root-is) .is) (sym (same-pair s c-is e-is))) a-is)
-    (subst (Is q c′ m′) (sym (same-poly (s .held-q) c-is)) c-is)
-    (subst (Is q e′ n′) (sym (same-poly (s .held-p) e-is)) e-is)
-
-module _ {q g : ℕ} {D : List ℕ} {h : Admitted q g D} {x : Ideal ℕ} (b : Begun h x) where
+module _ {f : FieldName} {g : ℕ} {D : List ℕ} {h : Admitted f g D} {x : Ideal ℕ} (b : Begun h x) where
   abbrev d : List ℕ
-  d = rootD q g D
+  d = rootD f g D
+
+  abbrev twice : List ℕ
+  twice = add (ops f) d d
 
   abbrev pair : ℕ → Ideal ℕ
-  pair = steps (modulo q) D d x
+  pair = steps (ops f) D d x
 
-  abbrev a : ℕ → List ℕ
-  a j = partial (modulo q) D d (pair j)
+  abbrev l : ℕ → List ℕ
+  l = left (ops f) D d x
 
-  abbrev st : State (K h) (series (M h) D) (series (M h) (x .q)) (series (M h) (cofactorAt (modulo q) D x)) (series (M h) (x .p))
+  abbrev st : State (K h) (series (M h) D) (series (M h) (x .q)) (series (M h) (cofactorAt (ops f) D x)) (series (M h) (x .p))
   st = ideal-state (K h) (M h) D (b .ideal)
 
+  abbrev positive : 0 < f .q
+  positive = pos (f .q) (h .prime)
+
   -- ---- lengths
-  D-most : length (trim (modulo q) D) ≤ suc (suc g + suc g)
-  D-most = let e = length-trim (M h) D in let w = h .size-D in omega arith
-
-  start-q : deg (modulo q) (x .q) ≤ g + g
+  start-q : deg (ops f) (x .q) ≤ g + g
   unfolding deg size
-  start-q = let e : length (trim (modulo q) (x .q)) ≡ length (x .q) = ap length (b .q-trim) in let w = b .q-most in omega arith
+  start-q = let e : length (trim (ops f) (x .q)) ≡ length (x .q) = ap length (b .q-trim) in let w = b .q-most in omega arith
 
-  start-p : length (trim (modulo q) (x .p)) ≤ g + g
-  start-p = let e : length (trim (modulo q) (x .p)) ≡ length (x .p) = ap length (b .p-trim) in let w = b .p-most in omega arith
+  start-p : length (trim (ops f) (x .p)) ≤ g + g
+  start-p = let e : length (trim (ops f) (x .p)) ≡ length (x .p) = ap length (b .p-trim) in let w = b .p-most in omega arith
 
-  q-same : (j : ℕ) → length (trim (modulo q) (pair j .q)) ≡ length (pair j .q)
+  q-same : (j : ℕ) → length (trim (ops f) (pair j .q)) ≡ length (pair j .q)
   q-same j = ap length (Q-trim (surd-of h) x st (b .q-trim) j)
 
   q-length : (j : ℕ) → (0 < length (pair j .q)) × (length (pair j .q) ≤ suc (g + g))
-  q-length j = let e = q-same j in let w = Q-most (surd-of h) x st start-q start-p D-most j in (omega arith, omega arith)
+  q-length j = let e = q-same j in let w = Q-most (surd-of h) x st start-q start-p (D-most h) j in (omega arith, omega arith)
 
   p-length : (j : ℕ) → length (pair j .p) ≤ 2 + (g + g)
-  p-length j = let e : length (trim (modulo q) (pair j .p)) ≡ length (pair j .p) = ap length (P-trim (surd-of h) x st (b .p-trim) j) in let w = P-most (surd-of h) x st start-q start-p D-most j in omega arith
+  p-length j = let e : length (trim (ops f) (pair j .p)) ≡ length (pair j .p) = ap length (P-trim (surd-of h) x st (b .p-trim) j) in let w = P-most (surd-of h) x st start-q start-p (D-most h) j in omega arith
 
-  a-length : (j : ℕ) → length (a j) + length (pair j .q) ≤ 3 + (g + g)
-  a-length j = let e = q-same j in let w = partial-most (surd-of h) x st start-q start-p D-most j in omega arith
+  root-length : length (trim (ops f) d) ≡ suc (suc g)
+  root-length = ap length (surd-of h .trimmed) ∙ d-length (surd-of h)
 
-  a-trim : (j : ℕ) → trim (modulo q) (a j) ≡ a j
-  unfolding partial
-  a-trim j = trim-quo (M h) _ _
+  twice-length : length twice ≤ suc (suc g)
+  twice-length = let e = root-length in length-add (M h) d d (suc (suc g)) (omega arith) (omega arith)
 
-  -- past the first, a is not constant
-  a-more : (j : ℕ) → 1 < length (a (suc j))
-  a-more j = let e : length (trim (modulo q) (a (suc j))) ≡ length (a (suc j)) = ap length (a-trim (suc j)) in let w = a-size (surd-of h) x st j in omega arith
+  left-length : (j : ℕ) → length (l j) ≤ 2 + (g + g)
+  unfolding left
+  left-length zero = let e = root-length in let w = start-p in length-sub (M h) d (x .p) (2 + (g + g)) (omega arith) (omega arith)
+  left-length (suc j) = let e = q-same j in let w = q-length j in let v = rem-less (M h) (I h) (add (ops f) (pair j .p) d) (pair j .q) (omega arith) in omega arith
 
-  deg-a : (j : ℕ) → deg (modulo q) (a j) ≡ length (a j) - 1
-  unfolding deg size
-  deg-a j = ap (λ (l : List ℕ). length l - 1) (a-trim j)
+  -- past the start, less than Q
+  left-less : (j : ℕ) → length (l (suc j)) < length (pair j .q)
+  unfolding left
+  left-less j = let e = q-same j in let w = q-length j in let v = rem-less (M h) (I h) (add (ops f) (pair j .p) d) (pair j .q) (omega arith) in omega arith
+
+  before-length : (j : ℕ) → length (before (ops f) D d x j) ≤ 127
+  unfolding before steps
+  before-length zero =
+      let e = norm-most (surd-of h) x st start-q start-p (D-most h) 0 in
+      let w = length-trim (M h) (normAt (ops f) D x) in
+      let v = quo-length (M h) (normAt (ops f) D x) (x .q) in
+      let u = q-length 0 in
+      let t = q-same 0 in
+      let k = h .genus-most in
+      omega arith
+  before-length (suc j) = let w = q-length j in let k = h .genus-most in omega arith
+
+  -- ---- an array with the coefficients of its list
+  same : (c k : List ℕ) → c ≡ pad (ops f) 129 k → length k ≤ 129 → series (M h) c ≡ series (M h) k
+  same c k e w = ap (series (M h)) e ∙ pad-series (f .q) positive k w
+
+  place : (c k : List ℕ) → c ≡ pad (ops f) 129 k → length k ≤ 129 → (i : ℕ) → getD c i 0 ≡ getD k i 0
+  place c k e w i = ap (λ (v : List ℕ). getD v i 0) e ∙ at-pad (ops f) 129 k w i
 
   -- ---- at an index
-  module _ {u : List ℕ} {k : ℕ} {c : List ℕ} {m : ℕ} {e : List ℕ} {n sum : ℕ} (t : At q g D x u k c m e n sum) where
-    pub a-result : Result q u k (a (t .index))
-    unfolding partial
-    a-result = result q u k _ (t .a-is) (let w = a-length (t .index) in let l = h .genus-most in omega arith) (trim-quo (M h) _ _) (oks-quo (M h) _ _)
-
-    pub q-result : Result q c m (pair (t .index) .q)
-    q-result = result q c m _ (t .q-is) (let w = q-length (t .index) in let l = h .genus-most in omega arith) (Q-trim (surd-of h) x st (b .q-trim) (t .index)) (Q-oks (surd-of h) x st (b .q-oks) (t .index))
-
-    pub p-result : Result q e n (pair (t .index) .p)
-    p-result = result q e n _ (t .p-is) (let w = p-length (t .index) in let l = h .genus-most in omega arith) (P-trim (surd-of h) x st (b .p-trim) (t .index)) (P-oks (surd-of h) x st (b .p-oks) (t .index))
+  module _ {c k r : List ℕ} {m top sum : ℕ} (t : At f g D x c k r m top sum) where
+    abbrev j : ℕ
+    j = t .index
 
     pub q-some : 0 < m
-    q-some = let w = q-length (t .index) in let i = t .q-is .size-is in omega arith
+    q-some = let w = q-length j in let e = t .size-is in omega arith
 
-    pub product-fits : k + m ≤ 130
-    product-fits = let w = a-length (t .index) in let i = t .q-is .size-is in let j = t .a-is .size-is in let l = h .genus-most in omega arith
+    q-short : length (pair j .q) ≤ 129
+    q-short = let w = q-length j in let e = h .genus-most in omega arith
 
-    pub pair-is : heldPair c m e n ≡ pair (t .index)
-    pair-is = ap₂ (λ (u v : List ℕ). record { q = u; p = v }) (q-result .is) (p-result .is)
+    left-short : length (l j) ≤ 129
+    left-short = let w = left-length j in let e = h .genus-most in omega arith
 
-    -- ---- the step, with d as a record
-    module _ {r : List ℕ} {i : ℕ} (r-is : Is q r i (rootD q g D)) where
-      pub a-path : poly u k ≡ partial (modulo q) D (poly r i) (heldPair c m e n)
-      a-path = a-result .is ∙ ap₂ (partial (modulo q) D) (sym (root-result h r-is .is)) (sym pair-is)
+    pub rest-reduced : (i : ℕ) → getD r i 0 < f .q
+    rest-reduced i = subst (λ (v : ℕ). v < f .q) (sym (place r (l j) (t .left-is) left-short i)) (left-oks (surd-of h) x st j i)
 
-      next-path : next (modulo q) D (poly r i) (heldPair c m e n) ≡ pair (suc (t .index))
-      unfolding steps
-      next-path = ap₂ (next (modulo q) D) (root-result h r-is .is) pair-is
+    pub q-reduced : (i : ℕ) → getD k i 0 < f .q
+    q-reduced i = subst (λ (v : ℕ). v < f .q) (sym (place k (pair j .q) (t .q-is) q-short i)) (Q-oks (surd-of h) x st (b .q-oks) j i)
 
-      pub next-short : length (nextP (modulo q) D (poly r i) (heldPair c m e n)) ≤ 65
-      unfolding next
-      next-short = let w = p-length (suc (t .index)) in let l = h .genus-most in subst (λ (p : Ideal ℕ). length (p .p) ≤ 65) (sym next-path) (omega arith)
-
-      module _ {u′ : List ℕ} {k′ : ℕ} (a-next : Is q u′ k′ (partial (modulo q) D (poly r i) (next (modulo q) D (poly r i) (heldPair c m e n)))) where
-        a-is-next : Is q u′ k′ (a (suc (t .index)))
-        a-is-next = subst (Is q u′ k′) (ap₂ (partial (modulo q) D) (root-result h r-is .is) next-path) a-next
-
-        pub a-some : 1 < k′
-        a-some = let w = a-more (t .index) in let i = a-is-next .size-is in omega arith
-
-        sum-next : sum + (k′ - 1) ≡ degreeSum (modulo q) D d g x (suc (t .index))
-        unfolding degreeSum
-        sum-next = ap₂ _+_ (t .sum-is) (ap (λ (l : ℕ). l - 1) (a-is-next .size-is) ∙ sym (deg-a (suc (t .index))))
-
-        module _ (high : suc g < m) where
-          above-next : (i : ℕ) → i < suc (t .index) → suc g < length (trim (modulo q) (pair i .q))
-          above-next i l = ⊎-elim (λ p. subst (λ (w : ℕ). suc g < length (trim (modulo q) (pair w .q))) (let w : t .index ≡ i = omega arith in w) (let w = q-same (t .index) in let z = t .q-is .size-is in omega arith)) (λ p. t .above i p) (le-or-lt (t .index) i)
-
-          pub sum-fits : sum + (k′ - 1) ≤ 62
-          unfolding steps
-          sum-fits =
-              let w = shift-most (K h) (sequence (surd-of h) x st) (suc (t .index)) (λ i l. let v = above-next i l in let z = Q-size (surd-of h) x st i in omega arith) in
-              let v = degree-sum-is (surd-of h) x st (suc (t .index)) in
-              let z = sum-next in
-              let y = start-q in
-              let l = h .genus-most in
-              omega arith
-
-          module _ {c′ : List ℕ} {m′ : ℕ} (q-next : Is q c′ m′ (next (modulo q) D (poly r i) (heldPair c m e n) .q)) where
-            q-is-next : Is q c′ m′ (pair (suc (t .index)) .q)
-            q-is-next = subst (λ (p : Ideal ℕ). Is q c′ m′ (p .q)) next-path q-next
-
-            pub size-less : m′ < m
-            size-less = let w = size-falls (surd-of h) x st (t .index) (above-next (t .index) (omega arith)) in let i = q-same (t .index) in let j = q-same (suc (t .index)) in let v = t .q-is .size-is in let z = q-is-next .size-is in omega arith
-
-            pub at-next : {e′ : List ℕ} {n′ : ℕ} → Is q e′ n′ (next (modulo q) D (poly r i) (heldPair c m e n) .p) → At q g D x u′ k′ c′ m′ e′ n′ (sum + (k′ - 1))
-            at-next {e′} {n′} p-next = record { index = suc (t .index); a-is = a-is-next; q-is = q-is-next; p-is = subst (λ (p : Ideal ℕ). Is q e′ n′ (p .p)) next-path p-next; sum-is = sum-next; above = above-next }
+    lead-some : getD k (m - 1) 0 ≡ 0 → ⊥
+    lead-some e =
+        let w : deg (ops f) (pair j .q) ≡ m - 1 = let a = Q-size (surd-of h) x st j in let q = q-same j in let s = t .size-is in omega arith in
+        Q-deg (surd-of h) x st j .top (ap (M h .φ) (ap (λ (i : ℕ). getD (pair j .q) i 0) w ∙ sym (place k (pair j .q) (t .q-is) q-short (m - 1)) ∙ e) ∙ M h .φ-zer)
 
     -- the degrees of a and of Q_j add up to at most that of Q_0
-    sum-most : m + sum ≤ length (x .q)
+    sum-at-most : m + sum ≤ length (x .q)
     unfolding steps
-    sum-most =
-        let w = shift-most (K h) (sequence (surd-of h) x st) (t .index) (λ i l. let v = t .above i l in let z = Q-size (surd-of h) x st i in omega arith) in
-        let v = degree-sum-is (surd-of h) x st (t .index) in
+    sum-at-most =
+        let w = shift-most (K h) (sequence (surd-of h) x st) j (λ i v. let u = t .above i v in let z = Q-size (surd-of h) x st i in omega arith) in
+        let v = degree-sum-is (surd-of h) x st j in
         let z = t .sum-is in
-        let y = Q-size (surd-of h) x st (t .index) in
-        let e = q-same (t .index) in
-        let u = t .q-is .size-is in
+        let y = Q-size (surd-of h) x st j in
+        let e = q-same j in
+        let u = t .size-is in
         let y₀ = Q-size (surd-of h) x st 0 in
         let e₀ = q-same 0 in
         omega arith
 
-    -- ---- where the degree is at most g
-    turns-are : m ≤ suc g → turnsOf (modulo q) D d g x ≡ t .index
-    turns-are l = turns-unique (surd-of h) x st (t .index) (let w = q-same (t .index) in let z = t .q-is .size-is in omega arith) (t .above)
+    pub sum-bound : m + sum ≤ 63
+    sum-bound = let w = sum-at-most in let e = b .q-most in let v = h .genus-most in omega arith
 
-    pub reduces : m ≤ suc g → Reduces q g D x c m e n sum
-    reduces low = record {
-      q-is = subst (λ (j : ℕ). Is q c m (pair j .q)) (sym (turns-are low)) (t .q-is);
-      p-is = subst (λ (j : ℕ). Is q e n (pair j .p)) (sym (turns-are low)) (t .p-is);
-      sum-is = t .sum-is ∙ ap (degreeSum (modulo q) D d g x) (sym (turns-are low));
-      held-q = q-result .held;
-      held-p = p-result .held;
-      some = q-some;
-      most = sum-most;
+    pub rest-within : (n : ℕ) → top ≤ n → suc (suc g) ≤ n → Within f r n
+    rest-within n e w = record { reduced = rest-reduced; past = λ i p. t .rest-past i (omega arith) (omega arith) }
+
+    -- ---- the step, with 2d in its array
+    module _ {s : List ℕ} (twice-is : s ≡ pad (ops f) 129 twice) where
+      pub twice-within : (n : ℕ) → suc (suc g) ≤ n → n ≤ 129 → Within f s n
+      twice-within n e w = subst (λ (v : List ℕ). Within f v n) (sym twice-is) (pad-within (f .q) twice n (let u = twice-length in omega arith) w (oks-add (M h) d d))
+
+      sums : series (M h) s ≡ series (M h) twice
+      sums = same s twice twice-is (let w = twice-length in let e = h .genus-most in omega arith)
+
+      dividends : series (M h) (sub (ops f) s r) ≡ series (M h) (sub (ops f) twice (l j))
+      dividends = ap (series (M h)) (sub-cong (M h) s twice r (l j) sums (same r (l j) (t .left-is) left-short))
+
+      rem-next : nextRem f s k r ≡ l (suc j)
+      unfolding nextRem
+      rem-next = rem-cong (M h) (I h) _ _ k _ dividends (same k _ (t .q-is) q-short) ∙ sym (left-next (surd-of h) x st j)
+
+      quo-next : stepQuo f s k r ≡ quo (ops f) (sub (ops f) twice (l j)) (pair j .q)
+      unfolding stepQuo
+      quo-next = quo-cong (M h) (I h) _ _ k _ dividends (same k _ (t .q-is) q-short)
+
+      q-next : nextQ f s c k r ≡ pair (suc j) .q
+      unfolding nextQ
+      q-next =
+          add-cong (M h) c _ _ _ (same c _ (t .before-is) (let w = before-length j in omega arith)) (ap (series (M h)) (mul-cong (M h) _ _ _ _ (ap (series (M h)) quo-next) (ap (series (M h)) (sub-cong (M h) _ _ r _ (ap (series (M h)) (rem-next ∙ left-next (surd-of h) x st j)) (same r (l j) (t .left-is) left-short)))))
+          ∙ sym (Q-step (surd-of h) x st j)
+
+      module _ (high : suc g < m) where
+        above-next : (i : ℕ) → i < suc j → suc g < length (trim (ops f) (pair i .q))
+        above-next i e = ⊎-elim (λ p. subst (λ (w : ℕ). suc g < length (trim (ops f) (pair w .q))) (let w : j ≡ i = omega arith in w) (let w = q-same j in let z = t .size-is in omega arith)) (λ p. t .above i p) (le-or-lt j i)
+
+        falls : length (pair (suc j) .q) < m
+        falls = let w = size-falls (surd-of h) x st j (above-next j (omega arith)) in let a = q-same j in let e = q-same (suc j) in let v = t .size-is in omega arith
+
+        -- what a step asks for
+        pub ready : Ready f top m s c k r
+        ready = record {
+          twice-within = let w = t .top-least in let v = t .top-most in twice-within top (omega arith) (omega arith);
+          rest-within = rest-within top (omega arith) (let w = t .top-least in omega arith);
+          current-within = record { reduced = q-reduced; past = λ i p. place k (pair j .q) (t .q-is) q-short i ∙ List·getD-eq-default (pair j .q) 0 {n = i} (let e = t .size-is in omega arith) };
+          lead-some = lead-some;
+          before-reduced = λ i. subst (λ (v : ℕ). v < f .q) (sym (place c _ (t .before-is) (let w = before-length j in omega arith) i)) (before-oks (surd-of h) x st (b .q-oks) j i);
+          short = subst (λ (v : List ℕ). length v ≤ top) (sym q-next) (let w = falls in let v = t .top-least in omega arith);
+        }
+
+        -- what it leaves
+        module _ {z w : List ℕ} {m′ : ℕ} (u : Stepped f s c k r z w m′) where
+          rem-is : z ≡ pad (ops f) 129 (l (suc j))
+          rem-is = u .rem-is ∙ ap (pad (ops f) 129) rem-next
+
+          size-is-next : m′ ≡ length (pair (suc j) .q)
+          size-is-next = u .size-is ∙ ap length q-next
+
+          pub size-less : m′ < m
+          size-less = let a = size-is-next in let e = falls in omega arith
+
+          rem-short : length (l (suc j)) ≤ 129
+          rem-short = let a = left-length (suc j) in let e = h .genus-most in omega arith
+
+          -- 2d and the remainder have no places from the size of Q on
+          pub even-past : (i : ℕ) → m ≤ i → getD s i 0 ≡ getD z i 0
+          even-past i p =
+              let a = left-less j in
+              let e = t .size-is in
+              let v = h .genus-most in
+              let y = t .top-least in
+              let o = t .top-most in
+              twice-within m (omega arith) (omega arith) .past i p ∙ sym (place z (l (suc j)) rem-is rem-short i ∙ List·getD-eq-default (l (suc j)) 0 {n = i} (omega arith))
+
+          module _ {top′ : ℕ} (e : Height s z top′) where
+            top-is : top′ ≡ length (add (ops f) (pair (suc j) .p) d)
+            top-is =
+                sym (height-length (f .q) positive (twice-within 129 (let v = h .genus-most in omega arith) (omega arith) .reduced) (λ i. subst (λ (v : ℕ). v < f .q) (sym (place z (l (suc j)) rem-is rem-short i)) (left-oks (surd-of h) x st (suc j) i)) e)
+                ∙ ap length (sub-cong (M h) s twice z (l (suc j)) sums (same z (l (suc j)) rem-is rem-short) ∙ dividend (surd-of h) x st (suc j))
+
+            -- a is not constant
+            pub quotient-some : m′ < top′
+            quotient-some =
+                let a = top-is in
+                let v = height-size (surd-of h) x st j in
+                let y = height-more (K h) (sequence (surd-of h) x st) j in
+                let o = Q-size (surd-of h) x st (suc j) in
+                let q = q-same (suc j) in
+                let n = size-is-next in
+                omega arith
+
+            sum-next : sum + (top′ - m′) ≡ degreeSum (ops f) D d g x (suc j)
+            unfolding degree-sum
+            sum-next =
+                let a = top-is in
+                let v = height-size (surd-of h) x st j in
+                let o = Q-size (surd-of h) x st (suc j) in
+                let q = q-same (suc j) in
+                let n = size-is-next in
+                let y = degree-sum-is (surd-of h) x st (suc j) in
+                let p = degree-sum-is (surd-of h) x st j in
+                let w = t .sum-is in
+                omega arith
+
+            pub at-next : At f g D x k w z m′ top′ (sum + (top′ - m′))
+            unfolding before
+            at-next = record {
+              index = suc j;
+              before-is = t .q-is;
+              q-is = u .q-is ∙ ap (pad (ops f) 129) q-next;
+              left-is = rem-is;
+              size-is = size-is-next;
+              sum-is = sum-next;
+              above = above-next;
+              top-most = let a = top-is in let v = sum-most (surd-of h) x st start-q start-p (D-most h) (suc j) in let y = h .genus-most in omega arith;
+              top-least = let a = quotient-some in omega arith;
+              rest-past = λ i p y. sym (e .past i p) ∙ twice-within (suc (suc g)) (omega arith) (let v = h .genus-most in omega arith) .past i y;
+            }
+
+    -- ---- where the degree is at most g, with P_k = d − rest in a record
+    module _ (low : m ≤ suc g) where
+      turns-are : turnsOf (ops f) D d g x ≡ j
+      turns-are = turns-unique (surd-of h) x st j (let w = q-same j in let z = t .size-is in omega arith) (t .above)
+
+      q-at : Is f (record { c = k; size = m }) (pair j .q)
+      q-at = record { places = t .q-is; size-is = t .size-is }
+
+      q-result : Result f (record { c = k; size = m }) (pair j .q)
+      q-result = result q-at q-short (Q-trim (surd-of h) x st (b .q-trim) j) (Q-oks (surd-of h) x st (b .q-oks) j)
+
+      module _ {e : List ℕ} (root-is : e ≡ pad (ops f) 129 d) {p : Poly} (places : Places (p .c) (λ i. ops f .sub (getD e i 0) (getD r i 0))) (p-top : Top (p .c) (p .size)) where
+        p-at : Is f p (pair j .p)
+        unfolding steps
+        p-at = is-result (f .q) positive (p .c) (p .size) (pair j .p) (P-trim (surd-of h) x st (b .p-trim) j) (record {
+          long = places .long;
+          at = λ i. places .at i ∙ ap₂ (ops f .sub) (place e d root-is (let w = d-length (surd-of h) in let v = h .genus-most in omega arith) i) (place r (l j) (t .left-is) left-short i) ∙ sym (ap (λ (v : List ℕ). getD v i 0) (P-left (surd-of h) x st (b .p-trim) (b .p-oks) j) ∙ at-sub (M h) d (l j) i);
+        }) p-top
+
+        pub reduces : Reduces f g D x (record { q = record { c = k; size = m }; p = p; sum = sum })
+        reduces = record {
+          q-is = subst (λ (i : ℕ). Is f (record { c = k; size = m }) (pair i .q)) (sym turns-are) q-at;
+          p-is = subst (λ (i : ℕ). Is f p (pair i .p)) (sym turns-are) p-at;
+          sum-is = t .sum-is ∙ ap (degreeSum (ops f) D d g x) (sym turns-are);
+          held-q = q-result .held;
+          held-p = result p-at (let w = left-length j in let v = p-length j in let y = h .genus-most in omega arith) (P-trim (surd-of h) x st (b .p-trim) j) (P-oks (surd-of h) x st (b .p-oks) j) .held;
+          some = q-some;
+          most = sum-at-most;
+        }
+
+-- ---- where it starts
+module _ {f : FieldName} {g : ℕ} {radicand : Poly} {e : List ℕ} {q p : Poly} (s : Start f g radicand e q p) where
+  pub root-within : (n : ℕ) → suc (suc g) ≤ n → n ≤ 129 → Within f e n
+  root-within n w v = subst (λ (c : List ℕ). Within f c n) (sym (s .root-is)) (pad-within (f .q) _ n (let a = d-length (surd-of (s .admitted)) in omega arith) v (surd-of (s .admitted) .reduced))
+
+  pub p-within : Within f (p .c) (q .size)
+  p-within = held-within (f .q) (p .c) (p .size) (q .size) (s .held-p) (let w = p-less s in omega arith)
+
+  -- d − P, with no more places than Q has
+  module _ (high : suc g < q .size) {r : List ℕ} (places : Places r (λ i. ops f .sub (getD e i 0) (getD (p .c) i 0))) where
+    rest-is : r ≡ pad (ops f) 129 (sub (ops f) (rootD f g (poly radicand)) (poly p))
+    rest-is =
+        let a = d-length (surd-of (s .admitted)) in
+        let o = length-trim (M (s .admitted)) (rootD f g (poly radicand)) in
+        let v = held-size (s .held-p) in
+        let w = s .held-p .short in
+        let y = s .admitted .genus-most in
+        let n : length (sub (ops f) (rootD f g (poly radicand)) (poly p)) ≤ 129 = length-sub (M (s .admitted)) (rootD f g (poly radicand)) (poly p) 129 (omega arith) (omega arith) in
+        ext-getD 0 r _ (places .long ∙ sym (length-pad (ops f) 129 _)) (λ i _. places .at i ∙ ap₂ (ops f .sub) (ap (λ (c : List ℕ). getD c i 0) (s .root-is) ∙ at-pad (ops f) 129 (rootD f g (poly radicand)) (omega arith) i) (sym (at-poly (s .held-p) i)) ∙ sym (at-pad (ops f) 129 _ n i ∙ at-sub (M (s .admitted)) (rootD f g (poly radicand)) (poly p) i))
+
+    pub at-first : {first : Poly} → Is f first (cofactorAt (ops f) (poly radicand) (heldPair q p)) → At f g (poly radicand) (heldPair q p) (first .c) (q .c) r (q .size) (q .size) 0
+    unfolding before left steps degreeSum
+    at-first first-is = record {
+      index = 0;
+      before-is = first-is .places;
+      q-is = s .held-q .places;
+      left-is = rest-is;
+      size-is = sym (length-poly (s .held-q));
+      sum-is = refl;
+      above = λ i w. absurd (omega arith);
+      top-most = let w = s .q-most in let v = s .admitted .genus-most in omega arith;
+      top-least = omega arith;
+      rest-past = λ i w v. places .at i ∙ sub-zeros (f .q) (pos (f .q) (s .admitted .prime)) (root-within (suc (suc g)) (omega arith) (let y = s .admitted .genus-most in omega arith) .past i v) (p-within .past i w);
     }
+
+  -- a pair that is reduced already
+  pub reduces-none : q .size ≤ suc g → Reduces f g (poly radicand) (heldPair q p) (record { q = q; p = p; sum = 0 })
+  unfolding steps degreeSum
+  reduces-none low =
+      let b = begun s in
+      let turns : turnsOf (ops f) (poly radicand) (rootD f g (poly radicand)) g (heldPair q p) ≡ 0 = turns-unique (surd-of (s .admitted)) (heldPair q p) (ideal-state (K (s .admitted)) (M (s .admitted)) (poly radicand) (s .ideal)) 0 (let w = held-size (s .held-q) in omega arith) (λ i w. absurd (omega arith)) in
+      record {
+        q-is = subst (λ (i : ℕ). Is f q (steps (ops f) (poly radicand) (rootD f g (poly radicand)) (heldPair q p) i .q)) (sym turns) (record { places = s .held-q .places; size-is = sym (length-poly (s .held-q)) });
+        p-is = subst (λ (i : ℕ). Is f p (steps (ops f) (poly radicand) (rootD f g (poly radicand)) (heldPair q p) i .p)) (sym turns) (record { places = s .held-p .places; size-is = sym (length-poly (s .held-p)) });
+        sum-is = ap (degreeSum (ops f) (poly radicand) (rootD f g (poly radicand)) g (heldPair q p)) (sym turns);
+        held-q = s .held-q;
+        held-p = s .held-p;
+        some = let w = q-length b 0 in let v = length-poly (s .held-q) in omega arith;
+        most = let v = length-poly (s .held-q) in omega arith;
+      }

@@ -4,13 +4,6 @@ pub mod root;
 
 use base_polynomial::Poly;
 
-// A pair (Q, P) with the quotient a of P + d by Q.
-pub struct Stage {
-    pub a: Poly,
-    pub q: Poly,
-    pub p: Poly,
-}
-
 // The pair (Q_k, P_k), and the sum of deg a_j for j from 1 to k.
 pub struct Reduced {
     pub q: Poly,

@@ -1,75 +1,139 @@
-// The reduction of a pair: steps of the walk until the degree of Q is at most g.
+// The reduction of a pair: steps of the walk until the degree of Q is at most g. Each Q but the first two is by the recurrence (2-7) of
+// source 000, as in the walk, so that D − P² is divided by Q once.
 ghost use mathlib.Core.Path.{_≡_};
-ghost use Prim.Native.Nat.{ℕ, _+_, _<_, _≤_};
-ghost use mathlib.Core.List.{List};
-ghost use lib.ListN.{length};
+ghost use Prim.Native.Nat.{ℕ, _/_, _<_, _≤_};
+ghost use lib.ListN.{getD};
 ghost use Rattle.spec_definitions.specs.Ticket.{genus};
-ghost use Rattle.spec_definitions.specs.Walk.{partial, nextP, next};
-ghost use Rattle.spec_bridge.specs.Prime.{Prime};
-ghost use Rattle.base_polynomial.specs.Whole.{poly, Held, Is};
+ghost use Rattle.spec_laws.specs.Pairs.{cofactorAt};
+ghost use Rattle.base_field.specs.Named.{name, ops, IsField};
+ghost use Rattle.base_polynomial.specs.Places.{Places, Within, Top};
+ghost use Rattle.base_polynomial.specs.Record.{poly as polyAt, Held as HeldAt};
+ghost use Rattle.base_polynomial.specs.Whole.{poly, Is};
 ghost use Rattle.ideal_product.specs.Operand.{heldPair};
-ghost use Rattle.ideal_reduce.specs.Start.{Start};
+ghost use Rattle.ideal_reduce.specs.Height.{Height};
+ghost use Rattle.ideal_reduce.specs.Start.{recordOf, Start};
 ghost use Rattle.ideal_reduce.specs.Turn.{Reduces};
-ghost use Rattle.base_field.specs.Named.{ops};
 use crate::Reduced;
-use crate::Stage;
 use base_field::Field;
+use base_field::inverse;
 use base_polynomial::Poly;
-use base_polynomial::division::div_rem;
-use base_polynomial::linear::add;
-use base_polynomial::linear::sub;
-use base_polynomial::product::mul;
+use base_polynomial::linear::add_places;
+use base_polynomial::linear::sub_places;
 use ideal_product::multiply::cofactor;
+use walk_step::step::step_by;
 
-// a = (P + d) div Q.
-fn stage(f: Field, d: Poly, q: Poly, p: Poly) -> Stage
-    requires { ⌜ Prime (f .q) × (f .q < 4096) ⌝ }
-    requires { ⌜ Held f d × Held f q × Held f p ⌝ }
-    ensures { λ r. ⌜ Is f (r .q) (poly q) ⌝ }
-    ensures { λ r. ⌜ Is f (r .p) (poly p) ⌝ }
-    ensures { λ r. ⌜ ((D : List ℕ) → Is f (r .a) (partial (ops f) D (poly d) (heldPair (q .c) (q .size) (p .c) (p .size)))) ⌝ }
+// The larger of m and n.
+fn larger(m: usize, n: usize) -> usize
+    ensures { λ r. ⌜ (m ≤ r) × (n ≤ r) × ((k : ℕ) → m ≤ k → n ≤ k → r ≤ k) ⌝ }
 {
-    let t = add(f, p, d);
-    let r = div_rem(f, t, q);
-    let a = r.quo;
-    Stage { a, q, p }
+    if m < n { n } else { m }
 }
 
-// The next P = a·Q − P and the next Q = (D − P²)/Q, with the next a. D is the radicand.
-fn advance(f: Field, radicand: Poly, d: Poly, s: Stage) -> Stage
-    requires { ⌜ Prime (f .q) × (f .q < 4096) × (0 < s .q .size) × (s .a .size + s .q .size ≤ 130) ⌝ }
-    requires { ⌜ Held f radicand × Held f d ⌝ }
-    requires { ⌜ Held f (s .a) × Held f (s .q) × Held f (s .p) ⌝ }
-    requires { ⌜ poly (s .a) ≡ partial (ops f) (poly radicand) (poly d) (heldPair (s .q .c) (s .q .size) (s .p .c) (s .p .size)) ⌝ }
-    requires { ⌜ length (nextP (ops f) (poly radicand) (poly d) (heldPair (s .q .c) (s .q .size) (s .p .c) (s .p .size))) ≤ 65 ⌝ }
-    ensures { λ r. ⌜ Is f (r .a) (partial (ops f) (poly radicand) (poly d) (next (ops f) (poly radicand) (poly d) (heldPair (s .q .c) (s .q .size) (s .p .c) (s .p .size)))) ⌝ }
-    ensures { λ r. ⌜ Is f (r .q) (next (ops f) (poly radicand) (poly d) (heldPair (s .q .c) (s .q .size) (s .p .c) (s .p .size)) .q) ⌝ }
-    ensures { λ r. ⌜ Is f (r .p) (next (ops f) (poly radicand) (poly d) (heldPair (s .q .c) (s .q .size) (s .p .c) (s .p .size)) .p) ⌝ }
+// The size of twice − rest: from `from` on their places are equal.
+fn height(twice: &[u32; 129], rest: &[u32; 129], from: usize) -> usize
+    requires { ⌜ from ≤ 129 ⌝ }
+    requires { ⌜ ((i : ℕ) → from ≤ i → getD (now twice) i 0 ≡ getD (now rest) i 0) ⌝ }
+    ensures { λ r. ⌜ Height (now (twice .entry)) (now (rest .entry)) r ⌝ }
 {
-    let a = s.a;
-    let q = s.q;
-    let p = s.p;
-    let m = mul(f, a, q);
-    let p1 = sub(f, m, p);
-    let k = cofactor(f, radicand, q, p1);
-    let q1 = k.quo;
-    stage(f, d, q1, p1)
-}
-
-// Steps until the first k with deg Q_k at most g = n/2 − 1. D is the radicand, of degree n, and d its root.
-pub fn reduce(f: Field, n: usize, radicand: Poly, d: Poly, q: Poly, p: Poly) -> Reduced
-    requires { ⌜ Start (f .q) (genus n) (radicand .c) (radicand .size) (d .c) (d .size) (q .c) (q .size) (p .c) (p .size) × (2 ≤ n) ⌝ }
-    ensures { λ r. ⌜ Reduces (f .q) (genus n) (poly radicand) (heldPair (q .c) (q .size) (p .c) (p .size)) (r .q .c) (r .q .size) (r .p .c) (r .p .size) (r .sum) ⌝ }
-{
-    let top = n / 2;
-    let mut s = stage(f, d, q, p);
-    let mut sum: u64 = 0;
-    while top < s.q.size {
-        let t = advance(f, radicand, d, s);
-        sum += (t.a.size - 1) as u64;
-        s = t;
+    let mut n: usize = from;
+    while 0 < n {
+        if twice[n - 1] != rest[n - 1] {
+            return n;
+        }
+        n -= 1;
     }
-    let x = s.q;
-    let y = s.p;
-    Reduced { q: x, p: y, sum }
+    0
+}
+
+// x − y, of at most n places.
+fn difference(f: Field, x: &[u32; 129], y: &[u32; 129], n: usize) -> Poly
+    requires { ⌜ IsField f × (n ≤ 129) ⌝ }
+    requires { ⌜ Within (name f) (now x) n ⌝ }
+    requires { ⌜ Within (name f) (now y) n ⌝ }
+    ensures { λ r. ⌜ Places (r .c) (λ i. ops f .sub (getD (now (x .entry)) i 0) (getD (now (y .entry)) i 0)) ⌝ }
+    ensures { λ r. ⌜ Top (r .c) (r .size) ⌝ }
+{
+    let mut c = [0u32; 129];
+    sub_places(f, x, y, n, &mut c);
+    let size = base_polynomial::linear::top(&c, n);
+    Poly { c, size }
+}
+
+// (D − P²)/Q, where D has l places, Q has m and P has k.
+fn quotient_before(
+    f: Field,
+    radicand: &[u32; 129],
+    l: usize,
+    q: &[u32; 129],
+    m: usize,
+    p: &[u32; 129],
+    k: usize,
+) -> Poly
+    requires { ⌜ IsField f × (k ≤ 65) ⌝ }
+    requires { ⌜ HeldAt (name f) (now radicand) l × HeldAt (name f) (now q) m × HeldAt (name f) (now p) k ⌝ }
+    ensures { λ r. ⌜ Is f r (cofactorAt (ops f) (polyAt (now (radicand .entry)) l) (heldPair (recordOf (now (q .entry)) m) (recordOf (now (p .entry)) k))) ⌝ }
+{
+    let a = Poly { c: *radicand, size: l };
+    let b = Poly { c: *q, size: m };
+    let c = Poly { c: *p, size: k };
+    let r = cofactor(f, a, b, c);
+    r.quo
+}
+
+// The steps from a pair with deg Q above g until the first k with deg Q_k at most g. D has l places, Q has m and P has k. The Q before
+// the first is (D − P²)/Q, and the remainder before it d − P. From then on deg a_j is the degree of P_j + d = twice − rest less that of
+// Q_j.
+fn descend(
+    f: Field,
+    n: usize,
+    radicand: &[u32; 129],
+    l: usize,
+    d: &[u32; 129],
+    q: &[u32; 129],
+    m: usize,
+    p: &[u32; 129],
+    k: usize,
+) -> Reduced
+    requires { ⌜ IsField f × (2 ≤ n) × (n / 2 < m) ⌝ }
+    requires { ⌜ Start (name f) (genus n) (recordOf (now radicand) l) (now d) (recordOf (now q) m) (recordOf (now p) k) ⌝ }
+    ensures { λ r. ⌜ Reduces (name f) (genus n) (polyAt (now (radicand .entry)) l) (heldPair (recordOf (now (q .entry)) m) (recordOf (now (p .entry)) k)) r ⌝ }
+{
+    let h = n / 2;
+    let first = quotient_before(f, radicand, l, q, m, p, k);
+    let start = difference(f, d, p, m);
+    let mut twice = [0u32; 129];
+    add_places(f, d, d, h + 1, &mut twice);
+    let mut before = first.c;
+    let mut current = *q;
+    let mut rest = start.c;
+    let mut size = m;
+    let mut top = m;
+    let mut sum: u64 = 0;
+    let mut remains = [0u32; 129];
+    let mut after = [0u32; 129];
+    while h < size {
+        let lead_inverse = inverse(f, current[size - 1]);
+        let next = step_by(f, lead_inverse, &twice, top, &before, &current, size, &rest, &mut remains, &mut after);
+        top = height(&twice, &remains, size);
+        sum += (top - next) as u64;
+        before = current;
+        current = after;
+        rest = remains;
+        size = next;
+    }
+    let last = difference(f, d, &rest, larger(top, h + 1));
+    let x = Poly { c: current, size };
+    Reduced { q: x, p: last, sum }
+}
+
+// The first pair (Q_k, P_k), k from 0 on, with deg Q_k at most g = n/2 − 1. D is the radicand, of degree n, and d its root.
+pub fn reduce(f: Field, n: usize, radicand: Poly, d: &[u32; 129], q: Poly, p: Poly) -> Reduced
+    requires { ⌜ IsField f × Start (name f) (genus n) radicand (now d) q p × (2 ≤ n) ⌝ }
+    ensures { λ r. ⌜ Reduces (name f) (genus n) (poly radicand) (heldPair q p) r ⌝ }
+{
+    if n / 2 < q.size {
+        descend(f, n, &radicand.c, radicand.size, d, &q.c, q.size, &p.c, p.size)
+    } else {
+        Reduced { q, p, sum: 0 }
+    }
 }

@@ -11,13 +11,13 @@ ghost use Rattle.spec_demands.specs.Numbered.{Numbered};
 ghost use Rattle.walk_run.specs.Outcome.{meaning};
 ghost use Rattle.orders.specs.Printed.{Printed};
 ghost use Rattle.orders.specs.FirstLine.{LeastPrinted};
+use base_words::value;
 use engine::listing::listing;
 use out_reading::words_of;
 use out_text::lines::found_line;
 use out_text::lines::record_line;
 use out_text::lines::refused_line;
 use out_text::lines::spent_line;
-use ticket_tests::words::value;
 use walk_run::Outcome;
 
 // The line of a record from a place on, at most ten bytes for each of its words. Each of these functions returns the place after its last byte.

@@ -1,5 +1,6 @@
--- T2 in its own words: "Past the input refusals and with lists long enough, a ticket is found whenever the quasi-period is within the budget, spent whenever it
--- is not, and nothing else." For the calls regulator, unit and listing. The quasi-period m is the ticket's own, whatever the budget: it exists for every ticket
+-- T2 in its own words: "Past the input refusals and with lists long enough, a ticket is found whenever the
+-- quasi-period is within the budget, spent whenever it is not, and nothing else." For the calls regulator,
+-- unit and listing. The quasi-period m is the ticket's own, whatever the budget: it exists for every ticket
 -- past its refusals.
 use Prim.Native.Nat.{ℕ, suc, _+_, _*_, _≤_, _<_}
 use native.Mathlib.Omega.{arith}
@@ -39,7 +40,8 @@ module _ (t : Ticket) where
     -- "found whenever the quasi-period is within the budget, spent whenever it is not", and only then
     pub within : (m ≤ t .b) ↔ FoundAt m says
     pub beyond : (t .b < m) ↔ SpentAll says
-    -- "and nothing else": one of the two is said; a found answer has these numbers and no others, and so has a spent one; no refusal is said
+    -- "and nothing else": one of the two is said; a found answer has these numbers and no others, and so has
+    -- a spent one; no refusal is said
     pub either : FoundAt m says ⊎ SpentAll says
     pub found-only : (R k c : ℕ) → says ≡ said (found R k c) → (R ≡ degreeAt m) × (k ≡ m) × (c ∷ [] ≡ signed (opsOf t) m (Q m))
     pub spent-only : (k e : ℕ) → says ≡ said (spent k e) → (k ≡ t .b) × (e ≡ degreeAt (t .b))

@@ -1,5 +1,6 @@
--- T2, the part on listings, from the words at exit: where the call `listing` answers found, each of the records 1 to m is read from the words of the lent list,
--- and what is read is that of the walk at its own index: kinds, index, distance, mirror, Q and P.
+-- T2, the part on listings, from the words at exit: where the call `listing` answers found, each of the
+-- records 1 to m is read from the words of the lent list, and what is read is that of the walk at its own
+-- index: kinds, index, distance, mirror, Q and P.
 use Prim.Native.Nat.{ℕ, suc, _+_, _*_, _-_, _≤_, _<_}
 use native.Mathlib.Nat.{suc-mul, mul-le-mul-right, eq-zero-or-pos}
 use native.Mathlib.Omega.{arith}
@@ -61,9 +62,10 @@ module _ (n j : ℕ) (l : List ℕ) where
   abbrev pub PRead : List ℕ
   PRead = map value (take (genus n) (drop (j * (n + 4) + (genus n + 6)) l))
 
--- "Record i, for i from 1 to m, is the ideal with Q_{i−1} made monic and P_{i−1} mod that Q. Its distance is deg p_{i−2}. .. A record's mirror is R less its
--- distance.": here j is i − 1, and `pBefore j` is p_{j−1}. The Q read is monic and a constant multiple of Q_{i−1}; the P read is congruent to P_{i−1} modulo it
--- and has a lower degree.
+-- "Record i, for i from 1 to m, is the ideal with Q_{i−1} made monic and P_{i−1} mod that Q. Its distance is
+-- deg p_{i−2}. .. A record's mirror is R less its distance.": here j is i − 1, and `pBefore j` is p_{j−1}.
+-- The Q read is monic and a constant multiple of Q_{i−1}; the P read is congruent to P_{i−1} modulo it and
+-- has a lower degree.
 pub record RecordRead (t : Ticket) (R j : ℕ) (l : List ℕ) : Type 0 where
   pub kinds : (i : ℕ) → i < t .n + 4 → kind (wordAt (t .n) j l i) ≡ getD (recordKinds (t .n)) i 0
   pub index : value (wordAt (t .n) j l 0) ≡ suc j

@@ -1,5 +1,6 @@
--- T1 at the level of the answers: a call answers `refused k` exactly where sentence k is the first that applies, for every number k: 1 to 7 of any list of words,
--- then 9 and 10, and after the input the state's 11, 12 and 13. 11 comes before 12 and 13: where the walk is spent, a lent list may have any length.
+-- T1 at the level of the answers: a call answers `refused k` exactly where sentence k is the first that
+-- applies, for every number k: 1 to 7 of any list of words, then 9 and 10, and after the input the state's
+-- 11, 12 and 13. 11 comes before 12 and 13: where the walk is spent, a lent list may have any length.
 use Prim.Native.Nat.{ℕ, zero, suc, _+_, _*_, _-_, _/_, _≤_, _<_}
 use native.Mathlib.Nat.{suc-mul, mul-le-mul-right, div-mul-le-self, eq-or-lt-of-le}
 use native.Mathlib.Omega.{arith}
@@ -35,7 +36,8 @@ First k w = (1 ≤ k) × (k ≤ 7) × Applies k w × ((j : ℕ) → 1 ≤ j → 
 abbrev pub None : List ℕ → Type 0
 None w = (j : ℕ) → 1 ≤ j → j ≤ 7 → ¬ Applies j w
 
--- the walk of the words' ticket stops within the budget, with R, m and c; it is spent after k steps, at the degree e
+-- the walk of the words' ticket stops within the budget, with R, m and c; it is spent after k steps, at the
+-- degree e
 abbrev pub Stops : List ℕ → ℕ → ℕ → ℕ → Type 0
 Stops w R m c = StopsAt (ticketOf w .field) (ticketOf w .D) (rootOf (ticketOf w)) (ticketOf w .b) R m c
 
@@ -50,12 +52,14 @@ TwelveApplies w l = (R : ℕ) × (m : ℕ) × (c : ℕ) × Stops w R m c × Shor
 abbrev pub ThirteenApplies : List ℕ → List ℕ → Type 0
 ThirteenApplies w l = (R : ℕ) × (m : ℕ) × (c : ℕ) × Stops w R m c × (length l < m * (ticketOf w .n + 4))
 
--- "Refused because of the input: Tested in this order; the first that applies is returned."; "Refused because of the state: Tested after the input."
+-- "Refused because of the input: Tested in this order; the first that applies is returned."; "Refused because
+-- of the state: Tested after the input."
 pub record T1Answers : Type 0 where
   pub regulator : (w : List ℕ) (k : ℕ) → (regulatorOf w ≡ said (refused k)) ↔ First k w
   pub unit : (w : List ℕ) (l : Lists) (k : ℕ) → (unitAnswer w l .says ≡ said (refused k)) ↔ (First k w ⊎ ((k ≡ 12) × None w × TwelveApplies w l))
   pub listing : (w l : List ℕ) (k : ℕ) → (listingAnswer w l .says ≡ said (refused k)) ↔ (First k w ⊎ ((k ≡ 13) × None w × ThirteenApplies w l))
-  -- "11 (regulator, unit and listing): spent; the quasi-period m is above b. Carries the steps made, b, and the degree reached.": whatever lists are lent
+  -- "11 (regulator, unit and listing): spent; the quasi-period m is above b. Carries the steps made, b, and
+  -- the degree reached.": whatever lists are lent
   pub regulator-spent : (w : List ℕ) (k e : ℕ) → (regulatorOf w ≡ said (spent k e)) ↔ (None w × Spent w k e)
   pub unit-spent : (w : List ℕ) (l : Lists) (k e : ℕ) → (unitAnswer w l .says ≡ said (spent k e)) ↔ (None w × Spent w k e)
   pub listing-spent : (w l : List ℕ) (k e : ℕ) → (listingAnswer w l .says ≡ said (spent k e)) ↔ (None w × Spent w k e)
@@ -67,7 +71,8 @@ pub record T1Answers : Type 0 where
   pub lookup-start : (l : List ℕ) (n y : ℕ) → WrongListing l n → placeOf l n y ≡ 0
 
 -- ---- the proof
--- a number that tells the first statement from 1 to 7 that holds, and is 0 exactly where none holds, is at most 7
+-- a number that tells the first statement from 1 to 7 that holds, and is 0 exactly where none holds, is at
+-- most 7
 module _ (P : ℕ → Type 0) (r : ℕ) (refused : (k : ℕ) → 1 ≤ k → k ≤ 7 → (r ≡ k) ↔ (P k × NoneBelow P k)) (accepted : (r ≡ 0) ↔ ((j : ℕ) → 1 ≤ j → j ≤ 7 → ¬ P j)) where
   -- past 7, none from 1 to k holds
   none-to : 7 < r → (k : ℕ) → k ≤ 7 → NoneBelow P (suc k)

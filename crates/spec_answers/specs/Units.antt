@@ -1,5 +1,6 @@
--- T2, the part on the unit's lists, place by place: where the call `unit` answers found, places 0 to R of the first list hold the coefficients of p_{m−1}, those of
--- the second the coefficients of s_{m−1}, those of the other two are 0, and later places keep what they had.
+-- T2, the part on the unit's lists, place by place: where the call `unit` answers found, places 0 to R of the
+-- first list hold the coefficients of p_{m−1}, those of the second the coefficients of s_{m−1}, those of the
+-- other two are 0, and later places keep what they had.
 use Prim.Native.Nat.{ℕ, suc, _≤_, _<_}
 use native.Mathlib.Omega.{arith}
 use mathlib.Core.Path.{_≡_, refl, sym, ap, _∙_, subst}
@@ -20,14 +21,14 @@ use Rattle.spec_demands.specs.Written.{s-fits}
 use Rattle.spec_demands.specs.LentLists.{KeepsFrom, t1-lists, refused-not, found-passes}
 use Rattle.spec_answers.specs.Refusals.{unit-found}
 
--- "in places 0 to R, constant term first, zeros above the degree .. Later places keep what they had.": `new` holds the polynomial f in places 0 to R and is `old`
--- from R+1 on
+-- "in places 0 to R, constant term first, zeros above the degree .. Later places keep what they had.": `new`
+-- holds the polynomial f in places 0 to R and is `old` from R+1 on
 pub record Holds (R : ℕ) (f old new : List ℕ) : Type 0 where
   pub places : (i : ℕ) → i ≤ R → getD new i 0 ≡ getD f i 0
   pub later : KeepsFrom (suc R) old new
 
--- "R = deg p_{m−1} the regulator, (p_{m−1}, s_{m−1}) the unit"; "The first receives p, the second s .. In the other two, places 0 to R end as zero.": [] is the
--- zero polynomial, and nothing of p and s is left out
+-- "R = deg p_{m−1} the regulator, (p_{m−1}, s_{m−1}) the unit"; "The first receives p, the second s .. In the
+-- other two, places 0 to R end as zero.": [] is the zero polynomial, and nothing of p and s is left out
 pub record UnitWritten (t : Ticket) (R m : ℕ) (old new : Lists) : Type 0 where
   pub regulator : R ≡ deg (opsOf t) (pBefore (opsOf t) (t .D) (rootOf t) m)
   pub s-whole : size (opsOf t) (sBefore (opsOf t) (t .D) (rootOf t) m) ≤ suc R

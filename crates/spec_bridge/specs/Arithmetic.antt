@@ -1,4 +1,5 @@
--- Sum, difference, multiple and product of lists are those of the polynomials; each result is trimmed and its coefficients stand for themselves.
+-- Sum, difference, multiple and product of lists are those of the polynomials; each result is trimmed and its
+-- coefficients stand for themselves.
 use Prim.Native.Nat.{ℕ, zero, suc}
 use mathlib.Core.Path.{_≡_, refl, sym, ap, ap₂, _∙_, fun-ext, subst}
 use mathlib.Core.List.{List, [], _∷_, map}

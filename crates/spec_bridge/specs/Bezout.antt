@@ -1,4 +1,5 @@
--- Bezout's identity for the factors of `bezout`; greatest common divisor and factors are trimmed, their coefficients stand for themselves, and the divisor is no longer than both.
+-- Bezout's identity for the factors of `bezout`; greatest common divisor and factors are trimmed, their
+-- coefficients stand for themselves, and the divisor is no longer than both.
 use Prim.Native.Nat.{ℕ, zero, suc, _+_, _≤_, _<_}
 use native.Mathlib.Omega.{arith}
 use mathlib.Core.Path.{_≡_, refl, sym, ap, ap₂, _∙_, fun-ext, subst}

@@ -1,4 +1,5 @@
--- How long the factors of `bezout` are: u is shorter than b, and v is shorter than a or constant. By induction along the remainders, which fall.
+-- How long the factors of `bezout` are: u is shorter than b, and v is shorter than a or constant. By
+-- induction along the remainders, which fall.
 use Prim.Native.Nat.{ℕ, zero, suc, _-_ as _-ₙ_, _≤_, _<_, zero-le}
 use native.Mathlib.Omega.{arith}
 use mathlib.Core.Path.{_≡_, refl, sym, ap, subst}

@@ -1,4 +1,5 @@
--- Back from polynomials to lists, where every element of the ring is that of a coefficient: each polynomial has a list.
+-- Back from polynomials to lists, where every element of the ring is that of a coefficient: each polynomial
+-- has a list.
 use Prim.Native.Nat.{ℕ, zero, suc, zero-le, suc-le-suc}
 use mathlib.Core.Path.{_≡_, refl, sym, ap, _∙_, fun-ext}
 use mathlib.Core.List.{List, [], _∷_}

@@ -1,4 +1,5 @@
--- The degree of a list is that of its polynomial: over a field, the size is one more than the degree and the leading coefficient is not 0.
+-- The degree of a list is that of its polynomial: over a field, the size is one more than the degree and the
+-- leading coefficient is not 0.
 use Prim.Native.Nat.{ℕ, suc, _-_ as _-ₙ_, _≤_, _<_}
 use native.Mathlib.Omega.{arith}
 use mathlib.Core.Path.{_≡_, refl, sym, ap, _∙_}

@@ -1,4 +1,5 @@
--- The derivative of a list is that of its polynomial; it is trimmed, its coefficients stand for themselves, and it is shorter.
+-- The derivative of a list is that of its polynomial; it is trimmed, its coefficients stand for themselves,
+-- and it is shorter.
 use Prim.Native.Nat.{ℕ, zero, suc, _+_ as _+ₙ_, _-_ as _-ₙ_, _≤_}
 use native.Mathlib.Nat.{add-zero, add-suc, suc-add}
 use native.Mathlib.Omega.{arith}

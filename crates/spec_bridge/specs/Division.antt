@@ -1,4 +1,5 @@
--- Division of lists is division of polynomials: a = quo·b + rem, and rem is shorter than b, since the divisor's leading coefficient has its inverse.
+-- Division of lists is division of polynomials: a = quo·b + rem, and rem is shorter than b, since the
+-- divisor's leading coefficient has its inverse.
 use Prim.Native.Nat.{ℕ, zero, suc, _-_ as _-ₙ_, _≤_, _<_}
 use native.Mathlib.Nat.{le-of-suc-le-suc, eq-or-lt-of-le}
 use native.Mathlib.Omega.{arith}

@@ -1,4 +1,5 @@
--- Division and greatest common divisor of lists are the field's: the definitions take the steps of Euclid's recursion, so that Bezout's identity and divisibility carry over.
+-- Division and greatest common divisor of lists are the field's: the definitions take the steps of Euclid's
+-- recursion, so that Bezout's identity and divisibility carry over.
 use Prim.Native.Nat.{ℕ, zero, suc, _+_ as _+ₙ_, _-_ as _-ₙ_, _≤_, _<_}
 use native.Mathlib.Omega.{arith}
 use mathlib.Core.Path.{_≡_, sym, ap, _∙_, subst}

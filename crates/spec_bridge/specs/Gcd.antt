@@ -1,4 +1,5 @@
--- The greatest common divisor and its factors by the rules as they are read: each step goes to the divisor and the remainder, which is shorter, so that the turns are enough.
+-- The greatest common divisor and its factors by the rules as they are read: each step goes to the divisor
+-- and the remainder, which is shorter, so that the turns are enough.
 use Prim.Native.Nat.{ℕ, zero, suc, _≤_, _<_}
 use native.Mathlib.Omega.{arith}
 use mathlib.Core.Path.{_≡_, refl, sym, ap, ap₂, _∙_}

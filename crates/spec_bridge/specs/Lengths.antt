@@ -1,4 +1,5 @@
--- How long the results are: a bound on the degree gives a bound on the length, as no result has a zero at its end.
+-- How long the results are: a bound on the degree gives a bound on the length, as no result has a zero at its
+-- end.
 use Prim.Native.Nat.{ℕ, suc, _+_ as _+ₙ_, _≤_}
 use native.Mathlib.Omega.{arith}
 use mathlib.Core.Path.{_≡_, sym, ap, _∙_, subst}

@@ -1,5 +1,6 @@
--- Operations on coefficients that are those of a ring: a map φ into the ring that respects them, and `Ok` coefficients, on which φ is one to one.
--- The series of a list of coefficients; what adding, subtracting and multiplying by 0 is.
+-- Operations on coefficients that are those of a ring: a map φ into the ring that respects them, and `Ok`
+-- coefficients, on which φ is one to one. The series of a list of coefficients; what adding, subtracting and
+-- multiplying by 0 is.
 use Prim.Native.Nat.{ℕ}
 use mathlib.Core.Path.{_≡_, refl, sym, ap, _∙_, fun-ext}
 use mathlib.Core.Bool.{Bool, true, false}

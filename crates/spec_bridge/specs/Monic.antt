@@ -1,4 +1,5 @@
--- A polynomial made monic: the inverse of the leading coefficient depends on the polynomial alone, and the degree stays.
+-- A polynomial made monic: the inverse of the leading coefficient depends on the polynomial alone, and the
+-- degree stays.
 use Prim.Native.Nat.{ℕ, _-_ as _-ₙ_, _≤_, _<_}
 use native.Mathlib.Omega.{arith}
 use mathlib.Core.Path.{_≡_, refl, sym, ap, _∙_}

@@ -1,4 +1,5 @@
--- `oddPrime q` is true exactly for the odd primes below 4,096: of two factors of q one has a square of at most q, so that a number with no divisor up to 63 is prime.
+-- `oddPrime q` is true exactly for the odd primes below 4,096: of two factors of q one has a square of at
+-- most q, so that a number with no divisor up to 63 is prime.
 use Prim.Native.Nat.{ℕ, zero, suc, _+_, _*_, _/_, _%_, _≤_, _<_}
 use native.Mathlib.Nat.{mod-lt, div-add-mod, mul-mod-right, mul-le-mul, mul-le-mul-left, mul-le-mul-right, eq-or-lt-of-le, mul-comm, mod-eq-of-lt, mod-zero}
 use native.Mathlib.Omega.{arith}

@@ -1,4 +1,5 @@
--- A product's coefficients as loops sum them up over numbers, with one % at the end: coefficient by coefficient (`dots`) and row by row (`rows`).
+-- A product's coefficients as loops sum them up over numbers, with one % at the end: coefficient by
+-- coefficient (`dots`) and row by row (`rows`).
 use Prim.Native.Nat.{ℕ, zero, suc, _+_, _*_, _-_, _%_, _≤_, _<_, zero-le}
 use native.Mathlib.Nat.{mod-lt, mul-le-mul, suc-add, zero-add, add-zero, add-suc, zero-mul, mul-zero, suc-mul}
 use native.Mathlib.Numerals.{add-one}

@@ -1,4 +1,5 @@
--- Quotient and remainder of lists are the only ones: so they depend on the polynomials alone, whatever zeros stand at the end. Their lengths.
+-- Quotient and remainder of lists are the only ones: so they depend on the polynomials alone, whatever zeros
+-- stand at the end. Their lengths.
 use Prim.Native.Nat.{ℕ, _+_ as _+ₙ_, _-_ as _-ₙ_, _≤_, _<_}
 use native.Mathlib.Omega.{arith}
 use mathlib.Core.Path.{_≡_, refl, sym, ap, _∙_, fun-ext, subst}

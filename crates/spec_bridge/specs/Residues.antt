@@ -1,4 +1,5 @@
--- The numbers modulo q are a model of the ring of residues, and for a prime q a field: 1/a is −(q div a) times 1/(q mod a), as a·(q div a) is −(q mod a).
+-- The numbers modulo q are a model of the ring of residues, and for a prime q a field: 1/a is −(q div a)
+-- times 1/(q mod a), as a·(q div a) is −(q mod a).
 use Prim.Native.Nat.{ℕ, zero, suc, _+_, _*_, _-_, _/_, _%_, _≤_, _<_}
 use native.Mathlib.Nat.{mod-lt, mod-eq-of-lt, mod-mod, mod-add-mod, add-mod-mod, mul-add-mod-self-left, div-add-mod, mul-assoc, mul-comm, mul-add, add-mod-right, mul-le-mul-right, lt-trans, eq-zero-or-pos}
 use native.Mathlib.Decide.{ℕ-discrete}

@@ -1,4 +1,5 @@
--- `root D N` is the root d of a monic D of degree 2N: each turn makes one more coefficient of D − d² vanish. It is trimmed, with N + 1 coefficients that stand for themselves.
+-- `root D N` is the root d of a monic D of degree 2N: each turn makes one more coefficient of D − d² vanish.
+-- It is trimmed, with N + 1 coefficients that stand for themselves.
 use Prim.Native.Nat.{ℕ, zero, suc, _+_ as _+ₙ_, _≤_}
 use native.Mathlib.Nat.{le-of-suc-le-suc}
 use native.Mathlib.Omega.{arith}

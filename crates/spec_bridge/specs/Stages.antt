@@ -1,4 +1,5 @@
--- Division as a loop does it, from the top coefficient down: with k coefficients to go it has divided `drop k p`, and a dividend shorter than the divisor is its own remainder.
+-- Division as a loop does it, from the top coefficient down: with k coefficients to go it has divided `drop k
+-- p`, and a dividend shorter than the divisor is its own remainder.
 use Prim.Native.Nat.{ℕ, zero, suc, _+_ as _+ₙ_, _-_ as _-ₙ_, _≤_, _<_}
 use native.Mathlib.Nat.{suc-add, zero-add}
 use native.Mathlib.Omega.{arith}

@@ -1,4 +1,5 @@
--- Lists without zeros at their end: `trim` keeps the polynomial, and a trimmed list of `Ok` coefficients is known by its polynomial.
+-- Lists without zeros at their end: `trim` keeps the polynomial, and a trimmed list of `Ok` coefficients is
+-- known by its polynomial.
 use Prim.Native.Nat.{ℕ, zero, suc, _-_ as _-ₙ_, _≤_, _<_, zero-le, suc-le-suc}
 use native.Mathlib.Nat.{le-of-suc-le-suc, eq-or-lt-of-le}
 use native.Mathlib.Omega.{arith}

@@ -1,4 +1,5 @@
--- An answer's outcome and the paper's number and values for each of its cases; the answer for a ticket past refusals 1 to 7.
+-- An answer's outcome and the paper's number and values for each of its cases; the answer for a ticket past
+-- refusals 1 to 7.
 use Prim.Native.Nat.{ℕ, zero, suc}
 use mathlib.Core.Path.{_≡_, ap}
 use mathlib.Core.List.{List, [], _∷_}
@@ -45,7 +46,8 @@ opsOf t = ops (t .field)
 unfoldable pub rootOf : Ticket → List ℕ
 rootOf t = root (opsOf t) (t .D) (suc (genus (t .n)))
 
--- "11 (regulator, unit and listing): spent; the quasi-period m is above b. Carries the steps made, b, and the degree reached.": no Q of index 1 to b is constant
+-- "11 (regulator, unit and listing): spent; the quasi-period m is above b. Carries the steps made, b, and the
+-- degree reached.": no Q of index 1 to b is constant
 unfoldable pub outcomeOf : Ticket → Outcome
 outcomeOf t =
     elim (quasiPeriod (opsOf t) (t .D) (rootOf t) (t .b)) [

@@ -13,7 +13,8 @@ pub record Ops (A : Type 0) : Type 0 where
   pub inv : A → A
   pub zer? : A → Bool
 
--- The inverse of a modulo q, for a below q: 1/a is −(q div a) times 1/(q mod a), and 0 for 0. The first number bounds the turns.
+-- The inverse of a modulo q, for a below q: 1/a is −(q div a) times 1/(q mod a), and 0 for 0. The first
+-- number bounds the turns.
 unfoldable pub inverseIn : ℕ → ℕ → ℕ → ℕ
 inverseIn zero q a = 0
 inverseIn (suc k) q a = elim (leb a 1) [ true ↦ a | false ↦ ((q - q / a) * inverseIn k q (q % a)) % q ]

@@ -25,19 +25,22 @@ pub record ListingAnswer : Type 0 where
 unfoldable pub idealOf : Ops ℕ → Ideal ℕ → Ideal ℕ
 idealOf o s = let m = monic o (s .q) in record { q = m; p = rem o (s .p) m }
 
--- "A record's mirror is R less its distance.": document 01's own term, the distance left to the end of the quasi-period, not the distance of the conjugate ideal
+-- "A record's mirror is R less its distance.": document 01's own term, the distance left to the end of the
+-- quasi-period, not the distance of the conjugate ideal
 unfoldable pub mirrorOf : ℕ → Entry → ℕ
 mirrorOf R e = R - e .distance
 
--- "A record is n+4 words: kind 5 index; kinds 6 and 7 distance, high then low 28 bits; kinds 10 and 11 mirror, likewise; kind 8, the g+1 coefficients of Q;
--- kind 9, the g coefficients of P, zeros above each degree."
+-- "A record is n+4 words: kind 5 index; kinds 6 and 7 distance, high then low 28 bits; kinds 10 and 11
+-- mirror, likewise; kind 8, the g+1 coefficients of Q; kind 9, the g coefficients of P, zeros above each
+-- degree."
 unfoldable pub recordWords : Ops ℕ → ℕ → ℕ → Entry → List ℕ
 recordWords o n mirror e =
     word 5 (e .index) ∷ word 6 (high (e .distance)) ∷ word 7 (low (e .distance)) ∷ word 10 (high mirror) ∷ word 11 (low mirror)
     ∷ (map (word 8) (pad o (suc (genus n)) (e .ideal .q)) ++ map (word 9) (pad o (genus n) (e .ideal .p)))
 
 module _ (t : Ticket) where
-  -- "Record i, for i from 1 to m, is the ideal with Q_{i−1} made monic and P_{i−1} mod that Q. Its distance is deg p_{i−2}.": here j is i − 1
+  -- "Record i, for i from 1 to m, is the ideal with Q_{i−1} made monic and P_{i−1} mod that Q. Its distance
+  -- is deg p_{i−2}.": here j is i − 1
   unfoldable pub entryOf : ℕ → Entry
   entryOf j = record { index = suc j; distance = degreeBefore (opsOf t) (t .D) (rootOf t) j; ideal = idealOf (opsOf t) (walk (opsOf t) (t .D) (rootOf t) j) }
 
@@ -52,7 +55,8 @@ module _ (t : Ticket) where
   unfoldable pub listingOf : ℕ → ℕ → List ℕ
   listingOf R m = recordsFrom R 0 m
 
-  -- "13: the listing is wanted and its list has fewer than m·(n+4) words"; "Words past the last record are untouched."
+  -- "13: the listing is wanted and its list has fewer than m·(n+4) words"; "Words past the last record are
+  -- untouched."
   unfoldable pub listingFrom : Outcome → List ℕ → ListingAnswer
   listingFrom (found R m c) l =
       elim (leb (m * (t .n + 4)) (length l)) [

@@ -33,7 +33,8 @@ module _ (l : List ℕ) (n : ℕ) where
   rising zero = true
   rising (suc k) = elim (rising k) [ true ↦ ltb (distanceAt k) (distanceAt (suc k)) | false ↦ false ]
 
-  -- "8 (lookup only): n is not allowed by 3, or the words aren't one or more whole records of the kinds below, or the first distance isn't 0, or distances don't strictly rise"
+  -- "8 (lookup only): n is not allowed by 3, or the words aren't one or more whole records of the kinds
+  -- below, or the first distance isn't 0, or distances don't strictly rise"
   unfoldable pub wrongListing : Bool
   wrongListing =
       elim (wrongDegree n || eqb (length l) 0 || not (eqb (length l % (n + 4)) 0)) [

@@ -1,5 +1,7 @@
--- The marked table, the printed example and the two sentences on list lengths, shown true of the definitions by one fact.
--- A job is raw words and bytes; d, m and R are computed, and the records of rows 9 and 10 are cut out of the computed listing.
+-- The marked table, the printed example and the two sentences on list lengths, shown true of the definitions
+-- by one fact.
+-- A job is raw words and bytes; d, m and R are computed, and the records of rows 9 and 10 are cut out of the
+-- computed listing.
 use Prim.Native.Nat.{ℕ, suc, _+_, _/_, _%_, _-_}
 use mathlib.Core.Path.{_≡_, refl}
 use mathlib.Core.List.{List, [], _∷_, _++_, map}
@@ -19,7 +21,8 @@ use Rattle.spec_definitions.specs.Products.{GiantStepAnswer, productOf, 
 use Rattle.spec_definitions.specs.Text.{ascii, decimal, decimalIn, spaced, line}
 use Rattle.spec_definitions.specs.Program.{wordsOf, readBytes, cutWord, firstLine, recordLine, recordLines, answerLines, programOf}
 
--- what is asked: the words of a ticket, and for some calls lists of nines of a length, two records of the ticket's own listing, or bytes
+-- what is asked: the words of a ticket, and for some calls lists of nines of a length, two records of the
+-- ticket's own listing, or bytes
 pub data Job : Type 0 where
   regulator : List ℕ → Job
   unit : List ℕ → ℕ → Job

@@ -1,5 +1,6 @@
--- Polynomials as lists of coefficients, constant term first, over any coefficients. Every sum, difference, product, quotient, remainder, gcd, derivative and d has no zero at
--- its end, so that the degree is the length less 1; an argument may have zeros there: it means the same polynomial without them.
+-- Polynomials as lists of coefficients, constant term first, over any coefficients. Every sum, difference,
+-- product, quotient, remainder, gcd, derivative and d has no zero at its end, so that the degree is the
+-- length less 1; an argument may have zeros there: it means the same polynomial without them.
 use Prim.Native.Nat.{ℕ, zero, suc, _+_, _-_}
 use mathlib.Core.Bool.{Bool, true, false}
 use mathlib.Core.List.{List, [], _∷_, map}
@@ -85,7 +86,8 @@ module _ {A : Type 0} (o : Ops A) where
   divide u b [] = record { quo = []; rem = [] }
   divide u b (a ∷ p) = put u b a (divide u b p)
 
-  -- "Div and mod are division with remainder." By the zero polynomial the quotient is 0 and the remainder is the dividend.
+  -- "Div and mod are division with remainder." By the zero polynomial the quotient is 0 and the remainder is
+  -- the dividend.
   unfoldable pub quo : List A → List A → List A
   quo a b = trim (divide (o .inv (lead b)) (trim b) a .quo)
 
@@ -95,8 +97,9 @@ module _ {A : Type 0} (o : Ops A) where
   unfoldable pub monic : List A → List A
   monic a = scale (o .inv (lead a)) a
 
-  -- "The greatest common divisor of A and B is that of B and the remainder of A by B; it is A made monic where B is zero, and zero where both are."
-  -- The remainder is shorter each time, so that as many turns as B has coefficients, and one, are enough.
+  -- "The greatest common divisor of A and B is that of B and the remainder of A by B; it is A made monic
+  -- where B is zero, and zero where both are." The remainder is shorter each time, so that as many turns as B
+  -- has coefficients, and one, are enough.
   unfoldable pub gcdIn : ℕ → List A → List A → List A
   gcdIn zero a b = a
   gcdIn (suc k) a [] = monic a
@@ -135,7 +138,8 @@ module _ {A : Type 0} (o : Ops A) where
   monomial c zero = c ∷ []
   monomial c (suc e) = o .zer ∷ monomial c e
 
-  -- d so far, whose coefficients below x^e are still to come: the next one makes the coefficient of x^(e−1+N) in D − d² vanish
+  -- d so far, whose coefficients below x^e are still to come: the next one makes the coefficient of x^(e−1+N)
+  -- in D − d² vanish
   unfoldable pub rootIn : List A → ℕ → ℕ → List A → List A
   rootIn D N zero d = d
   rootIn D N (suc e) d = rootIn D N e (add d (monomial (o .mul (at (sub D (mul d d)) (e + N)) (o .inv (o .add (o .one) (o .one)))) e))

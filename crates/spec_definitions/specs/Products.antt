@@ -19,8 +19,8 @@ pub record Product (A : Type 0) : Type 0 where
   pub ideal : Ideal A
 
 module _ {A : Type 0} (o : Ops A) (D : List A) where
-  -- "S = gcd(Q_1, Q_2, P_1 + P_2), with U, V, W such that S = U·Q_1 + V·Q_2 + W·(P_1 + P_2)": by two greatest common divisors
-  -- "Q = Q_1·Q_2 / S²"; "P = (P_1 + (Q_1/S)·(U·(P_2 − P_1) + W·(D − P_1²)/Q_1)) mod Q"
+  -- "S = gcd(Q_1, Q_2, P_1 + P_2), with U, V, W such that S = U·Q_1 + V·Q_2 + W·(P_1 + P_2)": by two greatest
+  -- common divisors "Q = Q_1·Q_2 / S²"; "P = (P_1 + (Q_1/S)·(U·(P_2 − P_1) + W·(D − P_1²)/Q_1)) mod Q"
   unfoldable pub productOf : Ideal A → Ideal A → Product A
   productOf x y =
       let b : Bezout A = bezout o (x .q) (y .q) in
@@ -33,12 +33,14 @@ module _ {A : Type 0} (o : Ops A) (D : List A) where
       record { s = S; ideal = record { q = Q; p = rem o (add o (x .p) (mul o (quo o (x .q) S) inner)) Q } }
 
 module _ {A : Type 0} (o : Ops A) (D d : List A) (g : ℕ) where
-  -- "until the first k from 0 up with deg Q_k at most g": from j up, within as many turns as the first number says
+  -- "until the first k from 0 up with deg Q_k at most g": from j up, within as many turns as the first number
+  -- says
   unfoldable pub reducedFrom : ℕ → Ideal A → ℕ → ℕ
   reducedFrom zero s j = j
   reducedFrom (suc k) s j = elim (leb (size o (steps o D d s j .q)) (suc g)) [ true ↦ j | false ↦ reducedFrom k s (suc j) ]
 
-  -- the degree of Q falls with each step until it is at most g, so that as many turns as Q has coefficients are enough
+  -- the degree of Q falls with each step until it is at most g, so that as many turns as Q has coefficients
+  -- are enough
   unfoldable pub turnsOf : Ideal A → ℕ
   turnsOf s = reducedFrom (size o (s .q)) s 0
 
@@ -47,7 +49,8 @@ module _ {A : Type 0} (o : Ops A) (D d : List A) (g : ℕ) where
   degreeSum s zero = 0
   degreeSum s (suc k) = degreeSum s k + deg o (partial o D d (steps o D d s (suc k)))
 
-  -- "f = deg Q_k − deg Q + (sum of deg a_j, j from 1 to k) − deg S"; source 000, theorem 3.7, calls it the "error" of the two distances' sum
+  -- "f = deg Q_k − deg Q + (sum of deg a_j, j from 1 to k) − deg S"; source 000, theorem 3.7, calls it the
+  -- "error" of the two distances' sum
   unfoldable pub shiftOf : Product A → ℤ
   shiftOf r =
       let k : ℕ = turnsOf (r .ideal) in
@@ -78,7 +81,8 @@ module _ (t : Ticket) where
       && eqb (lead (opsOf t) (x .q)) 1 && ltb (size (opsOf t) (x .p)) (size (opsOf t) (x .q))
       && eqb (size (opsOf t) (rem (opsOf t) (sub (opsOf t) (t .D) (mul (opsOf t) (x .p) (x .p))) (x .q))) 0
 
-  -- "9 (product and giant step): a pair has the wrong number of coefficients or isn't an ideal as described below"
+  -- "9 (product and giant step): a pair has the wrong number of coefficients or isn't an ideal as described
+  -- below"
   unfoldable pub wrongPair : Ideal ℕ → Ideal ℕ → Bool
   wrongPair x y = not (isPair x) || not (isPair y)
 
@@ -86,7 +90,8 @@ module _ (t : Ticket) where
   unfoldable pub productDone : Ideal ℕ → Ideal ℕ → ProductAnswer
   productDone x y = let r = productOf (opsOf t) (t .D) x y in record { number = 0; s = r .s; q = r .ideal .q; p = r .ideal .p }
 
-  -- "The answer is that ideal, Q_k monic, P_k mod it, with f and the two distances' sum plus f, a signed number."
+  -- "The answer is that ideal, Q_k monic, P_k mod it, with f and the two distances' sum plus f, a signed
+  -- number."
   unfoldable pub giantDone : Ideal ℕ → ℕ → Ideal ℕ → ℕ → GiantStepAnswer
   giantDone x d y e =
       let r = productOf (opsOf t) (t .D) x y in

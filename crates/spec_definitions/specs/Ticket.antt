@@ -9,8 +9,8 @@ use Rattle.spec_definitions.specs.Polynomials.{size, gcd, derivative}
 use Rattle.spec_definitions.specs.Primes.{oddPrime}
 use Rattle.spec_definitions.specs.Words.{kind, value, same, someNot, oneOf}
 
--- the ticket is the job record: which field, which D, and how many steps at most
--- "kind 1: q; kind 2: n; kind 3, n+1 words: the coefficients of D, constant term first; kind 4: the step budget b"
+-- the ticket is the job record: which field, which D, and how many steps at most "kind 1: q; kind 2: n; kind
+-- 3, n+1 words: the coefficients of D, constant term first; kind 4: the step budget b"
 pub record Ticket : Type 0 where
   pub field : FieldName
   pub n : ℕ
@@ -31,7 +31,8 @@ ticketOf w =
     let n : ℕ = value (getD w 1 0) in
     ticket (prime (value (getD w 0 0))) n (map value (take (n + 1) (drop 2 w))) (value (getD w (n + 3) 0))
 
--- "1: fewer than 7 words, or word 0 isn't kind 1, or word 1 isn't kind 2": the kinds that word 0 may have are given
+-- "1: fewer than 7 words, or word 0 isn't kind 1, or word 1 isn't kind 2": the kinds that word 0 may have are
+-- given
 unfoldable pub wrongHead : List ℕ → List ℕ → Bool
 wrongHead kinds w = ltb (length w) 7 || not (oneOf kinds (kind (getD w 0 0))) || not (eqb (kind (getD w 1 0)) 2)
 
@@ -59,7 +60,8 @@ wrongCoefficient f D = someNot (fits f) D
 unfoldable pub wrongLead : ℕ → List ℕ → Bool
 wrongLead n D = not (eqb (getD D n 0) 1)
 
--- "7: the square of some polynomial of degree 1 or more divides D": that is so exactly where gcd(D, D′) is not constant
+-- "7: the square of some polynomial of degree 1 or more divides D": that is so exactly where gcd(D, D′) is
+-- not constant
 unfoldable pub notSquarefree : FieldName → List ℕ → Bool
 notSquarefree f D = not (eqb (size (ops f) (gcd (ops f) D (derivative (ops f) D))) 1)
 

@@ -25,7 +25,8 @@ unfoldable pub longEnough : ℕ → Lists → Bool
 longEnough k l = leb k (length (l .first)) && leb k (length (l .second)) && leb k (length (l .third)) && leb k (length (l .fourth))
 
 module _ (t : Ticket) where
-  -- "in places 0 to R, constant term first, zeros above the degree .. Later places keep what they had": here k is R+1
+  -- "in places 0 to R, constant term first, zeros above the degree .. Later places keep what they had": here
+  -- k is R+1
   unfoldable pub written : ℕ → List ℕ → List ℕ → List ℕ
   written k l old = pad (opsOf t) k l ++ drop k old
 

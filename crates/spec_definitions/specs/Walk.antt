@@ -1,4 +1,5 @@
--- The walk, the expansion of √D as a continued fraction: P, Q, the partial quotients a and the convergents p, s as functions of the index, over any coefficients.
+-- The walk, the expansion of √D as a continued fraction: P, Q, the partial quotients a and the convergents p,
+-- s as functions of the index, over any coefficients.
 use Prim.Native.Nat.{ℕ, zero, suc, _%_}
 use mathlib.Core.Bool.{Bool, true, false}
 use mathlib.Core.List.{List, [], _∷_}
@@ -69,12 +70,14 @@ module _ {A : Type 0} (o : Ops A) (D d : List A) where
   firstFrom zero i = none
   firstFrom (suc k) i = elim (constant? i) [ true ↦ some i | false ↦ firstFrom k (suc i) ]
 
-  -- "The walk stops at the first index from 1 up whose Q is a nonzero constant, and that index m is its yield. m is the quasi-period": within a budget b
-  -- from the quasi-period on the expansion repeats up to constant factors (source 000, section 2C)
+  -- "The walk stops at the first index from 1 up whose Q is a nonzero constant, and that index m is its
+  -- yield. m is the quasi-period": within a budget b from the quasi-period on the expansion repeats up to
+  -- constant factors (source 000, section 2C)
   unfoldable pub quasiPeriod : ℕ → Option ℕ
   quasiPeriod b = firstFrom b 1
 
-  -- deg p_{i−1}: "R = deg p_{m−1} the regulator", which is the degree of the fundamental unit; "The degree reached when spent is deg p_{b−1}"
+  -- deg p_{i−1}: "R = deg p_{m−1} the regulator", which is the degree of the fundamental unit; "The degree
+  -- reached when spent is deg p_{b−1}"
   unfoldable pub degreeBefore : ℕ → ℕ
   degreeBefore i = deg o (pBefore i)
 

@@ -8,7 +8,8 @@ use lib.Dec.{eqb}
 abbrev pub values : ℕ
 values = 268435456
 
--- "The top 4 bits of a word are its kind, the low 28 its value. All are unsigned."; the kind is the word's tag: it says what the value stands for
+-- "The top 4 bits of a word are its kind, the low 28 its value. All are unsigned."; the kind is the word's
+-- tag: it says what the value stands for
 unfoldable pub kind : ℕ → ℕ
 kind w = w / values
 

@@ -1,6 +1,8 @@
--- "Div and mod are division with remainder": for every allowed field and all lists, a = quo·b + rem with a remainder of lower degree than b; 1/a is the inverse of a;
--- gcd has the paper's rule, divides both polynomials, and every polynomial that divides both divides it.
--- What it is to divide is said with a factor, not with a remainder; both say the same. Polynomials are lists of any numbers and any length, read in the field.
+-- "Div and mod are division with remainder": for every allowed field and all lists, a = quo·b + rem with a
+-- remainder of lower degree than b; 1/a is the inverse of a; gcd has the paper's rule, divides both
+-- polynomials, and every polynomial that divides both divides it.
+-- What it is to divide is said with a factor, not with a remainder; both say the same. Polynomials are lists
+-- of any numbers and any length, read in the field.
 use Prim.Native.Nat.{ℕ, _<_}
 use native.Mathlib.Omega.{arith}
 use mathlib.Core.Path.{_≡_, sym, ap, _∙_, fun-ext, subst}
@@ -43,7 +45,8 @@ Division = (f : FieldName) → AllowedField f → (a b : List ℕ) → size (ops
 abbrev pub Inverse : Type 0
 Inverse = (f : FieldName) → AllowedField f → (a : ℕ) → reading f a ≢ 0 → ops f .mul (ops f .inv a) a ≡ 1
 
--- "The greatest common divisor of A and B is that of B and the remainder of A by B; it is A made monic where B is zero, and zero where both are. Greatest common divisors are monic."
+-- "The greatest common divisor of A and B is that of B and the remainder of A by B; it is A made monic where
+-- B is zero, and zero where both are. Greatest common divisors are monic."
 pub record GcdRule (f : FieldName) (a b : List ℕ) : Type 0 where
   pub step : size (ops f) b ≢ 0 → gcd (ops f) a b ≡ gcd (ops f) b (rem (ops f) a b)
   pub base : size (ops f) b ≡ 0 → gcd (ops f) a b ≡ monic (ops f) a

@@ -1,6 +1,8 @@
--- T2: the walk of a ticket past its refusals is the continued fraction of √D. d is the only monic polynomial of degree g + 1 with deg(D − d²) ≤ g; the walk's equations,
--- the norms and the determinant hold at every index, with no bound; and the outcome is told by the least index whose Q is a nonzero constant.
--- Polynomials are lists of coefficients, read in the field. The proof reads the equations of the continued fraction off as equations of lists.
+-- T2: the walk of a ticket past its refusals is the continued fraction of √D. d is the only monic polynomial
+-- of degree g + 1 with deg(D − d²) ≤ g; the walk's equations, the norms and the determinant hold at every
+-- index, with no bound; and the outcome is told by the least index whose Q is a nonzero constant. Polynomials
+-- are lists of coefficients, read in the field. The proof reads the equations of the continued fraction off
+-- as equations of lists.
 use Prim.Native.Nat.{ℕ, zero, suc, _+_, _%_, _≤_, _<_}
 use native.Mathlib.Omega.{arith}
 use mathlib.Core.Path.{_≡_, refl, sym, ap, ap₂, _∙_, subst}
@@ -73,9 +75,11 @@ module _ (f : FieldName) (D d : List ℕ) where
   abbrev s : ℕ → List ℕ
   s = walk.sBefore (ops f) D d
 
-  -- at every index i: `product` is Q_i·Q_{i+1} = D − P_{i+1}², `sum` is P_{i+1} + P_i = a_i·Q_i, `quotient` is deg((P_i + d) − a_i·Q_i) < deg Q_i, so that a_i is the quotient
-  -- of P_i + d by Q_i, `norm` is p_{i−1}² − D·s_{i−1}² = (−1)^i·Q_i, `determinant` is p_i·s_{i−1} − p_{i−1}·s_i = (−1)^{i+1}, and `degree` is
-  -- deg p_i = (g + 1) + deg a_1 + .. + deg a_i; every Q_i is reduced, deg Q_i ≤ g, and no a_i is constant, as deg a_i = (g + 1) − deg Q_i
+  -- at every index i: `product` is Q_i·Q_{i+1} = D − P_{i+1}², `sum` is P_{i+1} + P_i = a_i·Q_i, `quotient`
+  -- is deg((P_i + d) − a_i·Q_i) < deg Q_i, so that a_i is the quotient of P_i + d by Q_i, `norm` is p_{i−1}²
+  -- − D·s_{i−1}² = (−1)^i·Q_i, `determinant` is p_i·s_{i−1} − p_{i−1}·s_i = (−1)^{i+1}, and `degree` is deg
+  -- p_i = (g + 1) + deg a_1 + .. + deg a_i; every Q_i is reduced, deg Q_i ≤ g, and no a_i is constant, as deg
+  -- a_i = (g + 1) − deg Q_i
   pub record Continued (g : ℕ) : Type 0 where
     pub root : RootOf f g D d
     pub root-only : (l : List ℕ) → RootOf f g D l → Same f l d

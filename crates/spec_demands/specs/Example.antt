@@ -1,5 +1,6 @@
--- The printed ticket, q = 3, D = x⁴ + x + 1, b = 6, is past every refusal, so the demands speak of it: among all p and s with s ≠ 0 and p² − D·s² a nonzero constant
--- modulo 3 none has a degree of p below 7, and those of degree 7 are the printed unit, its conjugate and their negatives.
+-- The printed ticket, q = 3, D = x⁴ + x + 1, b = 6, is past every refusal, so the demands speak of it: among
+-- all p and s with s ≠ 0 and p² − D·s² a nonzero constant modulo 3 none has a degree of p below 7, and those
+-- of degree 7 are the printed unit, its conjugate and their negatives.
 use mathlib.Core.Path.{_≡_, refl}
 use mathlib.Core.List.{[], _∷_}
 use Rattle.spec_definitions.specs.Field.{inverse, inverseIn, fits, prime}

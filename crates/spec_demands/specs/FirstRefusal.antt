@@ -1,4 +1,5 @@
--- T1: the number that the definitions give to a ticket is that of the paper's first sentence that applies, and 0 where none does.
+-- T1: the number that the definitions give to a ticket is that of the paper's first sentence that applies,
+-- and 0 where none does.
 -- Each test is true exactly where its sentence applies, given that no sentence before it does.
 use Prim.Native.Nat.{ℕ, _+_, _≤_, _<_}
 use native.Mathlib.Omega.{arith}
@@ -15,7 +16,8 @@ use Rattle.spec_demands.specs.Tests.{Tests, tests-eq, tests-none, tests-
 use Rattle.spec_demands.specs.Readings.{prime-allowed, tests-head, tests-prime, tests-degree, tests-layout, tests-coefficient, tests-lead, coefficient-at, length-D}
 use Rattle.spec_demands.specs.Squares.{tests-square}
 
--- k is refused exactly where sentence k applies and none from 1 below k does; nothing is refused exactly where none of the seven applies
+-- k is refused exactly where sentence k applies and none from 1 below k does; nothing is refused exactly
+-- where none of the seven applies
 pub record FirstApplies (w : List ℕ) : Type 0 where
   pub refused : (k : ℕ) → 1 ≤ k → k ≤ 7 → (refusalOf w ≡ k) ↔ (Applies k w × ((j : ℕ) → 1 ≤ j → j < k → ¬ Applies j w))
   pub accepted : (refusalOf w ≡ 0) ↔ ((j : ℕ) → 1 ≤ j → j ≤ 7 → ¬ Applies j w)

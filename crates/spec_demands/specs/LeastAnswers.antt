@@ -1,5 +1,6 @@
--- T3 of every answer that says found or spent. The call `regulator` says the outcome of the words, which is what T3 is about; here are the calls `listing` and `unit`.
--- They say the same outcome, except that found becomes a refusal where a lent list is too short.
+-- T3 of every answer that says found or spent. The call `regulator` says the outcome of the words, which is
+-- what T3 is about; here are the calls `listing` and `unit`. They say the same outcome, except that found
+-- becomes a refusal where a lent list is too short.
 use Prim.Native.Nat.{ℕ}
 use mathlib.Core.Path.{_≡_, sym, subst}
 use mathlib.Core.Logic.{⊎-elim}

@@ -1,6 +1,8 @@
--- T3: what is found is least. For every p and s with s ≠ 0 and p² − D·s² a nonzero constant: where a ticket's outcome is `found`, the degree of p is at least R,
--- the unit is such a pair of degree R, and one of degree R is a constant multiple of it, up to the sign of s; where it is `spent`, the degree of p is above the degree reached.
--- Polynomials are lists of any length, of any numbers, read in the field. The proof is the theorem on the least degree in the continued fraction of √D.
+-- T3: what is found is least. For every p and s with s ≠ 0 and p² − D·s² a nonzero constant: where a ticket's
+-- outcome is `found`, the degree of p is at least R, the unit is such a pair of degree R, and one of degree R
+-- is a constant multiple of it, up to the sign of s; where it is `spent`, the degree of p is above the degree
+-- reached. Polynomials are lists of any length, of any numbers, read in the field. The proof is the theorem
+-- on the least degree in the continued fraction of √D.
 use Prim.Native.Nat.{ℕ, zero, suc, _≤_, _<_}
 use native.Mathlib.Nat.{eq-zero-or-pos}
 use mathlib.Core.Path.{_≡_, refl, sym, ap, ap₂, _∙_, fun-ext}
@@ -21,7 +23,7 @@ use Rattle.spec_definitions.specs.Answers.{Outcome, found, spent, refused, opsO
 use Rattle.spec_bridge.specs.Model.{Model, series}
 use Rattle.spec_bridge.specs.Trim.{size-is}
 use Rattle.spec_bridge.specs.Arithmetic.{trim-sub, series-scale}
-use Rattle.spec_fields.specs.Named.{Ok, Arithmetic, arithmetic, same-reading}
+use Rattle.spec_fields.specs.Named.{Ok, Arithmetic, arithmetic}
 use Rattle.spec_laws.specs.Surd.{Surd}
 use Rattle.spec_laws.specs.Fraction.{fraction}
 use Rattle.spec_laws.specs.Convergents.{p-series, s-series}
@@ -31,6 +33,7 @@ use Rattle.spec_laws.specs.QuasiPeriod.{Quasi, NoQuasi, Says, quasi-says}
 use Rattle.spec_laws.specs.Solutions as solutions
 use Rattle.spec_laws.specs.Admitted.{Admitted, is-field, surd-of, admitted}
 use Rattle.spec_demands.specs.Sentences.{Same}
+use Rattle.spec_demands.specs.Arithmetic.{series-same}
 
 -- p² − D·s²
 abbrev pub norm : FieldName → List ℕ → List ℕ → List ℕ → List ℕ
@@ -70,23 +73,20 @@ T3 = (w : List ℕ) → Least w (wordsOutcome w)
 
 -- ---- the proof, for a D that is admitted
 module _ {f : FieldName} {g : ℕ} {D : List ℕ} (h : Admitted f g D) where
-  abbrev N : Arithmetic f
-  N = arithmetic f (is-field h)
+  abbrev A : Arithmetic f
+  A = arithmetic f (is-field h)
 
-  abbrev K : Field (N .Elements)
-  K = N .K
+  abbrev K : Field (A .Elements)
+  K = A .K
 
   abbrev M : Model (ops f) (F K)
-  M = N .M
+  M = A .M
 
   abbrev d : List ℕ
   d = root (ops f) D (suc g)
 
   abbrev z : Surd K M g D d
   z = surd-of h
-
-  same-series : (p l : List ℕ) → series M p ≡ series M l → Same f p l
-  same-series p l e i = same-reading f (is-field h) _ _ (ap (λ (x : Px K). x i) e)
 
   constant-size : (p s : List ℕ) → Solves f D p s → size (ops f) (normOf (ops f) D p s) ≡ 1
   unfolding normOf
@@ -96,22 +96,22 @@ module _ {f : FieldName} {g : ℕ} {D : List ℕ} (h : Admitted f g D) where
   least-spent b free p s u = solutions.degree-above z p s (u .some) (constant-size p s u) b free
 
   -- ---- a constant multiple over the field is one of lists
-  times-series : (c : ℕ) (x : N .Elements) (l : List ℕ) (u : Px K) → M .φ c ≡ x → series M l ≡ u → conv (F K) (con (F K) x) u ≡ series M (scale (ops f) c l)
+  times-series : (c : ℕ) (x : A .Elements) (l : List ℕ) (u : Px K) → M .φ c ≡ x → series M l ≡ u → conv (F K) (con (F K) x) u ≡ series M (scale (ops f) c l)
   times-series c x l u e e′ = sym (series-scale M c l ∙ ap₂ (λ y v. conv (F K) (con (F K) y) v) e e′)
 
-  minus-times : (x : N .Elements) (u : Px K) → negS (F K) (conv (F K) (con (F K) x) u) ≡ conv (F K) (con (F K) (F K .neg x)) u
+  minus-times : (x : A .Elements) (u : Px K) → negS (F K) (conv (F K) (con (F K) x) u) ≡ conv (F K) (con (F K) (F K .neg x)) u
   unfolding negS
   minus-times x u = fun-ext (λ i. ap (F K .neg) (conv-con (F K) x u i) ∙ sym (neg-mul (F K) x (u i)) ∙ sym (conv-con (F K) (F K .neg x) u i))
 
-  module _ (x : N .Elements) where
+  module _ (x : A .Elements) where
     abbrev k : ℕ
-    k = N .onto .back x
+    k = A .onto .back x
 
     back : M .φ k ≡ x
-    back = N .onto .φ-back x
+    back = A .onto .φ-back x
 
     back-minus : M .φ (ops f .sub 0 k) ≡ F K .neg x
-    back-minus = M .φ-sub 0 k ∙ ap (λ (y : N .Elements). F K .add y (F K .neg (M .φ k))) (M .φ-zer) ∙ zer-add (F K) _ ∙ ap (F K .neg) back
+    back-minus = M .φ-sub 0 k ∙ ap (λ (y : A .Elements). F K .add y (F K .neg (M .φ k))) (M .φ-zer) ∙ zer-add (F K) _ ∙ ap (F K .neg) back
 
     some-back : (x ≡ F K .zer → ⊥) → 0 < k
     some-back e = ⊎-elim (λ u. absurd (e (sym back ∙ ap (M .φ) u ∙ M .φ-zer))) (λ u. u) (eq-zero-or-pos k)
@@ -121,11 +121,11 @@ module _ {f : FieldName} {g : ℕ} {D : List ℕ} (h : Admitted f g D) where
   multiple m p s t = record {
     k = k (t .by);
     positive = some-back (t .by) (t .by-not-zero);
-    below = N .ok-is _ (N .onto .ok-back (t .by));
-    p-is = same-series p (scale (ops f) (k (t .by)) (pBefore (ops f) D d m)) (t .X-is ∙ times-series (k (t .by)) (t .by) (pBefore (ops f) D d m) _ (back (t .by)) (p-series z m));
+    below = A .ok-is _ (A .onto .ok-back (t .by));
+    p-is = series-same f (is-field h) p (scale (ops f) (k (t .by)) (pBefore (ops f) D d m)) (t .X-is ∙ times-series (k (t .by)) (t .by) (pBefore (ops f) D d m) _ (back (t .by)) (p-series z m));
     s-is = ⊎-elim
-        (λ e. inl (same-series s (scale (ops f) (k (t .by)) (sBefore (ops f) D d m)) (e ∙ times-series (k (t .by)) (t .by) (sBefore (ops f) D d m) _ (back (t .by)) (s-series z m))))
-        (λ e. inr (same-series s (scale (ops f) (ops f .sub 0 (k (t .by))) (sBefore (ops f) D d m)) (e ∙ minus-times (t .by) _ ∙ times-series (ops f .sub 0 (k (t .by))) (F K .neg (t .by)) (sBefore (ops f) D d m) _ (back-minus (t .by)) (s-series z m))))
+        (λ e. inl (series-same f (is-field h) s (scale (ops f) (k (t .by)) (sBefore (ops f) D d m)) (e ∙ times-series (k (t .by)) (t .by) (sBefore (ops f) D d m) _ (back (t .by)) (s-series z m))))
+        (λ e. inr (series-same f (is-field h) s (scale (ops f) (ops f .sub 0 (k (t .by))) (sBefore (ops f) D d m)) (e ∙ minus-times (t .by) _ ∙ times-series (ops f .sub 0 (k (t .by))) (F K .neg (t .by)) (sBefore (ops f) D d m) _ (back-minus (t .by)) (s-series z m))))
         (t .Y-is);
   }
 

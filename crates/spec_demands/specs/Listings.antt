@@ -1,5 +1,5 @@
--- T2, the part on listings: in every record nothing is cut, the mirror and the distance make up R, and the pair is an ideal; the words are read back as they were written,
--- and lookup takes the listing.
+-- T2, the part on listings: in every record nothing is cut, the mirror and the distance make up R, and the
+-- pair is an ideal; the words are read back as they were written, and lookup takes the listing.
 use Prim.Native.Nat.{ℕ, zero, suc, _+_, _*_, _-_, _/_, _%_, _≤_, _<_}
 use native.Mathlib.Nat.{mul-le-mul, div-add-mod}
 use native.Mathlib.Omega.{arith}
@@ -37,7 +37,8 @@ use Rattle.spec_demands.specs.Lookups.{WrongListing, tests-listing}
 use Rattle.spec_demands.specs.Pairs.{IsPair, is-pair}
 use Rattle.spec_demands.specs.Records.{kinds-record, count-listing, length-listing, whole-listing, record-listing, distance-listing, kinds-listing, rising-listing}
 
--- record j + 1: each number fits into its words of 28 bits, no coefficient is left out, mirror and distance make up R, and the pair is an ideal
+-- record j + 1: each number fits into its words of 28 bits, no coefficient is left out, mirror and distance
+-- make up R, and the pair is an ideal
 pub record RecordHolds (t : Ticket) (R j : ℕ) : Type 0 where
   pub index-fits : entryOf t j .index < 268435456
   pub distance-fits : high (entryOf t j .distance) < 268435456

@@ -1,5 +1,5 @@
--- T1 and T2, the parts on lookup: refusal 8 is the paper's sentence and shows by the empty part at the start of the list; else the part is the last record with a distance
--- of at most y.
+-- T1 and T2, the parts on lookup: refusal 8 is the paper's sentence and shows by the empty part at the start
+-- of the list; else the part is the last record with a distance of at most y.
 use Prim.Native.Nat.{ℕ, zero, suc, _+_, _*_, _-_, _/_, _%_, _≤_, _<_}
 use native.Mathlib.Nat.{div-add-mod', mul-div-cancel, zero-mul, suc-mul, mul-mod-left, mul-le-mul-right, eq-or-lt-of-le, eq-zero-or-pos}
 use native.Mathlib.Omega.{arith}
@@ -38,7 +38,8 @@ module _ (l : List ℕ) (n : ℕ) where
   abbrev pub NotRising : Type 0
   NotRising = (k : ℕ) × (suc k < recordCount l n) × (distanceAt l n (suc k) ≤ distanceAt l n k)
 
-  -- "8 (lookup only): n is not allowed by 3, or the words aren't one or more whole records of the kinds below, or the first distance isn't 0, or distances don't strictly rise"
+  -- "8 (lookup only): n is not allowed by 3, or the words aren't one or more whole records of the kinds
+  -- below, or the first distance isn't 0, or distances don't strictly rise"
   abbrev pub WrongListing : Type 0
   WrongListing = DegreeNotAllowed ⊎ (¬ WholeRecords) ⊎ WrongKinds ⊎ (distanceAt l n 0 ≢ 0) ⊎ NotRising
 

@@ -1,4 +1,5 @@
--- The number of an answer tells its case: 0 says found and 11 says spent, and no refusal has either of them. It holds of the calls `regulator`, `unit` and `listing`.
+-- The number of an answer tells its case: 0 says found and 11 says spent, and no refusal has either of them.
+-- It holds of the calls `regulator`, `unit` and `listing`.
 use Prim.Native.Nat.{ℕ, zero, suc, _+_, _*_}
 use native.Mathlib.Omega.{arith}
 use mathlib.Core.Path.{_≡_, sym, subst}

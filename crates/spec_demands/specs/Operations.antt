@@ -1,6 +1,8 @@
--- What the operations on polynomials are, coefficient by coefficient and for lists of any numbers and any length: sum, difference, multiple, product and derivative
--- modulo q; size, degree and leading coefficient; a polynomial made monic. Every result has coefficients below q and no zero at its end, so that it is the only list of its polynomial.
--- The other demands use these operations: what they say of polynomials rests on the statements here and in Arithmetic.
+-- What the operations on polynomials are, coefficient by coefficient and for lists of any numbers and any
+-- length: sum, difference, multiple, product and derivative modulo q; size, degree and leading coefficient; a
+-- polynomial made monic. Every result has coefficients below q and no zero at its end, so that it is the only
+-- list of its polynomial. The other demands use these operations: what they say of polynomials rests on the
+-- statements here and in Arithmetic.
 use Prim.Native.Nat.{ℕ, zero, suc, _+_, _-_, _*_, _%_, _≤_, _<_}
 use native.Mathlib.Nat.{mod-lt, mod-eq-of-lt, mod-add-mod, add-mod-mod, add-mod-right, zero-add, zero-mul, zero-mod, suc-mul, add-comm, eq-zero-or-pos}
 use native.Mathlib.Omega.{arith}
@@ -36,7 +38,8 @@ unfoldable pub total : (ℕ → ℕ) → ℕ → ℕ
 total f zero = f 0
 total f (suc i) = total f i + f (suc i)
 
--- n is the degree of l and 1, and 0 for the zero polynomial: every coefficient from n on is 0, and the one before is not
+-- n is the degree of l and 1, and 0 for the zero polynomial: every coefficient from n on is 0, and the one
+-- before is not
 pub record SizeOf (f : FieldName) (l : List ℕ) (n : ℕ) : Type 0 where
   pub past : (i : ℕ) → n ≤ i → reading f (getD l i 0) ≡ 0
   pub top : (k : ℕ) → n ≡ suc k → reading f (getD l k 0) ≢ 0

@@ -1,5 +1,6 @@
--- T1, the part on pairs: the number that product and giant step give is that of the words' refusal, then 9 for a pair that is no ideal as described, then 10 for a distance, and 0
--- where none applies. The sentences have no test in them; "dividing" is said with a factor.
+-- T1, the part on pairs: the number that product and giant step give is that of the words' refusal, then 9
+-- for a pair that is no ideal as described, then 10 for a distance, and 0 where none applies. The sentences
+-- have no test in them; "dividing" is said with a factor.
 use Prim.Native.Nat.{ℕ, zero, suc, _<_}
 use native.Mathlib.Omega.{arith}
 use mathlib.Core.Path.{_≡_, refl, sym, ap, ap₂, _∙_, subst}
@@ -41,7 +42,8 @@ pub record GivenPair (t : Ticket) (x : Ideal ℕ) : Type 0 where
   pub p-below : (i : ℕ) → Ok (t .field) (getD (x .p) i 0)
   pub is : IsPair (t .field) (t .D) (x .q) (x .p)
 
--- "9 (product and giant step): a pair has the wrong number of coefficients or isn't an ideal as described below"
+-- "9 (product and giant step): a pair has the wrong number of coefficients or isn't an ideal as described
+-- below"
 abbrev pub WrongPair : Ticket → Ideal ℕ → Ideal ℕ → Type 0
 WrongPair t x y = (¬ GivenPair t x) ⊎ (¬ GivenPair t y)
 
@@ -56,7 +58,8 @@ ProductZero r = (r .s ≡ []) × (r .q ≡ []) × (r .p ≡ [])
 abbrev pub GiantZero : GiantStepAnswer → Type 0
 GiantZero r = (r .q ≡ []) × (r .p ≡ []) × (r .f ≡ posℤ 0) × (r .distance ≡ posℤ 0)
 
--- "Tested in this order; the first that applies is returned.": the words' refusal, which T1 tells, then 9, then 10
+-- "Tested in this order; the first that applies is returned.": the words' refusal, which T1 tells, then 9,
+-- then 10
 pub record PairRefusals (w : List ℕ) (x : Ideal ℕ) (d : ℕ) (y : Ideal ℕ) (e : ℕ) : Type 0 where
   pub words : refusalOf w ≢ 0 → (productAnswer w x y .number ≡ refusalOf w) × (giantAnswer w x d y e .number ≡ refusalOf w)
   pub pairs : refusalOf w ≡ 0 → WrongPair (ticketOf w) x y → (productAnswer w x y .number ≡ 9) × (giantAnswer w x d y e .number ≡ 9)

@@ -1,6 +1,8 @@
--- T2, the part on products: for a ticket past its refusals and two pairs as document 01 describes them, S is the greatest common divisor, Q·S² is Q_1·Q_2, P is document 01's for ANY U, V, W
--- with S = U·Q_1 + V·Q_2 + W·(P_1 + P_2), and Q divides D − P². The giant step's reduction divides exactly, ends at the first reduced index, and −2g ≤ f ≤ 0.
--- Polynomials are lists of coefficients, read in the field. The proof reads the product of ideals over the field off as equations of lists.
+-- T2, the part on products: for a ticket past its refusals and two pairs as document 01 describes them, S is
+-- the greatest common divisor, Q·S² is Q_1·Q_2, P is document 01's for ANY U, V, W with S = U·Q_1 + V·Q_2 +
+-- W·(P_1 + P_2), and Q divides D − P². The giant step's reduction divides exactly, ends at the first reduced
+-- index, and −2g ≤ f ≤ 0. Polynomials are lists of coefficients, read in the field. The proof reads the
+-- product of ideals over the field off as equations of lists.
 use Prim.Native.Nat.{ℕ, zero, suc, _+_, _≤_, _<_}
 use native.Mathlib.Omega.{arith}
 use mathlib.Core.Path.{_≡_, refl, sym, ap, ap₂, _∙_, subst}
@@ -87,7 +89,8 @@ pub record Multiplies (t : Ticket) (x y : Ideal ℕ) (r : ProductAnswer) : Type 
   pub number : r .number ≡ 0
   pub is : IsProduct (t .field) (genus (t .n)) (t .D) x y (r .s) (r .q) (r .p)
 
--- with the distances d and e; S and the pair s are the product's; `f-is` is f = deg Q_k − deg Q + (deg a_1 + .. + deg a_k) − deg S
+-- with the distances d and e; S and the pair s are the product's; `f-is` is f = deg Q_k − deg Q + (deg a_1 +
+-- .. + deg a_k) − deg S
 pub record Steps (t : Ticket) (x : Ideal ℕ) (d : ℕ) (y : Ideal ℕ) (e : ℕ) (S : List ℕ) (s : Ideal ℕ) (r : GiantStepAnswer) : Type 0 where
   pub number : r .number ≡ 0
   pub k : ℕ

@@ -1,4 +1,5 @@
--- The tests of a ticket, 1 to 6: each is true exactly where its sentence applies, 5 where the words are laid out as 4 asks.
+-- The tests of a ticket, 1 to 6: each is true exactly where its sentence applies, 5 where the words are laid
+-- out as 4 asks.
 use Prim.Native.Nat.{ℕ, suc, _+_, _-_, _%_, _≤_, _<_}
 use native.Mathlib.Nat.{mod-lt, eq-or-lt-of-le}
 use native.Mathlib.Omega.{arith}

@@ -1,4 +1,5 @@
--- The words of a listing, read back: where each record stands, its kinds and its distance, for records whose numbers fit into their words.
+-- The words of a listing, read back: where each record stands, its kinds and its distance, for records whose
+-- numbers fit into their words.
 use Prim.Native.Nat.{ℕ, zero, suc, _+_, _*_, _/_, _%_, _≤_, _<_}
 use native.Mathlib.Nat.{zero-mul, suc-mul, add-comm, add-zero, add-suc, suc-add, mul-div-cancel, mul-mod-left}
 use native.Mathlib.Omega.{arith}

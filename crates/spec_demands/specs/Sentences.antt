@@ -1,5 +1,6 @@
--- The sentences 1 to 7 by which a ticket is refused, as statements about any list of words, with no test in them. What the words say is read at their places;
--- 7 speaks of polynomials as lists of coefficients and uses their size and product over the field of q elements.
+-- The sentences 1 to 7 by which a ticket is refused, as statements about any list of words, with no test in
+-- them. What the words say is read at their places; 7 speaks of polynomials as lists of coefficients and uses
+-- their size and product over the field of q elements.
 use Prim.Native.Nat.{ℕ, _+_, _%_, _≤_, _<_}
 use mathlib.Core.Path.{_≡_}
 use mathlib.Core.Logic.{_≢_, _⊎_}
@@ -81,7 +82,8 @@ module _ (w : List ℕ) where
   abbrev pub WrongDegree : Type 0
   WrongDegree = (n w % 2 ≡ 1) ⊎ (n w < 2) ⊎ (64 < n w)
 
-  -- a word after the first two has another kind than n+1 coefficients, the budget and the end have, in this order
+  -- a word after the first two has another kind than n+1 coefficients, the budget and the end have, in this
+  -- order
   abbrev pub WrongKind : Type 0
   WrongKind = ((i : ℕ) × (2 ≤ i) × (i ≤ n w + 2) × (kindAt w i ≢ 3)) ⊎ (kindAt w (n w + 3) ≢ 4) ⊎ (kindAt w (n w + 4) ≢ 15)
 

@@ -1,4 +1,5 @@
--- Tests and what they say: a test is true exactly where a statement holds. The first true test of a list is the first statement that holds.
+-- Tests and what they say: a test is true exactly where a statement holds. The first true test of a list is
+-- the first statement that holds.
 use Prim.Native.Nat.{ℕ, zero, suc, _+_, _≤_, _<_}
 use native.Mathlib.Nat.{eq-or-lt-of-le}
 use native.Mathlib.Omega.{arith}

@@ -1,8 +1,9 @@
--- T3 of the lists that the call `unit` writes: where it answers found with R, m, c, places 0 to R of its first two lists are a unit of the least degree R and the norm c.
--- The places hold the unit's coefficients and zeros above, which is the same polynomial, and what T3 says depends on polynomials alone.
+-- T3 of the lists that the call `unit` writes: where it answers found with R, m, c, places 0 to R of its
+-- first two lists are a unit of the least degree R and the norm c. The places hold the unit's coefficients
+-- and zeros above, which is the same polynomial, and what T3 says depends on polynomials alone.
 use Prim.Native.Nat.{ℕ, zero, suc, _-_, _≤_}
 use native.Mathlib.Omega.{arith}
-use mathlib.Core.Path.{_≡_, refl, sym, ap, ap₂, _∙_, fun-ext, subst}
+use mathlib.Core.Path.{_≡_, refl, sym, ap, ap₂, _∙_, subst}
 use mathlib.Core.Bool.{Bool, true, false}
 use mathlib.Core.Logic.{inl, inr, ⊎-elim}
 use mathlib.Core.List.{List, [], _∷_, _++_}
@@ -14,13 +15,13 @@ use Rattle.spec_definitions.specs.Ticket.{Ticket, genus, ticketOf, refusalOf}
 use Rattle.spec_definitions.specs.Walk.{Unit as UnitPair, unitOf, sBefore, quasiPeriod, degreeBefore, constantOf}
 use Rattle.spec_definitions.specs.Answers.{Outcome, found, spent, refused, said, said-injective, opsOf, rootOf, outcomeOf, wordsOutcome}
 use Rattle.spec_definitions.specs.Units.{Lists, UnitAnswer, longEnough, written, unitLists, unitFrom, unitAnswer}
-use Rattle.spec_bridge.specs.Model.{series}
 use Rattle.spec_bridge.specs.Trim.{size-series}
 use Rattle.spec_bridge.specs.Arithmetic.{mul-cong, scale-cong}
-use Rattle.spec_fields.specs.Named.{IsField, arithmetic, reading-same}
+use Rattle.spec_fields.specs.Named.{IsField, arithmetic}
 use Rattle.spec_laws.specs.Convergents.{s-zero, p-length, s-length}
 use Rattle.spec_laws.specs.Admitted.{Admitted, is-field, surd-of, admitted}
 use Rattle.spec_demands.specs.Sentences.{Same}
+use Rattle.spec_demands.specs.Arithmetic.{same-series}
 use Rattle.spec_demands.specs.LeastDegree.{norm, Multiple, LeastFound, LeastIn, least-outcome}
 
 -- places 0 to R of the first two lists
@@ -31,22 +32,19 @@ abbrev pub T3-unit : Type 0
 T3-unit = (w : List ℕ) (l : Lists) (R m c : ℕ) → unitAnswer w l .says ≡ said (found R m c) → LeastFound (ticketOf w .field) (ticketOf w .D) (unitIn R (unitAnswer w l .lists)) R c
 
 -- ---- what T3 says depends on polynomials alone
-module _ (f : FieldName) (is : IsField f) where
-  same-series : (l h : List ℕ) → Same f l h → series (arithmetic f is .M) l ≡ series (arithmetic f is .M) h
-  same-series l h e = fun-ext (λ i. reading-same f is _ _ (e i))
-
+module _ (f : FieldName) (named : IsField f) where
   same-size : (l h : List ℕ) → Same f l h → size (ops f) l ≡ size (ops f) h
   unfolding size
-  same-size l h e = size-series (arithmetic f is .M) l h (same-series l h e)
+  same-size l h e = size-series (arithmetic f named .M) l h (same-series f named l h e)
 
   same-mul : (l h : List ℕ) → Same f l h → mul (ops f) l l ≡ mul (ops f) h h
-  same-mul l h e = mul-cong (arithmetic f is .M) l h l h (same-series l h e) (same-series l h e)
+  same-mul l h e = mul-cong (arithmetic f named .M) l h l h (same-series f named l h e) (same-series f named l h e)
 
   same-norm : (D : List ℕ) (u v : UnitPair ℕ) → Same f (u .p) (v .p) → Same f (u .s) (v .s) → norm f D (u .p) (u .s) ≡ norm f D (v .p) (v .s)
   same-norm D u v e l = ap₂ (sub (ops f)) (same-mul (u .p) (v .p) e) (ap (mul (ops f) D) (same-mul (u .s) (v .s) l))
 
   same-scale : (k : ℕ) (l h g : List ℕ) → Same f l h → Same f g (scale (ops f) k l) → Same f g (scale (ops f) k h)
-  same-scale k l h g e t = subst (Same f g) (scale-cong (arithmetic f is .M) k k l h refl (same-series l h e)) t
+  same-scale k l h g e t = subst (Same f g) (scale-cong (arithmetic f named .M) k k l h refl (same-series f named l h e)) t
 
   pub least-same : (D : List ℕ) (u v : UnitPair ℕ) (R c : ℕ) → Same f (u .p) (v .p) → Same f (u .s) (v .s) → LeastFound f D u R c → LeastFound f D v R c
   unfolding deg

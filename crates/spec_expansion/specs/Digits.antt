@@ -1,4 +1,5 @@
--- A list of digits below q as a number, the lowest digit first: with at most n digits it is below q^n, and it tells every digit.
+-- A list of digits below q as a number, the lowest digit first: with at most n digits it is below q^n, and it
+-- tells every digit.
 use Prim.Native.Nat.{ℕ, zero, suc, _+_, _*_, _^_, _/_, _%_, _≤_, _<_}
 use native.Mathlib.Nat.{mod-eq-of-lt, div-eq-of-lt, add-mul-div-left, add-mul-mod-self-left, mul-le-mul-left, mul-suc, mul-zero, pow-succ', one-le-pow}
 use native.Mathlib.Omega.{arith}

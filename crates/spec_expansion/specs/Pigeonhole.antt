@@ -45,7 +45,8 @@ replace-other n v a h = go (ℕ-discrete a n)
     go (yes e) = absurd (h e)
     go (no _) = refl
 
--- where no earlier index has the last one's value v, the value n is replaced by v before it: the earlier values are then below n
+-- where no earlier index has the last one's value v, the value n is replaced by v before it: the earlier
+-- values are then below n
 pub pigeonhole : Pigeonhole
 pigeonhole zero f low = absurd (let l = low 0 (omega arith) in omega arith)
 pigeonhole (suc n) f low = ⊎-elim (λ s. record { first = s .0; second = suc n; rises = let l = s .1 in omega arith; within = omega arith; same = s .2 }) (λ never. back never (pigeonhole n (λ i. replace n (f (suc n)) (f i)) (less never))) (search-value f (f (suc n)) n)

@@ -1,9 +1,11 @@
--- The walk is the expansion of √D in a continued fraction: d is the polynomial part of √D, and a_i is that of the complete quotient (P_i + √D)/Q_i, at every
--- index i. What this leaves, (√D − P_{i+1})/Q_i, is the reciprocal of the next complete quotient, since Q_i·Q_{i+1} = D − P_{i+1}² (T2's `product`); and the
--- first one is √D, as P_0 = 0 and Q_0 = 1.
--- √D is a series in 1/x. It is taken here to any number N of places after the point, with no series: T is the polynomial part of x^N·√D exactly where T is
--- monic of degree g + 1 + N and x^2N·D − T² has at most the degree g + N, for x^2N·D − T² is (x^N·√D − T)·(x^N·√D + T), whose second factor then has
--- the degree g + 1 + N. Polynomials are lists of any numbers and any length, read in the field.
+-- The walk is the expansion of √D in a continued fraction: d is the polynomial part of √D, and a_i is that of
+-- the complete quotient (P_i + √D)/Q_i, at every index i. What this leaves, (√D − P_{i+1})/Q_i, is the
+-- reciprocal of the next complete quotient, since Q_i·Q_{i+1} = D − P_{i+1}² (T2's `product`); and the first
+-- one is √D, as P_0 = 0 and Q_0 = 1.
+-- √D is a series in 1/x. It is taken here to any number N of places after the point, with no series: T is the
+-- polynomial part of x^N·√D exactly where T is monic of degree g + 1 + N and x^2N·D − T² has at most the
+-- degree g + N, for x^2N·D − T² is (x^N·√D − T)·(x^N·√D + T), whose second factor then has the degree g + 1 +
+-- N. Polynomials are lists of any numbers and any length, read in the field.
 use Prim.Native.Nat.{ℕ, zero, suc, _+_ as _+ₙ_, _-_ as _-ₙ_, _≤_, _<_}
 use native.Mathlib.Nat.{add-zero, zero-add, add-suc}
 use native.Mathlib.Omega.{arith}
@@ -34,6 +36,7 @@ use Rattle.spec_laws.specs.Fraction.{Q-deg, divide, rem-low}
 use Rattle.spec_laws.specs.Admitted.{is-field, surd-of, admitted, monic-D}
 use Rattle.spec_demands.specs.Sentences.{AllowedField, Same, Operators, operators}
 use Rattle.spec_demands.specs.Readings.{named-field}
+use Rattle.spec_demands.specs.Arithmetic.{series-same}
 use Rattle.spec_demands.specs.Continued.{RootOf}
 
 module _ (f : FieldName) where
@@ -78,13 +81,16 @@ module _ (f : FieldName) (g : ℕ) (D d : List ℕ) where
   a = walk.a (ops f) D d
 
   pub record Expansion : Type 0 where
-    -- √D has any number of places, and more places leave the first N as they are: T is the polynomial part of U/x^k where U has k places more
+    -- √D has any number of places, and more places leave the first N as they are: T is the polynomial part of
+    -- U/x^k where U has k places more
     pub places : (N : ℕ) → (T : List ℕ) × RootTo N T
     pub further : (N k : ℕ) (T U : List ℕ) → RootTo N T → RootTo (N +ₙ k) U → PolynomialPart f T U (x^ k)
-    -- d is the polynomial part of √D: no other polynomial is √D to 0 places, and d is the polynomial part of T/x^N for √D to N places
+    -- d is the polynomial part of √D: no other polynomial is √D to 0 places, and d is the polynomial part of
+    -- T/x^N for √D to N places
     pub root : (T : List ℕ) → RootTo 0 T → Same f T d
     pub root-part : (N : ℕ) (T : List ℕ) → RootTo N T → PolynomialPart f d T (x^ N)
-    -- a_i is the polynomial part of (P_i + √D)/Q_i, that is of (x^N·P_i + T)/(x^N·Q_i) for √D to N places, and nothing else is
+    -- a_i is the polynomial part of (P_i + √D)/Q_i, that is of (x^N·P_i + T)/(x^N·Q_i) for √D to N places,
+    -- and nothing else is
     pub quotient : (N : ℕ) (T : List ℕ) → RootTo N T → (i : ℕ) → PolynomialPart f (a i) (x^ N ⊗ P i ⊕ T) (x^ N ⊗ Q i)
     pub quotient-only : (N : ℕ) (T : List ℕ) → RootTo N T → (i : ℕ) (l : List ℕ) → PolynomialPart f l (x^ N ⊗ P i ⊕ T) (x^ N ⊗ Q i) → Same f l (a i)
 
@@ -117,9 +123,6 @@ module _ (f : FieldName) (named : IsField f) where
   abbrev ⟦_⟧ : List ℕ → Px K
   ⟦ l ⟧ = series M l
 
-  series-same : (l h : List ℕ) → ⟦ l ⟧ ≡ ⟦ h ⟧ → Same f l h
-  series-same l h e i = same-reading f named _ _ (ap (λ (u : Px K). u i) e)
-
   -- ---- sizes of lists, and degrees of their polynomials
   size-low : (a : List ℕ) (n : ℕ) → size (ops f) a ≤ n → Low K ⟦ a ⟧ n
   size-low a n h i l = below-size M a i (let e = size-is M a in omega arith)
@@ -144,7 +147,7 @@ module _ (f : FieldName) (named : IsField f) where
   part-low l a b h = low-path K _ (rest-series l a b) (size-low (sub (ops f) a (mul (ops f) l b)) _ (omega arith))
 
   part-unique : (l h a b : List ℕ) → PolynomialPart f l a b → PolynomialPart f h a b → Same f l h
-  part-unique l h a b u v = series-same l h (eq-of-sub R[x] ⟦ l ⟧ ⟦ h ⟧ (low-none K (⟦ l ⟧ - ⟦ h ⟧) (low-quotient K (length l +ₙ length h) (⟦ l ⟧ - ⟦ h ⟧) ⟦ b ⟧ 0 n (deg-of-size b (omega arith)) bounded (low-path K (0 +ₙ n) gap (low-up K _ (omega arith) (low-sub K _ _ n (part-low h a b v) (part-low l a b u)))))))
+  part-unique l h a b u v = series-same f named l h (eq-of-sub R[x] ⟦ l ⟧ ⟦ h ⟧ (low-none K (⟦ l ⟧ - ⟦ h ⟧) (low-quotient K (length l +ₙ length h) (⟦ l ⟧ - ⟦ h ⟧) ⟦ b ⟧ 0 n (deg-of-size b (omega arith)) bounded (low-path K (0 +ₙ n) gap (low-up K _ (omega arith) (low-sub K _ _ n (part-low h a b v) (part-low l a b u)))))))
     where
       n : ℕ
       n = size (ops f) b -ₙ 1
@@ -243,7 +246,7 @@ module _ (f : FieldName) (named : IsField f) where
     root-no-place = subst (λ (k : ℕ). RootOf f k (shifted 0 D) d) (sym (add-zero g)) (series-root g (shifted 0 D) d (subst (λ (l : Px K). IsRoot K l ⟦ d ⟧ (suc g)) (sym (shifted-series 0 D ∙ ap (λ (u : Px K). u * (u * ⟦ D ⟧)) x-zero ∙ ring R[x] (⟦ D ⟧ ∷ []) (search quote depth 40 fits 9999) tt)) (z .is-root)))
 
     root-only : (T : List ℕ) → RootToPlaces f g D 0 T → Same f T d
-    root-only T r = series-same T d (root-unique K (root-series (g +ₙ 0) (shifted 0 D) T r) (root-series (g +ₙ 0) (shifted 0 D) d root-no-place))
+    root-only T r = series-same f named T d (root-unique K (root-series (g +ₙ 0) (shifted 0 D) T r) (root-series (g +ₙ 0) (shifted 0 D) d root-no-place))
 
     root-part : (N : ℕ) (T : List ℕ) → RootToPlaces f g D N T → PolynomialPart f d T (power f N)
     root-part N T r = places-further g D 0 N d T root-no-place (subst (λ (n : ℕ). RootToPlaces f g D n T) (sym (zero-add N)) r)

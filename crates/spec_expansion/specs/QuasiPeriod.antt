@@ -1,7 +1,8 @@
--- "The walk stops at the first index from 1 up whose Q is a nonzero constant, and that index m is its yield. m is the quasi-period": every ticket past
--- refusals 1 to 7 has one, and only one.
--- The walk has finitely many pairs (Q, P), so that two indices have the same pair. Equal ideals are preceded by equal ideals, so that the ideal of index 0 comes
--- back after as many steps as there are between the two indices: there Q is constant, as Q_0 is. The quasi-period is the least such index.
+-- "The walk stops at the first index from 1 up whose Q is a nonzero constant, and that index m is its yield.
+-- m is the quasi-period": every ticket past refusals 1 to 7 has one, and only one.
+-- The walk has finitely many pairs (Q, P), so that two indices have the same pair. Equal ideals are preceded
+-- by equal ideals, so that the ideal of index 0 comes back after as many steps as there are between the two
+-- indices: there Q is constant, as Q_0 is. The quasi-period is the least such index.
 use Prim.Native.Nat.{ℕ, zero, suc, _+_, _*_, _^_, _-_, _≤_, _<_}
 use native.Mathlib.Nat.{mul-le-mul-left, mul-suc, zero-add}
 use native.Mathlib.Omega.{arith}

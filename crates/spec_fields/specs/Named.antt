@@ -1,4 +1,5 @@
--- The field that a name stands for: its operations on the values of words have a model in a perfect field. What follows from that is said and proved once, over `arithmetic f h`.
+-- The field that a name stands for: its operations on the values of words have a model in a perfect field.
+-- What follows from that is said and proved once, over `arithmetic f h`.
 use Prim.Native.Nat.{ℕ, _<_}
 use native.Mathlib.Nat.{mod-lt, mod-eq-of-lt, zero-mod}
 use native.Mathlib.Omega.{arith}

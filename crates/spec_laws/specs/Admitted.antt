@@ -1,5 +1,5 @@
--- What a ticket past refusals 1 to 7 gives: a field f, the genus g and a monic D of degree 2g + 2 with admissible coefficients that is not a square, so that √D has its
--- continued fraction over the field.
+-- What a ticket past refusals 1 to 7 gives: a field f, the genus g and a monic D of degree 2g + 2 with
+-- admissible coefficients that is not a square, so that √D has its continued fraction over the field.
 use Prim.Native.Nat.{ℕ, zero, suc, _+_, _*_, _/_, _%_, _≤_, _<_}
 use native.Mathlib.Nat.{mod-lt, div-add-mod}
 use native.Mathlib.Numerals.{add-one}

@@ -1,4 +1,5 @@
--- The definitions' convergents are those of the continued fraction; their degrees: deg p_{i−1} rises by g + 1 − deg Q_i, and s_i is g + 1 below p_i.
+-- The definitions' convergents are those of the continued fraction; their degrees: deg p_{i−1} rises by g + 1
+-- − deg Q_i, and s_i is g + 1 below p_i.
 use Prim.Native.Nat.{ℕ, zero, suc, _+_ as _+ₙ_, _-_ as _-ₙ_, _*_ as _*ₙ_, _≤_, _<_}
 use native.Mathlib.Omega.{arith}
 use mathlib.Core.Path.{_≡_, refl, sym, ap, ap₂, _∙_, subst}

@@ -1,4 +1,5 @@
--- The definitions' walk, read as polynomials, is the continued fraction of √D: its divisions are those from which the walk of states is built.
+-- The definitions' walk, read as polynomials, is the continued fraction of √D: its divisions are those from
+-- which the walk of states is built.
 use Prim.Native.Nat.{ℕ, suc, _+_ as _+ₙ_, _-_ as _-ₙ_, _≤_, _<_}
 use native.Mathlib.Omega.{arith}
 use mathlib.Core.Path.{_≡_, sym, ap, _∙_, subst}

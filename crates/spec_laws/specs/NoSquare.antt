@@ -1,4 +1,5 @@
--- A monic D of degree 2n, n ≥ 1, whose gcd with its derivative is constant is not a square: of D = f² the gcd would be a multiple of f.
+-- A monic D of degree 2n, n ≥ 1, whose gcd with its derivative is constant is not a square: of D = f² the gcd
+-- would be a multiple of f.
 use Prim.Native.Nat.{ℕ, suc, _+_ as _+ₙ_, _≤_, _<_}
 use native.Mathlib.Omega.{arith}
 use mathlib.Core.Path.{_≡_, _∙_, subst}

@@ -1,4 +1,5 @@
--- The equations of the walk and of its convergents as equations of lists, for every index: products of neighbours, norms, the determinant, and the constant of the quasi-period.
+-- The equations of the walk and of its convergents as equations of lists, for every index: products of
+-- neighbours, norms, the determinant, and the constant of the quasi-period.
 use Prim.Native.Nat.{ℕ, suc, _-_ as _-ₙ_, _%_}
 use native.Mathlib.Omega.{arith}
 use mathlib.Core.Path.{_≡_, refl, sym, ap, ap₂, _∙_, subst}

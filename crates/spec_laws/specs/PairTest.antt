@@ -1,4 +1,5 @@
--- What the test of refusal 9 says of a pair that passes: its lists have g + 1 and g coefficients below q, and it is an ideal of degree at most g.
+-- What the test of refusal 9 says of a pair that passes: its lists have g + 1 and g coefficients below q, and
+-- it is an ideal of degree at most g.
 use Prim.Native.Nat.{ℕ, suc, _-_ as _-ₙ_, _≤_, _<_}
 use native.Mathlib.Omega.{arith}
 use mathlib.Core.Path.{_≡_, refl, sym, ap, _∙_}

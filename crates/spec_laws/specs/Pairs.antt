@@ -1,4 +1,5 @@
--- Pairs (Q, P) of lists that are ideals: Q monic, P below its degree, Q dividing D − P². What the refusal 9 asks of a pair, and the state that it is over the field.
+-- Pairs (Q, P) of lists that are ideals: Q monic, P below its degree, Q dividing D − P². What the refusal 9
+-- asks of a pair, and the state that it is over the field.
 use Prim.Native.Nat.{ℕ, _+_ as _+ₙ_}
 use native.Mathlib.Omega.{arith}
 use mathlib.Core.Path.{_≡_, ap, _∙_}

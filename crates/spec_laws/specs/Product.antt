@@ -1,5 +1,6 @@
--- The definitions' product of two ideals is the product over the field, with any multipliers U, V, W of S = U·Q_1 + V·Q_2 + W·(P_1 + P_2): every division in it is exact,
--- and P is the same list for all of them. Each list is read as its polynomial, and quotients of polynomials are unique.
+-- The definitions' product of two ideals is the product over the field, with any multipliers U, V, W of S =
+-- U·Q_1 + V·Q_2 + W·(P_1 + P_2): every division in it is exact, and P is the same list for all of them. Each
+-- list is read as its polynomial, and quotients of polynomials are unique.
 use Prim.Native.Nat.{ℕ, suc, _+_ as _+ₙ_, _-_ as _-ₙ_, _≤_}
 use native.Mathlib.Omega.{arith}
 use mathlib.Core.Path.{_≡_, sym, ap, ap₂, _∙_}

@@ -1,4 +1,5 @@
--- The product depends on the polynomials of the two pairs alone: zeros at the end of their lists change nothing. So does being an ideal.
+-- The product depends on the polynomials of the two pairs alone: zeros at the end of their lists change
+-- nothing. So does being an ideal.
 use mathlib.Core.Path.{_≡_, refl, sym, ap, ap₂, _∙_}
 use mathlib.Core.List.{List}
 use Rattle.math_algebra.specs.Field.{Field}

@@ -1,5 +1,6 @@
--- How long each list of the product is, for two ideals of degree at most g: every one has at most 4g + 3 coefficients, and so at most 127 for g ≤ 31.
--- The bounds of Bezout's factors carry it; the rest is the length of sums, products and quotients.
+-- How long each list of the product is, for two ideals of degree at most g: every one has at most 4g + 3
+-- coefficients, and so at most 127 for g ≤ 31. The bounds of Bezout's factors carry it; the rest is the
+-- length of sums, products and quotients.
 use Prim.Native.Nat.{ℕ, suc, _+_ as _+ₙ_, _≤_, _<_}
 use native.Mathlib.Omega.{arith}
 use mathlib.Core.Path.{_≡_, ap}

@@ -1,4 +1,5 @@
--- The quasi-period within a budget b: `some m` exactly where m is the first index from 1 to b whose Q is a nonzero constant, `none` exactly where no index from 1 to b has one.
+-- The quasi-period within a budget b: `some m` exactly where m is the first index from 1 to b whose Q is a
+-- nonzero constant, `none` exactly where no index from 1 to b has one.
 use Prim.Native.Nat.{ℕ, zero, suc, _+_ as _+ₙ_, _≤_, _<_}
 use native.Mathlib.Nat.{eq-or-lt-of-le}
 use native.Mathlib.Omega.{arith}

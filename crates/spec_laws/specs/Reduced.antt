@@ -1,4 +1,5 @@
--- A pair with Q made monic and P modulo it, as a record and the giant step's answer have it, is the same ideal, and an ideal again.
+-- A pair with Q made monic and P modulo it, as a record and the giant step's answer have it, is the same
+-- ideal, and an ideal again.
 use Prim.Native.Nat.{suc}
 use native.Mathlib.Omega.{arith}
 use mathlib.Core.Path.{_≡_, sym, ap, _∙_}

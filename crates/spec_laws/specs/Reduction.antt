@@ -1,5 +1,6 @@
--- The definitions' steps from any ideal, read as polynomials, are the steps over the field: every division of D − P² by Q is exact and no Q is 0. The first reduced index is found
--- within as many turns as Q has coefficients, and the sum of the degrees of a is that over the field.
+-- The definitions' steps from any ideal, read as polynomials, are the steps over the field: every division of
+-- D − P² by Q is exact and no Q is 0. The first reduced index is found within as many turns as Q has
+-- coefficients, and the sum of the degrees of a is that over the field.
 use Prim.Native.Nat.{ℕ, zero, suc, _+_ as _+ₙ_, _≤_, _<_}
 use native.Mathlib.Omega.{arith}
 use mathlib.Core.Path.{_≡_, refl, sym, ap, ap₂, _∙_, subst}
@@ -174,7 +175,8 @@ module _ {A B : Type 0} {o : Ops A} {K : Field B} {M : Model o (F K)} {g : ℕ} 
     unfolding turnsOf steps
     turns-first = found (size o (x .q)) 0 (λ j p. absurd (omega arith)) (let n = size-is M (x .q) in let p = Q-size 0 in omega arith)
 
-    -- as a loop reads it: the size falls while it is above g + 1, and the first index where it is not is the definition's
+    -- as a loop reads it: the size falls while it is above g + 1, and the first index where it is not is the
+    -- definition's
     pub size-falls : (j : ℕ) → suc g < length (trim o (Q j)) → length (trim o (Q (suc j))) < length (trim o (Q j))
     size-falls j h = let a = Q-size j in let b = Q-size (suc j) in let c = degree-falls K sequence j (omega arith) in omega arith
 

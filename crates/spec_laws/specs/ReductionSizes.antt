@@ -1,5 +1,7 @@
--- How long each list of the reduction is, from a start with deg Q ≤ 2g and deg P < deg Q: every one has at most 4g + 3 coefficients, and so at most 127 for g ≤ 31.
--- No Q has a larger degree than the start's or g, and each later P is d less a remainder by a Q. No list has a zero at its end, and each coefficient stands for itself.
+-- How long each list of the reduction is, from a start with deg Q ≤ 2g and deg P < deg Q: every one has at
+-- most 4g + 3 coefficients, and so at most 127 for g ≤ 31. No Q has a larger degree than the start's or g,
+-- and each later P is d less a remainder by a Q. No list has a zero at its end, and each coefficient stands
+-- for itself.
 use Prim.Native.Nat.{ℕ, zero, suc, _+_ as _+ₙ_, _≤_, _<_}
 use native.Mathlib.Omega.{arith}
 use mathlib.Core.Path.{_≡_}

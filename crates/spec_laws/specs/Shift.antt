@@ -1,4 +1,5 @@
--- f of the giant step of two ideals of degree at most g: it is −n for an n of at most 2g, so that −2g ≤ f ≤ 0; and the reduction takes at most (g + 1)/2 turns.
+-- f of the giant step of two ideals of degree at most g: it is −n for an n of at most 2g, so that −2g ≤ f ≤
+-- 0; and the reduction takes at most (g + 1)/2 turns.
 use Prim.Native.Nat.{ℕ, zero, suc, _+_ as _+ₙ_, _-_ as _-ₙ_, _≤_}
 use native.Mathlib.Omega.{arith}
 use mathlib.Core.Path.{_≡_, refl, sym, ap, _∙_, subst}

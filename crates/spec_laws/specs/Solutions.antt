@@ -1,5 +1,6 @@
--- Lists p, s of any numbers with s ≠ 0 and p² − D·s² a nonzero constant are solutions over the field: so deg p is at least that of the unit, which is one of them, and of
--- the same degree are only its constant multiples, up to the sign of s. While no Q_1 .. Q_b is constant, deg p is above deg p_{b−1}.
+-- Lists p, s of any numbers with s ≠ 0 and p² − D·s² a nonzero constant are solutions over the field: so deg
+-- p is at least that of the unit, which is one of them, and of the same degree are only its constant
+-- multiples, up to the sign of s. While no Q_1 .. Q_b is constant, deg p is above deg p_{b−1}.
 use Prim.Native.Nat.{ℕ, zero, suc, _+_ as _+ₙ_, _-_ as _-ₙ_, _≤_, _<_}
 use native.Mathlib.Omega.{arith}
 use mathlib.Core.Path.{_≡_, sym, ap, _∙_, subst}

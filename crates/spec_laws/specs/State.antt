@@ -1,5 +1,6 @@
--- What a step of the walk takes and leaves, for every index from 0: Q and the Q before it, and the remainder of the step before. Before the first step these are D and d,
--- so that Q_1 = D + d·(0 − d) comes by the same rule as every later Q.
+-- What a step of the walk takes and leaves, for every index from 0: Q and the Q before it, and the remainder
+-- of the step before. Before the first step these are D and d, so that Q_1 = D + d·(0 − d) comes by the same
+-- rule as every later Q.
 use Prim.Native.Nat.{ℕ, zero, suc, _≤_}
 use native.Mathlib.Omega.{arith}
 use mathlib.Core.Path.{_≡_, refl, sym, ap, ap₂, _∙_}

@@ -1,4 +1,5 @@
--- √D of lists: d is the root of D, and D is not a square. The degree of a list's polynomial by its length, and the definitions of the walk as they are read.
+-- √D of lists: d is the root of D, and D is not a square. The degree of a list's polynomial by its length,
+-- and the definitions of the walk as they are read.
 use Prim.Native.Nat.{ℕ, zero, suc}
 use mathlib.Core.Path.{_≡_, refl, sym, ap, _∙_, subst}
 use mathlib.Core.List.{List, [], _∷_}

@@ -1,5 +1,6 @@
--- The walk as equations of lists: the remainder r_i of P_i + d by Q_i gives the next P, and the quotient a_i the next Q with one product. How long each list is.
--- Each equation is one of the continued fraction, and lists with no zero at the end are equal where their polynomials are.
+-- The walk as equations of lists: the remainder r_i of P_i + d by Q_i gives the next P, and the quotient a_i
+-- the next Q with one product. How long each list is. Each equation is one of the continued fraction, and
+-- lists with no zero at the end are equal where their polynomials are.
 use Prim.Native.Nat.{ℕ, zero, suc, _-_ as _-ₙ_, _≤_, _<_}
 use native.Mathlib.Omega.{arith}
 use mathlib.Core.Path.{_≡_, refl, sym, ap, _∙_, subst}

@@ -1,4 +1,5 @@
--- The laws of `pad`, by recursion on its length: lengths, coefficients, one place more, padding again, and that it is undone by `take`.
+-- The laws of `pad`, by recursion on its length: lengths, coefficients, one place more, padding again, and
+-- that it is undone by `take`.
 use Prim.Native.Nat.{ℕ, zero, suc, _≤_, _<_}
 use native.Mathlib.Nat.{le-of-suc-le-suc, not-suc-le-zero}
 use native.Mathlib.Omega.{arith}

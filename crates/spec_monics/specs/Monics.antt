@@ -1,4 +1,5 @@
--- All monic polynomials of degree n over q, as lists of coefficients below q, constant term first: q^n of them, none twice, none left out.
+-- All monic polynomials of degree n over q, as lists of coefficients below q, constant term first: q^n of
+-- them, none twice, none left out.
 use Prim.Native.Nat.{ℕ, zero, suc, _+_, _*_, _^_, _<_}
 use native.Mathlib.Nat.{suc-mul, zero-mul, pow-zero, pow-succ'}
 use native.Mathlib.Omega.{arith}

@@ -1,6 +1,7 @@
--- The theorem a reader opens: of the q^n monic polynomials of degree n ≥ 2 over the field of q elements, q an odd prime, the square of some
--- polynomial of degree 1 or more divides q^(n−1).
--- The coefficient lists stand for the polynomials one to one, and those with a square factor correspond to the monic polynomials of degree n − 1.
+-- The theorem a reader opens: of the q^n monic polynomials of degree n ≥ 2 over the field of q elements, q an
+-- odd prime, the square of some polynomial of degree 1 or more divides q^(n−1).
+-- The coefficient lists stand for the polynomials one to one, and those with a square factor correspond to
+-- the monic polynomials of degree n − 1.
 use Prim.Native.Nat.{ℕ, zero, suc, _-_, _^_, _≤_, _<_}
 use native.Mathlib.Nat.{eq-or-lt-of-le}
 use native.Mathlib.Omega.{arith}
@@ -30,7 +31,8 @@ use Rattle.math_counting.specs.HowMany.{HowMany, equally-many, how-many-tested}
 use Rattle.math_counting.specs.SquareFactors.{Lifts, square-factors}
 use Rattle.spec_monics.specs.Monics.{MonicList, monics, monic-many}
 
--- "the square of some polynomial of degree 1 or more divides D": so it is for q^(n−1) of the monic D of degree n; q may be above 4,096
+-- "the square of some polynomial of degree 1 or more divides D": so it is for q^(n−1) of the monic D of
+-- degree n; q may be above 4,096
 abbrev pub SquareMany : Type 0
 SquareMany = (q n : ℕ) → Prime q → 2 < q → 2 ≤ n → HowMany (λ D. MonicList q n D × SquareDivides (prime q) D) (q ^ (n - 1))
 

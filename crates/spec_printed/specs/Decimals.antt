@@ -1,4 +1,5 @@
--- Numbers in decimal, by computation: one digit and more, on both sides of a power of ten, up to the largest value of a word.
+-- Numbers in decimal, by computation: one digit and more, on both sides of a power of ten, up to the largest
+-- value of a word.
 use mathlib.Core.Path.{_≡_, refl}
 use mathlib.Core.List.{[], _∷_, map}
 use Rattle.spec_definitions.specs.Text.{ascii, decimal, decimalIn}

@@ -1,4 +1,5 @@
--- The longest ticket, and more bytes than it has, by computation: n = 64 makes 69 words, 276 bytes, of the 280 that are read.
+-- The longest ticket, and more bytes than it has, by computation: n = 64 makes 69 words, 276 bytes, of the
+-- 280 that are read.
 use Prim.Native.Nat.{ℕ}
 use mathlib.Core.Path.{_≡_, refl}
 use mathlib.Core.List.{List, [], _∷_, _++_}
@@ -20,8 +21,8 @@ use Rattle.spec_printed.specs.Lines.{Prints}
 abbrev pub longest : ℕ → List ℕ
 longest k = bytes (ticket 3 (1 ∷ (replicate 63 0 ++ (1 ∷ []))) 0) ++ replicate k 0
 
--- "from the first 280 bytes of standard input, later ones ignored; a cut word among these bytes is refusal 1":
--- 277 bytes are a cut word, 280 a word too many, and of 281 the last is ignored
+-- "from the first 280 bytes of standard input, later ones ignored; a cut word among these bytes is refusal
+-- 1": 277 bytes are a cut word, 280 a word too many, and of 281 the last is ignored
 abbrev pub Lengths : Type 0
 Lengths =
     (length (longest 0) ≡ 276)

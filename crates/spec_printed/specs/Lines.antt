@@ -1,4 +1,5 @@
--- What the program prints where its answer is one line, by computation: the bytes of a ticket go in, and all bytes that come out are compared.
+-- What the program prints where its answer is one line, by computation: the bytes of a ticket go in, and all
+-- bytes that come out are compared.
 use Prim.Native.Nat.{ℕ}
 use Prim.Native.String.{String}
 use mathlib.Core.Path.{_≡_, refl}
@@ -28,8 +29,8 @@ Spent = Prints (bytes (example 5)) "spent 5 6\n" × Prints (bytes (example 0)) "
 abbrev pub Refused : Type 0
 Refused = Prints (bytes (ticket 3 (1 ∷ 0 ∷ 2 ∷ 0 ∷ 1 ∷ []) 6)) "refused 7\n" × Prints (bytes (ticket 9 (1 ∷ 1 ∷ 0 ∷ 0 ∷ 1 ∷ []) 6)) "refused 2\n"
 
--- "a cut word among these bytes is refusal 1": the printed ticket's 36 bytes without the last one, two and three; without the last four they are eight words,
--- which is 4; and no byte at all
+-- "a cut word among these bytes is refusal 1": the printed ticket's 36 bytes without the last one, two and
+-- three; without the last four they are eight words, which is 4; and no byte at all
 abbrev pub Cut : Type 0
 Cut =
     Prints (take 35 (bytes (example 6))) "refused 1\n"

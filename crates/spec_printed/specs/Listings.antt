@@ -1,5 +1,6 @@
--- What the program prints after "found", by computation: numbers of one to four digits, and degrees other than the printed example's. The texts come from
--- a model of document 01 in another language (vectors/check.py).
+-- What the program prints after "found", by computation: numbers of one to four digits, and degrees other
+-- than the printed example's. The texts come from a model of document 01 in another language
+-- (vectors/check.py).
 use mathlib.Core.Path.{refl}
 use mathlib.Core.List.{[], _∷_}
 use Rattle.spec_definitions.specs.Field.{inverse, inverseIn, fits}
@@ -16,15 +17,18 @@ use Rattle.spec_definitions.specs.Program.{wordsOf, readBytes, cutWord, firstLi
 use Rattle.spec_definitions.specs.Marked.{ticket, bytes}
 use Rattle.spec_printed.specs.Lines.{Prints}
 
--- "one line a record: index, distance, mirror, Q's g+1 coefficients, P's g": for n = 2 P has no coefficient; q = 3, D = x² + 1
+-- "one line a record: index, distance, mirror, Q's g+1 coefficients, P's g": for n = 2 P has no coefficient;
+-- q = 3, D = x² + 1
 abbrev pub Linear : Type 0
 Linear = Prints (bytes (ticket 3 (1 ∷ 0 ∷ 1 ∷ []) 1)) "found 1 1 2\n1 0 1 1\n"
 
--- for n = 6 Q has three coefficients and P two, the constant term first; q = 13, D = x^6 + 8x^5 + 3x^4 + 6x² + 7x + 8
+-- for n = 6 Q has three coefficients and P two, the constant term first; q = 13, D = x^6 + 8x^5 + 3x^4 + 6x²
+-- + 7x + 8
 abbrev pub Sextic : Type 0
 Sextic = Prints (bytes (ticket 13 (8 ∷ 7 ∷ 6 ∷ 0 ∷ 3 ∷ 8 ∷ 1 ∷ []) 5)) "found 7 5 5\n1 0 7 1 0 0 0 0\n2 3 4 10 12 1 2 8\n3 4 3 12 2 1 11 7\n4 5 2 12 2 1 2 6\n5 6 1 10 12 1 11 5\n"
 
--- two digits in R, m, c, index, distance, mirror, Q and P, and three in one P; q = 101, D = x^4 + 11x³ + 55x² + 4x + 37
+-- two digits in R, m, c, index, distance, mirror, Q and P, and three in one P; q = 101, D = x^4 + 11x³ + 55x²
+-- + 4x + 37
 abbrev pub TwoDigits : Type 0
 TwoDigits = Prints (bytes (ticket 101 (37 ∷ 4 ∷ 55 ∷ 11 ∷ 1 ∷ []) 11)) "found 12 11 64\n1 0 12 1 0 0\n2 2 10 70 1 96\n3 3 9 45 1 45\n4 4 8 92 1 25\n5 5 7 76 1 1\n6 6 6 75 1 5\n7 7 5 75 1 96\n8 8 4 76 1 100\n9 9 3 92 1 76\n10 10 2 45 1 56\n11 11 1 70 1 5\n"
 

@@ -1,6 +1,7 @@
--- The quadratic extension of the field of q elements, q an odd prime, by any ν that is no square modulo q. It is a perfect field, so that all
--- that is proved over such a field holds over it.
--- What a reader wants of it: the least degree read off the walk, the product of two ideals, the test for square factors. Each is an instance.
+-- The quadratic extension of the field of q elements, q an odd prime, by any ν that is no square modulo q. It
+-- is a perfect field, so that all that is proved over such a field holds over it.
+-- What a reader wants of it: the least degree read off the walk, the product of two ideals, the test for
+-- square factors. Each is an instance.
 use Prim.Native.Nat.{ℕ, suc, _*_ as _*ₙ_, _%_, _≤_, _<_}
 use mathlib.Core.Path.{_≡_, ap₂, _∙_}
 use mathlib.Core.Logic.{_↔_}
@@ -52,7 +53,8 @@ module _ (q : ℕ) (prime : Prime q) (more : 2 < q) (ν : ℕ) (n : NonSquareMod
   a - b = a + (- b)
 
   -- ---- walks: X² − D·Y² is a constant other than 0, and Y ≠ 0
-  -- while no Q from the index 1 to b is constant, the degree of X is above that of the convergent p of index b − 1
+  -- while no Q from the index 1 to b is constant, the degree of X is above that of the convergent p of index
+  -- b − 1
   abbrev pub Spent : Type 0
   Spent = (g : ℕ) (D : Px E) (o : Root E g D) (w : Walk E o) (b : ℕ) → NoneConstant E w b → (X Y : Px E) → Solution E D X Y → (k : ℕ) × Deg E X k × (distance E w b < k)
 

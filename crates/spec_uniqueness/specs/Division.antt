@@ -1,5 +1,6 @@
--- Quotient and remainder, inverse, greatest common divisor and monic multiple are the only ones with the properties that `demands` states of them: whatever has these
--- is the definition's value. For every allowed field and all polynomials, which are lists of any numbers and any length, read in the field.
+-- Quotient and remainder, inverse, greatest common divisor and monic multiple are the only ones with the
+-- properties that `demands` states of them: whatever has these is the definition's value. For every allowed
+-- field and all polynomials, which are lists of any numbers and any length, read in the field.
 use Prim.Native.Nat.{ℕ, _-_ as _-ₙ_, _<_}
 use native.Mathlib.Nat.{eq-zero-or-pos}
 use native.Mathlib.Omega.{arith}

@@ -1,6 +1,7 @@
--- The giant step's answer is the only one: there is one first reduced index k, and with it one ideal, f and distance. First for any polynomials that meet document 01's
--- equations of a step, then for the definitions' steps, as `demands` states them. For a ticket past its refusals, two pairs as document 01 describes them and distances
--- of at most 2^40.
+-- The giant step's answer is the only one: there is one first reduced index k, and with it one ideal, f and
+-- distance. First for any polynomials that meet document 01's equations of a step, then for the definitions'
+-- steps, as `demands` states them. For a ticket past its refusals, two pairs as document 01 describes them
+-- and distances of at most 2^40.
 use Prim.Native.Nat.{ℕ, zero, suc, _+_, _≤_, _<_}
 use native.Mathlib.Omega.{arith}
 use mathlib.Core.Path.{_≡_, refl, sym, ap, ap₂, _∙_, subst}
@@ -32,9 +33,10 @@ use Rattle.spec_demands.specs.Products.{Steps, t2-giant-steps}
 use Rattle.spec_uniqueness.specs.Division.{prime-of-ticket, deg-series, quotient-leaves, quotient-exact, division-only, monic-only}
 use Rattle.spec_uniqueness.specs.Walk.{Stepping, one-root, steps-only, partial-only}
 
--- "starting with this (Q, P) as (Q_0, P_0), the walk's step is repeated until the first k from 0 up with deg Q_k at most g. The answer is that ideal, Q_k monic,
--- P_k mod it, with f and the two distances' sum plus f", "f = deg Q_k − deg Q + (sum of deg a_j, j from 1 to k) − deg S":
--- here S and the pair s are the product's, and d and e the distances
+-- "starting with this (Q, P) as (Q_0, P_0), the walk's step is repeated until the first k from 0 up with deg
+-- Q_k at most g. The answer is that ideal, Q_k monic, P_k mod it, with f and the two distances' sum plus f",
+-- "f = deg Q_k − deg Q + (sum of deg a_j, j from 1 to k) − deg S": here S and the pair s are the product's,
+-- and d and e the distances
 pub record GiantStepOf (t : Ticket) (d e : ℕ) (S : List ℕ) (s : Ideal ℕ) (r : GiantStepAnswer) : Type 0 where
   pub number : r .number ≡ 0
   -- k + 1 steps from s, the last for a_k

@@ -1,5 +1,5 @@
--- Of a listing that is not refused, one part answers: the last record with a distance of at most y, at its place, is the part and the place that lookup hands
--- back.
+-- Of a listing that is not refused, one part answers: the last record with a distance of at most y, at its
+-- place, is the part and the place that lookup hands back.
 use Prim.Native.Nat.{ℕ, _+_, _*_, _≤_}
 use native.Mathlib.Omega.{arith}
 use mathlib.Core.Path.{_≡_, sym, ap, _∙_}

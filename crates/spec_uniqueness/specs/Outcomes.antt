@@ -1,5 +1,6 @@
--- The outcome is told by the least index whose Q is a nonzero constant: whoever walks by document 01's equations, with any lists, to m or to b and then says what
--- document 01 asks for says the outcome of the words. The same for the definitions' walk, as `demands` states it. For a ticket past its refusals.
+-- The outcome is told by the least index whose Q is a nonzero constant: whoever walks by document 01's
+-- equations, with any lists, to m or to b and then says what document 01 asks for says the outcome of the
+-- words. The same for the definitions' walk, as `demands` states it. For a ticket past its refusals.
 use Prim.Native.Nat.{ℕ, zero, suc, _%_, _≤_, _<_}
 use native.Mathlib.Omega.{arith}
 use mathlib.Core.Path.{_≡_, refl, sym, ap, ap₂, _∙_, subst}
@@ -35,7 +36,8 @@ use Rattle.spec_uniqueness.specs.Walk.{IsWalk, SameWalk, one-walk}
 
 -- for the Q_i and p_{i−1} of a walk of n steps
 module _ (f : FieldName) (n : ℕ) (Q p : ℕ → List ℕ) where
-  -- "The walk stops at the first index from 1 up whose Q is a nonzero constant", "m is the quasi-period, R = deg p_{m−1} the regulator, .. c = (−1)^m·Q_m the constant"
+  -- "The walk stops at the first index from 1 up whose Q is a nonzero constant", "m is the quasi-period, R =
+  -- deg p_{m−1} the regulator, .. c = (−1)^m·Q_m the constant"
   pub record FoundAt (b R m c : ℕ) : Type 0 where
     pub walked : m ≤ n
     pub positive : 0 < m
@@ -46,7 +48,8 @@ module _ (f : FieldName) (n : ℕ) (Q p : ℕ → List ℕ) where
     pub below : Ok f c
     pub value : Same f (c ∷ []) (signed (ops f) m (Q m))
 
-  -- "spent; the quasi-period m is above b. Carries the steps made, b, and the degree reached"; "The degree reached when spent is deg p_{b−1}."
+  -- "spent; the quasi-period m is above b. Carries the steps made, b, and the degree reached"; "The degree
+  -- reached when spent is deg p_{b−1}."
   pub record SpentAt (b k e : ℕ) : Type 0 where
     pub walked : b ≤ n
     pub all : k ≡ b

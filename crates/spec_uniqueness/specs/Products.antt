@@ -1,5 +1,6 @@
--- The product of two pairs is the only one with document 01's properties: any S, Q and P that have them are those of the definition, whichever U, V, W one takes.
--- For a ticket past its refusals and two pairs as document 01 describes them. Polynomials are lists of any numbers and any length, read in the field.
+-- The product of two pairs is the only one with document 01's properties: any S, Q and P that have them are
+-- those of the definition, whichever U, V, W one takes. For a ticket past its refusals and two pairs as
+-- document 01 describes them. Polynomials are lists of any numbers and any length, read in the field.
 use Prim.Native.Nat.{ℕ, _+_ as _+ₙ_, _-_ as _-ₙ_, _<_}
 use native.Mathlib.Omega.{arith}
 use mathlib.Core.Path.{_≡_, refl, sym, ap, _∙_, subst}
@@ -35,8 +36,8 @@ module _ (f : FieldName) where
 
   infixl 6 _⊕_
   infixl 7 _⊗_
-  -- "S = gcd(Q_1, Q_2, P_1 + P_2), with U, V, W such that S = U·Q_1 + V·Q_2 + W·(P_1 + P_2)"; "Q = Q_1·Q_2 / S²";
-  -- "P = (P_1 + (Q_1/S)·(U·(P_2 − P_1) + W·(D − P_1²)/Q_1)) mod Q"
+  -- "S = gcd(Q_1, Q_2, P_1 + P_2), with U, V, W such that S = U·Q_1 + V·Q_2 + W·(P_1 + P_2)"; "Q = Q_1·Q_2 /
+  -- S²"; "P = (P_1 + (Q_1/S)·(U·(P_2 − P_1) + W·(D − P_1²)/Q_1)) mod Q"
   pub record ProductOf (D : List ℕ) (x y : Ideal ℕ) (S Q P : List ℕ) : Type 0 where
     pub S-monic : reading f (lead (ops f) S) ≡ 1
     pub S-first : Divides f S (x .q)

@@ -1,6 +1,8 @@
--- A record's words are the only ones: two lists whose words are read as the same record of the walk have the same words there. So a list that is read as record
--- j + 1 has the words of the definitions, and a list that is read as every record from 1 to m and keeps the words after them is the list at exit. Neither a length
--- nor a bound on the words is asked for: the kinds tell that the words are there, and a word is its kind and its value.
+-- A record's words are the only ones: two lists whose words are read as the same record of the walk have the
+-- same words there. So a list that is read as record j + 1 has the words of the definitions, and a list that
+-- is read as every record from 1 to m and keeps the words after them is the list at exit. Neither a length
+-- nor a bound on the words is asked for: the kinds tell that the words are there, and a word is its kind and
+-- its value.
 use Prim.Native.Nat.{ℕ, zero, suc, _+_, _*_, _-_, _/_, _%_, _≤_, _<_}
 use native.Mathlib.Nat.{mod-lt, div-add-mod', div-lt-iff-lt-mul}
 use native.Mathlib.Omega.{arith}
@@ -17,7 +19,7 @@ use Rattle.math_algebra.specs.Polynomial.{F, Px, Monic, low-sub, monic-deg}
 use Rattle.math_algebra.specs.Divides.{Divides as DividesK, divides-sub, divides-path, rigid}
 use Rattle.math_algebra.specs.Associate.{Associate, associate-sym, associate-trans, associate-monic-equal}
 use Rattle.spec_definitions.specs.Field.{FieldName, ops}
-use Rattle.spec_definitions.specs.Polynomials.{trim, size, lead, sub, scale, mul}
+use Rattle.spec_definitions.specs.Polynomials.{trim, size, lead, sub, scale}
 use Rattle.spec_definitions.specs.Words.{kind, value, joined}
 use Rattle.spec_definitions.specs.Ticket.{Ticket, genus, ticketOf, refusalOf}
 use Rattle.spec_definitions.specs.Walk as walk
@@ -25,13 +27,13 @@ use Rattle.spec_definitions.specs.Answers.{found, said, opsOf, rootOf, wordsOut
 use Rattle.spec_definitions.specs.Listing.{recordOf, listingOf, listingAnswer}
 use Rattle.spec_definitions.specs.Lookup.{recordKinds, recordAt}
 use Rattle.spec_bridge.specs.Model.{Model, series}
-use Rattle.spec_bridge.specs.Trim.{below-length, below-size, size-is, size-series, lead-is}
-use Rattle.spec_bridge.specs.Arithmetic.{series-sub, series-mul, series-scale}
+use Rattle.spec_bridge.specs.Trim.{below-size, size-is, size-series, lead-is}
+use Rattle.spec_bridge.specs.Arithmetic.{series-sub, series-scale}
 use Rattle.spec_bridge.specs.Degree.{series-monic-of}
 use Rattle.spec_fields.specs.Named.{Ok, arithmetic, same-reading, reading-ok, reading-zero, φ-first}
 use Rattle.spec_laws.specs.Admitted.{Admitted, is-field, admitted, passed, degree-of}
 use Rattle.spec_demands.specs.Sentences.{Same}
-use Rattle.spec_demands.specs.Arithmetic.{Divides, same-series}
+use Rattle.spec_demands.specs.Arithmetic.{Divides, same-series, divides-series}
 use Rattle.spec_demands.specs.Records.{record-listing}
 use Rattle.spec_demands.specs.Listings.{t2-listings}
 use Rattle.spec_demands.specs.LentLists.{KeepsFrom, t1-lists, found-passes}
@@ -43,7 +45,8 @@ use Rattle.spec_uniqueness.specs.Units.{later-at}
 abbrev pub RecordOnly : Type 0
 RecordOnly = (w : List ℕ) → refusalOf w ≡ 0 → (R m c : ℕ) → wordsOutcome w ≡ found R m c → (j : ℕ) → j < m → (l : List ℕ) → RecordRead (ticketOf w) R j l → take (ticketOf w .n + 4) (drop (j * (ticketOf w .n + 4)) l) ≡ recordOf (ticketOf w) R j
 
--- a list as long as the one lent that is read as the records 1 to m and keeps the words past the last record is the list at exit
+-- a list as long as the one lent that is read as the records 1 to m and keeps the words past the last record
+-- is the list at exit
 abbrev pub ListingOnly : Type 0
 ListingOnly = (w old : List ℕ) (R m c : ℕ) → listingAnswer w old .says ≡ said (found R m c) → (l : List ℕ) → ((j : ℕ) → j < m → RecordRead (ticketOf w) R j l) → KeepsFrom (m * (ticketOf w .n + 4)) old l → l ≡ listingAnswer w old .list
 
@@ -83,9 +86,6 @@ module _ {f : FieldName} {g : ℕ} {D : List ℕ} (h : Admitted f g D) where
   below-unique : (l u : List ℕ) → ((i : ℕ) → Ok f (getD l i 0)) → ((i : ℕ) → Ok f (getD u i 0)) → series M l ≡ series M u → (i : ℕ) → getD l i 0 ≡ getD u i 0
   below-unique l u low low′ e i = M .inj (getD l i 0) (getD u i 0) (arithmetic f (is-field h) .ok-of _ (low i)) (arithmetic f (is-field h) .ok-of _ (low′ i)) (ap (λ (s : Px K). s i) e)
 
-  divides-series : (l u : List ℕ) → Divides f l u → DividesK K (series M l) (series M u)
-  divides-series l u (e, s) = record { by = series M e; size = length e; low = below-length M e; is = same-series f (is-field h) u (mul (ops f) l e) s ∙ series-mul M l e }
-
   -- a monic multiple is one
   monic-unique : (u x y : List ℕ) → lead (ops f) x ≡ 1 → lead (ops f) y ≡ 1 → ((k : ℕ) × (0 < k) × Ok f k × Same f x (scale (ops f) k u)) → ((k : ℕ) × (0 < k) × Ok f k × Same f y (scale (ops f) k u)) → series M x ≡ series M y
   monic-unique u x y lx ly rx ry = associate-monic-equal K (lead-monic x lx) (lead-monic y ly) (associate-trans K (multiple-associate (rx .0) x u (rx .1) (rx .2) (rx .3)) (associate-sym K (multiple-associate (ry .0) y u (ry .1) (ry .2) (ry .3))))
@@ -100,7 +100,7 @@ module _ {f : FieldName} {g : ℕ} {D : List ℕ} (h : Admitted f g D) where
       gap : DividesK K (series M x) (addS (F K) (series M b) (negS (F K) (series M a)))
       gap = divides-path K
           (ap₂ (λ (s t : Px K). addS (F K) s (negS (F K) t)) (series-sub M u a) (series-sub M u b) ∙ ring (Series (F K)) (series M u ∷ series M a ∷ series M b ∷ []) (search quote depth 40 fits 9999) tt)
-          (divides-sub K (divides-series x (sub (ops f) u a) da) (subst (λ (s : Px K). DividesK K s (series M (sub (ops f) u b))) (sym same) (divides-series y (sub (ops f) u b) db)))
+          (divides-sub K (divides-series f (is-field h) (sub (ops f) u a) x da) (subst (λ (s : Px K). DividesK K s (series M (sub (ops f) u b))) (sym same) (divides-series f (is-field h) (sub (ops f) u b) y db)))
 
 -- ---- the words of the coefficients
 module _ (n j : ℕ) (l : List ℕ) where

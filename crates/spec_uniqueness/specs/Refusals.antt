@@ -1,4 +1,5 @@
--- T1 tells one number: a number that is k exactly where sentence k is the first that applies, and 0 exactly where none does, is the refusal of the words.
+-- T1 tells one number: a number that is k exactly where sentence k is the first that applies, and 0 exactly
+-- where none does, is the refusal of the words.
 use Prim.Native.Nat.{ℕ, zero, suc, _≤_, _<_}
 use native.Mathlib.Omega.{arith}
 use mathlib.Core.Path.{_≡_, refl, sym, _∙_}

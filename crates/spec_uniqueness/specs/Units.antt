@@ -1,4 +1,5 @@
--- The unit's lists are the only ones: four lists that hold p, s, 0 and 0 in places 0 to R and keep what they had after are the lists at exit.
+-- The unit's lists are the only ones: four lists that hold p, s, 0 and 0 in places 0 to R and keep what they
+-- had after are the lists at exit.
 use Prim.Native.Nat.{ℕ, _+_, _-_, _≤_}
 use native.Mathlib.Omega.{arith}
 use mathlib.Core.Path.{_≡_, sym, ap, _∙_}

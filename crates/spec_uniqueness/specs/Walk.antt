@@ -1,5 +1,6 @@
--- The walk and its convergents are the only polynomials that document 01's equations allow: any Q, P, a, p, s that meet them for n steps, from Q_0 = 1 and P_0 = 0,
--- are the definitions' up to the index n. The same for the steps from any pair, which the giant step takes. For a ticket past its refusals and every n;
+-- The walk and its convergents are the only polynomials that document 01's equations allow: any Q, P, a, p, s
+-- that meet them for n steps, from Q_0 = 1 and P_0 = 0, are the definitions' up to the index n. The same for
+-- the steps from any pair, which the giant step takes. For a ticket past its refusals and every n;
 -- polynomials are lists of any numbers and any length, read in the field.
 use Prim.Native.Nat.{ℕ, zero, suc, _≤_, _<_}
 use native.Mathlib.Omega.{arith}
@@ -40,7 +41,8 @@ module _ (f : FieldName) (D d : List ℕ) where
     pub P-next : (i : ℕ) → i < n → Same f (P (suc i)) (a i ⊗ Q i ⊖ P i)
     pub Q-next : (i : ℕ) → i < n → Same f (Q i ⊗ Q (suc i)) (D ⊖ P (suc i) ⊗ P (suc i))
 
-  -- "p_{−1} = 1, s_{−1} = 0, p_0 = d, s_0 = 1, then p_i = a_i·p_{i−1} + p_{i−2}, and s_i likewise": `p i` is p_{i−1} and `s i` is s_{i−1}
+  -- "p_{−1} = 1, s_{−1} = 0, p_0 = d, s_0 = 1, then p_i = a_i·p_{i−1} + p_{i−2}, and s_i likewise": `p i` is
+  -- p_{i−1} and `s i` is s_{i−1}
   pub record Converging (n : ℕ) (a p s : ℕ → List ℕ) : Type 0 where
     pub p-before : Same f (p 0) (1 ∷ [])
     pub p-first : Same f (p 1) d

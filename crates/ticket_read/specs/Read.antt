@@ -3,12 +3,11 @@ use Prim.Native.Nat.{ℕ, zero, suc}
 use native.Mathlib.Omega.{arith}
 use mathlib.Core.Path.{_≡_, refl, sym, ap, _∙_, subst, subst₂}
 use mathlib.Core.List.{List, []}
-use Rattle.spec_definitions.specs.Field.{FieldName, prime}
+use Rattle.spec_definitions.specs.Field.{prime}
 use Rattle.spec_definitions.specs.Ticket.{Ticket, ticket, ticketOf, refusalOf}
 use Rattle.base_field.specs.Named.{name, IsField}
 use Rattle.base_polynomial.specs.declared.Poly.{Poly}
-use Rattle.base_polynomial.specs.Over as over
-use Rattle.base_polynomial.specs.Whole.{Is}
+use Rattle.base_polynomial.specs.Whole.{Is, Holds}
 use Rattle.base_field.specs.declared.Field.{Field}
 use Rattle.ticket_read.specs.declared.Ticket.{Ticket as Said}
 
@@ -51,7 +50,7 @@ pub stands-path : {k j : ℕ} {t u : Ticket} {r : Said} → k ≡ j → t ≡ u 
 stands-path {r = r} e f s = subst₂ (λ (k : ℕ) (t : Ticket). Stands (read k t) r) e f s
 
 -- a refusal's zeros
-pub stands-refused : (k : ℕ) → (k ≡ 0 → ⊥) → {d : Poly} → ((f : FieldName) → over.Is f d []) → Refused k (record { number = k; field = record { q = 0; reciprocal = 0 }; n = 0; radicand = d; budget = 0 })
+pub stands-refused : (k : ℕ) → (k ≡ 0 → ⊥) → {d : Poly} → Holds d [] → Refused k (record { number = k; field = record { q = 0; reciprocal = 0 }; n = 0; radicand = d; budget = 0 })
 unfolding unless
 stands-refused zero h z t = absurd (h refl)
 stands-refused (suc k) h z t = record { number-is = refl; field-is = refl; n-is = refl; D-is = z (prime 0); b-is = refl; is-field = λ e. absurd (omega arith) }

@@ -2,11 +2,9 @@
 ghost use mathlib.Core.Path.{_≡_};
 ghost use Prim.Native.Nat.{_+_, _<_, _≤_};
 ghost use lib.ListN.{length};
-ghost use Rattle.spec_definitions.specs.Field.{FieldName};
 ghost use Rattle.spec_definitions.specs.Ticket.{wrongCoefficient, wrongLead, notSquarefree, firstOf};
 ghost use Rattle.base_field.specs.Named.{name, IsField};
-ghost use Rattle.base_polynomial.specs.Over as over;
-ghost use Rattle.base_polynomial.specs.Whole.{poly, Held, Is};
+ghost use Rattle.base_polynomial.specs.Whole.{poly, Held, Is, Holds};
 ghost use Rattle.ticket_tests.specs.Radicand.{coefficients};
 ghost use Rattle.ticket_tests.specs.Refusal.{radicandTests};
 use base_euclid::gcd::gcd;
@@ -19,7 +17,7 @@ use base_words::value;
 // The values of the n + 1 words after the first two.
 pub fn radicand(n: usize, words: &[u32]) -> Poly
     requires { ⌜ (n ≤ 64) × (n + 3 ≤ length (now words)) ⌝ }
-    ensures { λ r. ⌜ ((f : FieldName) → over.Is f r (coefficients n (now (words .entry)))) ⌝ }
+    ensures { λ r. ⌜ Holds r (coefficients n (now (words .entry))) ⌝ }
 {
     let mut c = [0u32; 129];
     let mut i: usize = 0;

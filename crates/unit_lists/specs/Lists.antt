@@ -6,20 +6,19 @@ use native.Mathlib.Omega.{arith}
 use mathlib.Core.Path.{_≡_, refl, ap, _∙_}
 use mathlib.Core.List.{List, [], _∷_, _++_}
 use lib.ListN.{length, drop}
-use Rattle.spec_definitions.specs.Field.{modulo}
+use Rattle.spec_definitions.specs.Field.{prime, modulo}
 use Rattle.spec_definitions.specs.Polynomials.{pad}
-use Rattle.spec_definitions.specs.Ticket.{genus}
+use Rattle.spec_definitions.specs.Ticket.{genus, ticket}
 use Rattle.spec_definitions.specs.Walk.{pBefore, sBefore, degreeBefore, unitOf}
 use Rattle.spec_definitions.specs.Answers.{rootOf}
 use Rattle.spec_definitions.specs.Units.{Lists, written, unitLists}
 use Rattle.spec_laws.specs.Admitted.{Admitted, surd-of}
 use Rattle.spec_laws.specs.Convergents.{p-length, degree-least}
 use Rattle.walk_state.specs.State.{rootD}
-use Rattle.walk_state.specs.Start.{ticket}
 use Rattle.unit_recurrence.specs.Written.{Written, written-again, written-is}
 use Rattle.unit_recurrence.specs.Pair.{Pair, pair-long}
 use Rattle.unit_recurrence.specs.Recurrence.{s-short}
-use Rattle.unit_recurrence.specs.Progress.{Room, Progress, Ended, progress-first}
+use Rattle.unit_recurrence.specs.Pairs.{Room, Pairs, Ended, pairs-first}
 
 abbrev pub lists : List ℕ → List ℕ → List ℕ → List ℕ → Lists
 lists p s x y = record { first = p; second = s; third = x; fourth = y }
@@ -40,13 +39,13 @@ module _ {t k : ℕ} {u v old-p old-x p x : List ℕ} (w : Pair t k u v old-p ol
       ]
 
 -- an index is at most the degree of its convergent
-pub index-most : {q g : ℕ} {D : List ℕ} → Admitted q g D → (m : ℕ) → m ≤ degreeBefore (modulo q) D (rootD q g D) m
+pub index-most : {q g : ℕ} {D : List ℕ} → Admitted (prime q) g D → (m : ℕ) → m ≤ degreeBefore (modulo q) D (rootD (prime q) g D) m
 index-most h zero = omega arith
 index-most h (suc i) = let l = degree-least (surd-of h) i in omega arith
 
-module _ {q g : ℕ} {D : List ℕ} (h : Admitted q g D) {m k : ℕ} {old-p old-s old-x old-y p s x y : List ℕ} (u : Pair m k (1 ∷ []) [] old-p old-x p x) (v : Pair (m + 1) k (1 ∷ []) [] old-s old-y s y) where
-  pub start-progress : Progress q g D k m 0 p s x y p s x y
-  start-progress = progress-first h m (pair-self u) (pair-self v)
+module _ {q g : ℕ} {D : List ℕ} (h : Admitted (prime q) g D) {m k : ℕ} {old-p old-s old-x old-y p s x y : List ℕ} (u : Pair m k (1 ∷ []) [] old-p old-x p x) (v : Pair (m + 1) k (1 ∷ []) [] old-s old-y s y) where
+  pub start-pairs : Pairs (prime q) g D k m 0 p s x y p s x y
+  start-pairs = pairs-first h m (pair-self u) (pair-self v)
 
   pub start-long : ((length p ≡ length old-p) × (length x ≡ length old-x)) × ((length s ≡ length old-s) × (length y ≡ length old-y))
   start-long = (pair-long m k _ _ old-p old-x p x u, pair-long (m + 1) k _ _ old-s old-y s y v)
@@ -55,19 +54,19 @@ module _ {q g : ℕ} {D : List ℕ} (h : Admitted q g D) {m k : ℕ} {old-p old-
   start-room r = let e = start-long in record { p-room = omega arith; s-room = omega arith; x-room = omega arith; y-room = omega arith }
 
   -- the steps after the start
-  pub start-ended : {last-p last-s last-x last-y : List ℕ} → Ended q g D k m p s x y last-p last-s last-x last-y → Ended q g D k m old-p old-s old-x old-y last-p last-s last-x last-y
+  pub start-ended : {last-p last-s last-x last-y : List ℕ} → Ended (prime q) g D k m p s x y last-p last-s last-x last-y → Ended (prime q) g D k m old-p old-s old-x old-y last-p last-s last-x last-y
   start-ended w =
       let a = pair-again u _ _ _ _ (w .p-is) (w .x-is) in
       let b = pair-again v _ _ _ _ (w .s-is) (w .y-is) in
       record { p-is = a .0; s-is = b .0; x-is = a .1; y-is = b .1 }
 
 -- the work lists are cleared
-pub unit-lists : {q : ℕ} (n : ℕ) {D : List ℕ} → Admitted q (genus n) D → {k m : ℕ} {old-p old-s old-x old-y p s x y clear-x clear-y : List ℕ} → Ended q (genus n) D k m old-p old-s old-x old-y p s x y → Written k [] x clear-x → Written k [] y clear-y → Room k old-p old-s old-x old-y → (R : ℕ) → R ≡ degreeBefore (modulo q) D (rootD q (genus n) D) m → k ≡ R + 1 → (b : ℕ) → lists p s clear-x clear-y ≡ unitLists (ticket q n D b) R m (lists old-p old-s old-x old-y)
+pub unit-lists : {q : ℕ} (n : ℕ) {D : List ℕ} → Admitted (prime q) (genus n) D → {k m : ℕ} {old-p old-s old-x old-y p s x y clear-x clear-y : List ℕ} → Ended (prime q) (genus n) D k m old-p old-s old-x old-y p s x y → Written k [] x clear-x → Written k [] y clear-y → Room k old-p old-s old-x old-y → (R : ℕ) → R ≡ degreeBefore (modulo q) D (rootD (prime q) (genus n) D) m → k ≡ R + 1 → (b : ℕ) → lists p s clear-x clear-y ≡ unitLists (ticket (prime q) n D b) R m (lists old-p old-s old-x old-y)
 unfolding unitLists written unitOf rootOf
 unit-lists {q} n {D} h {k} {m} {old-p} {old-s} {old-x} {old-y} {p} {s} {x} {y} {clear-x} {clear-y} w a c room R e f b j =
     record {
-      first = full (pBefore (modulo q) D (rootD q (genus n) D) m) old-p p (room .p-room) (let l = p-length (surd-of h) m in omega arith) (w .p-is) j;
-      second = full (sBefore (modulo q) D (rootD q (genus n) D) m) old-s s (room .s-room) (let l = s-short (surd-of h) m in omega arith) (w .s-is) j;
+      first = full (pBefore (modulo q) D (rootD (prime q) (genus n) D) m) old-p p (room .p-room) (let l = p-length (surd-of h) m in omega arith) (w .p-is) j;
+      second = full (sBefore (modulo q) D (rootD (prime q) (genus n) D) m) old-s s (room .s-room) (let l = s-short (surd-of h) m in omega arith) (w .s-is) j;
       third = full [] old-x clear-x (room .x-room) (omega arith) (written-again k _ [] old-x x clear-x (w .x-is) a) j;
       fourth = full [] old-y clear-y (room .y-room) (omega arith) (written-again k _ [] old-y y clear-y (w .y-is) c) j;
     }

@@ -1,55 +1,55 @@
 // The unit p + s·√D in lent lists: p and s, with two work lists of the same size.
 ghost use mathlib.Core.Path.{_≡_};
-ghost use Prim.Native.Nat.{ℕ, _+_, _≤_};
-ghost use Rattle.spec_definitions.specs.Ticket.{genus};
+ghost use Prim.Native.Nat.{ℕ, _+_, _<_, _≤_};
+ghost use Rattle.spec_definitions.specs.Ticket.{genus, ticket};
 ghost use Rattle.spec_definitions.specs.Walk.{degreeBefore};
 ghost use Rattle.spec_definitions.specs.Units.{unitLists};
-ghost use Rattle.base_polynomial.specs.Record.{poly as polyAt, Held as HeldAt};
-ghost use Rattle.base_polynomial.specs.Whole.{poly, Held};
 ghost use Rattle.spec_laws.specs.Admitted.{Admitted};
+ghost use Rattle.base_field.specs.Named.{IsField, name, ops};
+ghost use Rattle.base_polynomial.specs.Record.{poly as polyAt, Held as HeldAt};
 ghost use Rattle.walk_state.specs.State.{rootD};
-ghost use Rattle.walk_state.specs.Start.{Prepared, ticket};
-ghost use Rattle.unit_recurrence.specs.Progress.{Room, Ended};
+ghost use Rattle.walk_state.specs.Start.{Prepared};
+ghost use Rattle.unit_recurrence.specs.Pairs.{Room, Ended};
 ghost use Rattle.unit_lists.specs.Lists.{lists};
-ghost use Rattle.base_field.specs.Named.{ops};
+use base_counters::Distance;
+use base_counters::Index;
 use base_field::Field;
-use base_polynomial::Poly;
 use unit_recurrence::combine::clear;
 use unit_recurrence::steps::start;
 use unit_recurrence::steps::steps;
-use walk_state::start::prepare;
 
 // The convergents of index m − 1 in p and s, those before them in x and y, each in the first `count` places.
 fn fill(
     f: Field,
     n: usize,
     radicand: &[u32; 129],
-    length: usize,
-    table: &[u32; 4096],
+    size: usize,
+    inverses: &[u32; 4096],
     d: &[u32; 129],
     twice: &[u32; 129],
-    m: u64,
+    m: Index,
     count: usize,
     p: &mut [u32],
     s: &mut [u32],
     x: &mut [u32],
     y: &mut [u32],
 )
-    requires { ⌜ Admitted (f .q) (genus n) (polyAt (now radicand) length) ⌝ }
-    requires { ⌜ HeldAt (f .q) (now radicand) length × (2 ≤ n) ⌝ }
-    requires { ⌜ Prepared (f .q) (genus n) (polyAt (now radicand) length) (now table) (now d) (now twice) ⌝ }
-    requires { ⌜ degreeBefore (ops f) (polyAt (now radicand) length) (rootD (f .q) (genus n) (polyAt (now radicand) length)) m + 1 ≡ count ⌝ }
+    requires { ⌜ IsField f ⌝ }
+    requires { ⌜ Admitted (name f) (genus n) (polyAt (now radicand) size) ⌝ }
+    requires { ⌜ HeldAt (name f) (now radicand) size × (2 ≤ n) × (m .0 < 268435456) ⌝ }
+    requires { ⌜ Prepared (name f) (genus n) (polyAt (now radicand) size) (now inverses) (now d) (now twice) ⌝ }
+    requires { ⌜ degreeBefore (ops f) (polyAt (now radicand) size) (rootD (name f) (genus n) (polyAt (now radicand) size)) (m .0) + 1 ≡ count ⌝ }
     requires { ⌜ Room count (now p) (now s) (now x) (now y) ⌝ }
-    ensures { λ _. ⌜ Ended (f .q) (genus n) (polyAt (now (radicand .entry)) length) count m (now (p .entry)) (now (s .entry)) (now (x .entry)) (now (y .entry)) (now (p .exit)) (now (s .exit)) (now (x .exit)) (now (y .exit)) ⌝ }
+    ensures { λ _. ⌜ Ended (name f) (genus n) (polyAt (now (radicand .entry)) size) count (m .0) (now (p .entry)) (now (s .entry)) (now (x .entry)) (now (y .entry)) (now (p .exit)) (now (s .exit)) (now (x .exit)) (now (y .exit)) ⌝ }
 {
-    start(m, p, x, count);
-    start(m + 1, s, y, count);
+    start(m.0, p, x, count);
+    start(m.0 + 1, s, y, count);
     steps(
         f,
         n,
         radicand,
-        length,
-        table,
+        size,
+        inverses,
         d,
         twice,
         m,
@@ -61,37 +61,40 @@ fn fill(
     );
 }
 
-// The unit, of index m − 1 and degree r: p and s receive its coefficients in their places 0 to r, where x and y end as zero. Later places are as they were. D is the radicand, of degree n.
+// The unit, of index m − 1 and degree r: p and s receive its coefficients in their places 0 to r, where x and y end as zero. Later places
+// are as they were. D, of degree n, is the first `size` places of `radicand`; what the walk starts from is prepared.
 pub fn write_unit(
     f: Field,
     n: usize,
-    radicand: Poly,
-    m: u64,
-    r: u64,
+    radicand: &[u32; 129],
+    size: usize,
+    inverses: &[u32; 4096],
+    d: &[u32; 129],
+    twice: &[u32; 129],
+    m: Index,
+    r: Distance,
     p: &mut [u32],
     s: &mut [u32],
     x: &mut [u32],
     y: &mut [u32],
 )
-    requires { ⌜ Admitted (f .q) (genus n) (poly radicand) ⌝ }
-    requires { ⌜ Held f radicand × (2 ≤ n) ⌝ }
-    requires { ⌜ r ≡ degreeBefore (ops f) (poly radicand) (rootD (f .q) (genus n) (poly radicand)) m ⌝ }
-    requires { ⌜ Room (r + 1) (now p) (now s) (now x) (now y) ⌝ }
-    ensures { λ _. ⌜ ((b : ℕ) → lists (now (p .exit)) (now (s .exit)) (now (x .exit)) (now (y .exit)) ≡ unitLists (ticket (f .q) n (poly radicand) b) r m (lists (now (p .entry)) (now (s .entry)) (now (x .entry)) (now (y .entry)))) ⌝ }
+    requires { ⌜ IsField f ⌝ }
+    requires { ⌜ Admitted (name f) (genus n) (polyAt (now radicand) size) ⌝ }
+    requires { ⌜ HeldAt (name f) (now radicand) size × (2 ≤ n) × (m .0 < 268435456) ⌝ }
+    requires { ⌜ Prepared (name f) (genus n) (polyAt (now radicand) size) (now inverses) (now d) (now twice) ⌝ }
+    requires { ⌜ r .0 ≡ degreeBefore (ops f) (polyAt (now radicand) size) (rootD (name f) (genus n) (polyAt (now radicand) size)) (m .0) ⌝ }
+    requires { ⌜ Room (r .0 + 1) (now p) (now s) (now x) (now y) ⌝ }
+    ensures { λ _. ⌜ ((b : ℕ) → lists (now (p .exit)) (now (s .exit)) (now (x .exit)) (now (y .exit)) ≡ unitLists (ticket (name f) n (polyAt (now (radicand .entry)) size) b) (r .0) (m .0) (lists (now (p .entry)) (now (s .entry)) (now (x .entry)) (now (y .entry)))) ⌝ }
 {
-    let count = r as usize + 1;
-    let mut table = [0u32; 4096];
-    let mut d = [0u32; 129];
-    let mut twice = [0u32; 129];
-    prepare(f, n, radicand, &mut table, &mut d, &mut twice);
+    let count = r.0 as usize + 1;
     fill(
         f,
         n,
-        &radicand.c,
-        radicand.size,
-        &table,
-        &d,
-        &twice,
+        radicand,
+        size,
+        inverses,
+        d,
+        twice,
         m,
         count,
         p,

@@ -2,4 +2,4 @@ pub mod Written
 pub mod Sum
 pub mod Pair
 pub mod Recurrence
-pub mod Progress
+pub mod Pairs

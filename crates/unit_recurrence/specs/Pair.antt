@@ -7,7 +7,7 @@ use native.Mathlib.Omega.{arith}
 use mathlib.Core.Path.{_≡_, refl, sym, ap, subst, fun-ext}
 use mathlib.Core.List.{List}
 use lib.ListN.{length, getD}
-use Rattle.spec_definitions.specs.Field.{modulo}
+use Rattle.spec_definitions.specs.Field.{FieldName, prime, ops, modulo}
 use Rattle.spec_definitions.specs.Polynomials.{add, mul}
 use Rattle.spec_bridge.specs.Arithmetic.{mul-cong}
 use Rattle.spec_bridge.specs.Residues.{model}
@@ -19,12 +19,12 @@ pub record Pair (t k : ℕ) (u v old-p old-x p x : List ℕ) : Type 0 where
   pub odd : (t % 2 ≡ 0 → ⊥) → Written k v old-p p × Written k u old-x x
 
 -- one of the lists becomes a·(the other) and itself, in its first n places
-pub record Folded (q t n : ℕ) (a p x new-p new-x : List ℕ) : Type 0 where
-  pub even : t % 2 ≡ 0 → (new-p ≡ p) × Written n (add (modulo q) (mul (modulo q) a p) x) x new-x
-  pub odd : (t % 2 ≡ 0 → ⊥) → (new-x ≡ x) × Written n (add (modulo q) (mul (modulo q) a x) p) p new-p
+pub record Folded (f : FieldName) (t n : ℕ) (a p x new-p new-x : List ℕ) : Type 0 where
+  pub even : t % 2 ≡ 0 → (new-p ≡ p) × Written n (add (ops f) (mul (ops f) a p) x) x new-x
+  pub odd : (t % 2 ≡ 0 → ⊥) → (new-x ≡ x) × Written n (add (ops f) (mul (ops f) a x) p) p new-p
 
 -- a goes by its coefficients
-pub folded-cong : (q : ℕ) → 0 < q → (t n : ℕ) (a f p x new-p new-x : List ℕ) → ((i : ℕ) → getD a i 0 ≡ getD f i 0) → Folded q t n a p x new-p new-x → Folded q t n f p x new-p new-x
+pub folded-cong : (q : ℕ) → 0 < q → (t n : ℕ) (a f p x new-p new-x : List ℕ) → ((i : ℕ) → getD a i 0 ≡ getD f i 0) → Folded (prime q) t n a p x new-p new-x → Folded (prime q) t n f p x new-p new-x
 folded-cong q pos t n a f p x new-p new-x same w = record { even = λ e. (w .even e .0, subst (λ (l : List ℕ). Written n (add (modulo q) l x) x new-x) (product p) (w .even e .1)); odd = λ e. (w .odd e .0, subst (λ (l : List ℕ). Written n (add (modulo q) l p) p new-p) (product x) (w .odd e .1)) }
   where
     product : (l : List ℕ) → mul (modulo q) a l ≡ mul (modulo q) f l
@@ -51,14 +51,14 @@ module _ (t k : ℕ) (u v old-p old-x p x : List ℕ) where
         | no n ↦ (w .odd n .0 .long, w .odd n .1 .long)
       ]
 
-  pub pair-below : (q n : ℕ) → Pair t k u v old-p old-x p x → ((i : ℕ) → getD u i 0 < q) → ((i : ℕ) → getD v i 0 < q) → n ≤ k → BelowTo q p n × BelowTo q x n
+  pub pair-below : (q n : ℕ) → Pair t k u v old-p old-x p x → ((i : ℕ) → getD u i 0 < q) → ((i : ℕ) → getD v i 0 < q) → n ≤ k → BelowTo (prime q) p n × BelowTo (prime q) x n
   pair-below q n w b c h =
       elim (ℕ-discrete (t % 2) 0) [
         | yes e ↦ (below u old-p p (w .even e .0) b, below v old-x x (w .even e .1) c)
         | no f ↦ (below v old-p p (w .odd f .0) c, below u old-x x (w .odd f .1) b)
       ]
     where
-      below : (l old list : List ℕ) → Written k l old list → ((i : ℕ) → getD l i 0 < q) → BelowTo q list n
+      below : (l old list : List ℕ) → Written k l old list → ((i : ℕ) → getD l i 0 < q) → BelowTo (prime q) list n
       below l old list w b i g = subst (λ (m : ℕ). m < q) (sym (w .low i (omega arith))) (b i)
 
   -- with a step more to go, the two polynomials change places
@@ -66,7 +66,7 @@ module _ (t k : ℕ) (u v old-p old-x p x : List ℕ) where
   pair-back w = record { even = λ e. w .odd (λ f. even-odd t f e); odd = λ n. w .even (odd-suc t n) }
 
   -- ---- one step: a has the coefficients of f, and n places are enough for f·u + v
-  pub pair-next : (q : ℕ) → 0 < q → (a f : List ℕ) → ((i : ℕ) → getD a i 0 ≡ getD f i 0) → (n : ℕ) → n ≤ k → length v ≤ n → length (add (modulo q) (mul (modulo q) f u) v) ≤ n → (new-p new-x : List ℕ) → Pair (suc t) k u v old-p old-x p x → Folded q (suc t) n a p x new-p new-x → Pair t k (add (modulo q) (mul (modulo q) f u) v) u old-p old-x new-p new-x
+  pub pair-next : (q : ℕ) → 0 < q → (a f : List ℕ) → ((i : ℕ) → getD a i 0 ≡ getD f i 0) → (n : ℕ) → n ≤ k → length v ≤ n → length (add (modulo q) (mul (modulo q) f u) v) ≤ n → (new-p new-x : List ℕ) → Pair (suc t) k u v old-p old-x p x → Folded (prime q) (suc t) n a p x new-p new-x → Pair t k (add (modulo q) (mul (modulo q) f u) v) u old-p old-x new-p new-x
   pair-next q pos a f same n h short-v short new-p new-x w d =
       record {
         even = λ e.

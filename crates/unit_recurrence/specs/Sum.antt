@@ -8,17 +8,18 @@ use mathlib.Core.List.{List}
 use lib.ListN.{length, getD, take, length-take, List·getD-eq-default}
 use lib.Seq.{getD-take}
 use Rattle.math_ring.specs.Order.{le-or-lt}
-use Rattle.spec_definitions.specs.Field.{modulo}
+use Rattle.spec_definitions.specs.Field.{FieldName, prime, ops, modulo}
 use Rattle.spec_definitions.specs.Polynomials.{add, mul}
 use Rattle.spec_bridge.specs.Arithmetic.{at-add}
 use Rattle.spec_bridge.specs.Product.{dots, dots-bound, dots-mul}
 use Rattle.spec_bridge.specs.Residues.{model}
+use Rattle.spec_fields.specs.Named.{Ok}
 use Rattle.base_polynomial.specs.Places.{Within}
 use Rattle.unit_recurrence.specs.Written.{Written}
 
--- each of the first k places is below q
-abbrev pub BelowTo : ℕ → List ℕ → ℕ → Type 0
-BelowTo q l k = (i : ℕ) → i < k → getD l i 0 < q
+-- each of the first k places has an admissible coefficient
+abbrev pub BelowTo : FieldName → List ℕ → ℕ → Type 0
+BelowTo f l k = (i : ℕ) → i < k → Ok f (getD l i 0)
 
 -- ---- the terms up to place k
 dots-low : (a b c e : List ℕ) (k : ℕ) → ((i : ℕ) → i ≤ k → getD a i 0 ≡ getD c i 0) → ((i : ℕ) → i ≤ k → getD b i 0 ≡ getD e i 0) → (n : ℕ) → n ≤ suc k → dots a b k n ≡ dots c e k n
@@ -30,7 +31,7 @@ pub mul-low : (q : ℕ) → 0 < q → (a b c e : List ℕ) (k : ℕ) → ((i : �
 mul-low q pos a b c e k h l = sym (dots-mul q pos a b k) ∙ ap (λ (x : ℕ). x % q) (dots-low a b c e k h l (suc k) (omega arith)) ∙ dots-mul q pos c e k
 
 -- at most 128 terms are at most 128·q²
-pub dots-low-small : (q : ℕ) (a b : List ℕ) (l k n : ℕ) → 0 < q → Within q a l → BelowTo q b (suc k) → n ≤ suc k → n ≤ 128 → dots a b k n ≤ 128 * (q * q)
+pub dots-low-small : (q : ℕ) (a b : List ℕ) (l k n : ℕ) → 0 < q → Within (prime q) a l → BelowTo (prime q) b (suc k) → n ≤ suc k → n ≤ 128 → dots a b k n ≤ 128 * (q * q)
 dots-low-small q a b l k n pos w s p h =
     let e : dots a b k n ≡ dots a (take (suc k) b) k n = dots-low a b a (take (suc k) b) k (λ i _. refl) (λ i u. sym (getD-take (suc k) b i 0 (omega arith))) n p in
     let d : dots a (take (suc k) b) k n ≤ n * (q * q) = dots-bound a (take (suc k) b) q (λ i. let x = w .reduced i in omega arith) bounded k n in
@@ -46,9 +47,9 @@ pub square-small : (q : ℕ) → q < 4096 → q * q ≤ 16769025
 square-small q h = mul-le-mul {n₂ = 4095} {m₂ = 4095} (omega arith) (omega arith)
 
 -- a sum that serves for the coefficient at k, not reduced
-pub record Terms (q : ℕ) (a b : List ℕ) (k r : ℕ) : Type 0 where
-  pub residue : r % q ≡ getD (mul (modulo q) a b) k 0
-  pub small : r ≤ 128 * (q * q)
+pub record Terms (f : FieldName) (a b : List ℕ) (k r : ℕ) : Type 0 where
+  pub residue : r % f .q ≡ getD (mul (ops f) a b) k 0
+  pub small : r ≤ 128 * (f .q * f .q)
 
 -- ---- the coefficient at k, reduced once
 pub sum-at : (q : ℕ) → 0 < q → (a b c : List ℕ) (k t : ℕ) → t % q ≡ getD (mul (modulo q) a b) k 0 → (getD c k 0 + t) % q ≡ getD (add (modulo q) (mul (modulo q) a b) c) k 0

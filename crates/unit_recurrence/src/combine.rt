@@ -1,16 +1,16 @@
 // The lent lists place by place: zeros, and a multiple of one list added to another.
 ghost use mathlib.Core.Path.{_≡_};
 ghost use mathlib.Core.List.{[]};
-ghost use Prim.Native.Nat.{_+_, _/_, _<_, _≤_};
+ghost use Prim.Native.Nat.{_+_, _<_, _≤_};
 ghost use lib.ListN.{length};
 ghost use Rattle.spec_definitions.specs.Polynomials.{add, mul};
+ghost use Rattle.base_field.specs.Named.{IsField, name, ops};
 ghost use Rattle.base_polynomial.specs.Places.{Within};
 ghost use Rattle.unit_recurrence.specs.Written.{Written};
 ghost use Rattle.unit_recurrence.specs.Sum.{BelowTo, Terms};
-ghost use Rattle.base_field.specs.Named.{ops};
 use base_field::Field;
+use base_field::reduce;
 use base_polynomial::product::excess;
-use walk_step::reduce::reduce;
 
 // The first `count` places become 0.
 pub fn clear(list: &mut [u32], count: usize)
@@ -26,10 +26,11 @@ pub fn clear(list: &mut [u32], count: usize)
 
 // The coefficient at k of a, of l places, times the list, not reduced.
 fn terms(f: Field, a: &[u32; 129], l: usize, from: &[u32], k: usize) -> u32
-    requires { ⌜ (0 < f .q) × (f .q < 4096) × (l ≤ 128) × (k < length (now from)) ⌝ }
-    requires { ⌜ Within (f .q) (now a) l ⌝ }
-    requires { ⌜ BelowTo (f .q) (now from) (k + 1) ⌝ }
-    ensures { λ r. ⌜ Terms (f .q) (now (a .entry)) (now (from .entry)) k r ⌝ }
+    requires { ⌜ IsField f ⌝ }
+    requires { ⌜ (l ≤ 128) × (k < length (now from)) ⌝ }
+    requires { ⌜ Within (name f) (now a) l ⌝ }
+    requires { ⌜ BelowTo (name f) (now from) (k + 1) ⌝ }
+    ensures { λ r. ⌜ Terms (name f) (now (a .entry)) (now (from .entry)) k r ⌝ }
 {
     let end = k + 1 - excess(k + 1, l);
     let mut sum: u32 = 0;
@@ -42,25 +43,17 @@ fn terms(f: Field, a: &[u32; 129], l: usize, from: &[u32], k: usize) -> u32
 }
 
 // The first `count` places of `into` become those of a·from + into, a of l places.
-pub fn combine(
-    f: Field,
-    reciprocal: u32,
-    a: &[u32; 129],
-    l: usize,
-    from: &[u32],
-    into: &mut [u32],
-    count: usize,
-)
-    requires { ⌜ (0 < f .q) × (f .q < 4096) × (reciprocal ≡ 4294967295 / f .q) × (l ≤ 128) ⌝ }
-    requires { ⌜ (count ≤ length (now from)) × (count ≤ length (now into)) ⌝ }
-    requires { ⌜ Within (f .q) (now a) l ⌝ }
-    requires { ⌜ BelowTo (f .q) (now from) count × BelowTo (f .q) (now into) count ⌝ }
+pub fn combine(f: Field, a: &[u32; 129], l: usize, from: &[u32], into: &mut [u32], count: usize)
+    requires { ⌜ IsField f ⌝ }
+    requires { ⌜ (l ≤ 128) × (count ≤ length (now from)) × (count ≤ length (now into)) ⌝ }
+    requires { ⌜ Within (name f) (now a) l ⌝ }
+    requires { ⌜ BelowTo (name f) (now from) count × BelowTo (name f) (now into) count ⌝ }
     ensures { λ _. ⌜ Written count (add (ops f) (mul (ops f) (now (a .entry)) (now (from .entry))) (now (into .entry))) (now (into .entry)) (now (into .exit)) ⌝ }
 {
     let mut k: usize = 0;
     while k < count {
         let t = into[k] + terms(f, a, l, from, k);
-        into[k] = reduce(f, reciprocal, t);
+        into[k] = reduce(f, t);
         k += 1;
     }
 }

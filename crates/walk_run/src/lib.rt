@@ -25,6 +25,12 @@ pub enum Outcome {
     Refused(u32),
 }
 
+// What a call on a ticket answers: the number of words handed in, and one of three outcomes.
+pub struct Answer {
+    pub words: u64,
+    pub outcome: Outcome,
+}
+
 // (−1)^m·c.
 fn constant(f: Field, m: Index, c: u32) -> u32
     requires { ⌜ IsField f ⌝ }
@@ -113,5 +119,14 @@ pub fn run(f: Field, n: usize, radicand: Poly, budget: u64) -> Outcome
     let mut d = [0u32; 129];
     let mut twice = [0u32; 129];
     prepare(f, n, radicand, &mut inverses, &mut d, &mut twice);
-    seek(f, n, &radicand.c, radicand.size, &inverses, &d, &twice, budget)
+    seek(
+        f,
+        n,
+        &radicand.c,
+        radicand.size,
+        &inverses,
+        &d,
+        &twice,
+        budget,
+    )
 }

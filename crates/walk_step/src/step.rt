@@ -202,7 +202,31 @@ fn fill(
     }
 }
 
-// One step: remains becomes the next remainder and after the next Q, whose size is returned.
+// One step: remains becomes the next remainder and after the next Q, whose size is returned; lead_inverse is the inverse of the leading
+// coefficient of Q.
+pub fn step_by(
+    f: Field,
+    lead_inverse: u32,
+    twice: &[u32; 129],
+    top: usize,
+    before: &[u32; 129],
+    current: &[u32; 129],
+    size: usize,
+    rest: &[u32; 129],
+    remains: &mut [u32; 129],
+    after: &mut [u32; 129],
+) -> usize
+    requires { ⌜ IsField f ⌝ }
+    requires { ⌜ «lead_inverse» ≡ ops f .inv (getD (now current) (size - 1) 0) ⌝ }
+    requires { ⌜ (0 < size) × (size ≤ top) × (top ≤ 128) ⌝ }
+    requires { ⌜ Ready (name f) top size (now twice) (now before) (now current) (now rest) ⌝ }
+    ensures { λ k. ⌜ Stepped (name f) (now (twice .entry)) (now (before .entry)) (now (current .entry)) (now (rest .entry)) (now (remains .exit)) (now (after .exit)) k ⌝ }
+{
+    fill(f, lead_inverse, twice, top, before, current, size, rest, remains, after);
+    base_polynomial::linear::top(after, top)
+}
+
+// The same, with the inverse from the table.
 pub fn step(
     f: Field,
     inverses: &[u32; 4096],
@@ -222,6 +246,5 @@ pub fn step(
     ensures { λ k. ⌜ Stepped (name f) (now (twice .entry)) (now (before .entry)) (now (current .entry)) (now (rest .entry)) (now (remains .exit)) (now (after .exit)) k ⌝ }
 {
     let lead_inverse = inverses[current[size - 1] as usize];
-    fill(f, lead_inverse, twice, top, before, current, size, rest, remains, after);
-    base_polynomial::linear::top(after, top)
+    step_by(f, lead_inverse, twice, top, before, current, size, rest, remains, after)
 }

@@ -1,6 +1,7 @@
 -- Zeros, and the numbers as handed in.
 use mathlib.Core.Path.{refl}
 use borrow.Author.Needs.{needs}
+use Rattle.call_giant_step.specs.GiantSteps.{giant-zeros}
 use Rattle.call_giant_step.proofs.refused.Statement.{statement}
 use Rattle.call_giant_step.proofs.refused.Tie as tie
 
@@ -8,7 +9,7 @@ zero-requires : tie.Need-zero-requires
 zero-requires c κs = search needs
 
 returns : tie.Need-returns
-returns c = ((refl, refl, refl, refl), λ k. (c .zero .ensures k, c .zero .ensures k))
+returns c = (refl, giant-zeros (c .zero .ensures) refl refl)
 
 pub refused-spec : {M : Type 1} → statement M
 refused-spec = tie.close (tie.spec zero-requires returns)

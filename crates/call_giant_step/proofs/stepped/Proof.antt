@@ -3,7 +3,7 @@ use mathlib.Core.Path.{refl, sym, _∙_}
 use borrow.Author.Needs.{needs}
 use mir.Syntax.{w64}
 use mir.Facts.{toZ-ofZ}
-use Rattle.call_giant_step.specs.GiantSteps.{giant-zeros, near-far, giant-done-says, both-near}
+use Rattle.call_giant_step.specs.GiantSteps.{says-path, near-far, giant-done-says, both-near}
 use Rattle.call_giant_step.proofs.stepped.Statement.{statement}
 use Rattle.call_giant_step.proofs.stepped.Tie as tie
 
@@ -16,7 +16,7 @@ refused-requires c κs = search needs
 returns : tie.Need-returns
 returns c =
     let r = c .refused .ensures in
-    (r .0 .0, giant-zeros _ _ _ (r .0 .1) (r .0 .2) (r .0 .3) (near-far _ _ _ _ _ (sym (c .before .before .far .ensures) ∙ c .before .if1 .taken)) (r .1 _ .0) (r .1 _ .1))
+    (r .0, says-path (near-far _ _ _ _ _ (sym (c .before .before .far .ensures) ∙ c .before .if1 .taken)) (r .1))
 
 root-of-requires : tie.Need-root-of-requires
 root-of-requires c κs = search needs
@@ -32,7 +32,7 @@ returns-2 c =
     let r = c .before .before .before .giant .ensures in
     let f = toZ-ofZ {w = w64} {z = c .before .before .before .giant .result .f} (record { sfits = c .struct-told .given .1 .1 .0 .1 }) in
     let e = toZ-ofZ {w = w64} {z = c .before .before .before .giant .result .distance} (record { sfits = c .struct-told .given .1 .1 .1 .0 .1 }) in
-    (refl, giant-done-says _ _ _ _ _ _ _ _ _ _ _ _ (sym (c .before .before .before .before .before .before .far .ensures) ∙ c .before .before .before .before .before .if1 .left) (r .q-is _) (r .p-is _) (f ∙ r .f-is _) (e ∙ r .distance-is _))
+    (refl, giant-done-says _ (sym (c .before .before .before .before .before .before .far .ensures) ∙ c .before .before .before .before .before .if1 .left) r f e)
 
 pub stepped-spec : {M : Type 1} → statement M
 stepped-spec =

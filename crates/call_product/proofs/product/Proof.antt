@@ -1,14 +1,13 @@
 -- `product` meets its contract: a ticket or a pair that is refused gives zeros; two ideals give their product, which depends on their polynomials alone.
-use mathlib.Core.Path.{refl, sym, ap, _∙_}
+use mathlib.Core.Path.{refl, sym, _∙_}
 use native.Mathlib.Omega.{arith}
 use borrow.Author.Needs.{needs}
 use borrow.Author.Tests.{not-true, not-false}
-use Rattle.spec_definitions.specs.Ticket.{Ticket}
 use Rattle.spec_laws.specs.PairTest.{both-true}
 use Rattle.ideal_pair.specs.Pair.{paired-operand}
-use Rattle.ideal_pair.specs.Words.{multiplied-words}
-use Rattle.call_regulator.specs.Accepted.{accepted, number-is, degree-two}
-use Rattle.call_product.specs.Products.{product-zeros, product-refused, product-wrong, product-done, product-done-says, pairs-wrong, pairs-right, product-modulus, passed-pair}
+use Rattle.ideal_pair.specs.Words.{pairs-wrong, pairs-right, multiplied-words}
+use Rattle.ticket_read.specs.Accepted.{accepted, number-is, degree-two}
+use Rattle.call_product.specs.Products.{says-path, product-refused, product-wrong, product-done, product-done-says}
 use Rattle.call_product.proofs.product.Statement.{statement}
 use Rattle.call_product.proofs.product.Tie as tie
 
@@ -21,17 +20,17 @@ refused-requires c κs = search needs
 returns : tie.Need-returns
 returns c =
     let r = c .refused .ensures in
-    (r .0 .0, product-zeros _ _ _ (r .0 .1) (product-refused _ _ _ _ (number-is _ (c .before .before .before .read-ticket .ensures)) (λ e. omega arith)) (r .1 _ .0) (r .1 _ .1) (r .1 _ .2))
+    (r .0, says-path (product-refused _ _ _ _ (number-is _ (c .before .before .before .read-ticket .ensures)) (λ e. omega arith)) (r .1))
 
 pair-requires : tie.Need-pair-requires
 pair-requires c κs =
     let a = accepted _ (c .before .before .read-ticket .ensures) (omega arith) in
-    (a .radicand, a .held, degree-two a)
+    (a .is-field, a .radicand, a .held, degree-two a)
 
 pair-requires-2 : tie.Need-pair-requires-2
 pair-requires-2 c κs =
     let a = accepted _ (c .before .before .before .read-ticket .ensures) (omega arith) in
-    (a .radicand, a .held, degree-two a)
+    (a .is-field, a .radicand, a .held, degree-two a)
 
 both-requires : tie.Need-both-requires
 both-requires c κs = search needs
@@ -44,23 +43,23 @@ returns-2 c =
     let r = c .refused2 .ensures in
     let a = accepted _ (c .before .before .before .before .before .before .before .read-ticket .ensures) (omega arith) in
     let f = sym (c .before .before .both .ensures) ∙ not-true _ (c .before .if2 .taken) in
-    (r .0 .0, product-zeros _ _ _ (r .0 .1) (product-wrong _ _ _ _ (a .passes) (a .ticket-is) (pairs-wrong (c .before .before .before .before .pair .ensures) (c .before .before .before .pair2 .ensures) _ f)) (r .1 _ .0) (r .1 _ .1) (r .1 _ .2))
+    (r .0, says-path (product-wrong _ _ _ _ (a .passes) (a .ticket-is) (pairs-wrong (c .before .before .before .before .pair .ensures) (c .before .before .before .pair2 .ensures) _ f)) (r .1))
 
 product-requires : tie.Need-product-requires
 product-requires c κs =
     let a = accepted _ (c .before .before .before .before .before .before .read-ticket .ensures) (omega arith) in
     let f = both-true _ _ (sym (c .before .both .ensures) ∙ not-false _ (c .if2 .left)) in
-    ((a .radicand, a .held), (paired-operand (passed-pair (c .before .before .before .pair .ensures) (f .0)), paired-operand (passed-pair (c .before .before .pair2 .ensures) (f .1))))
+    ((a .is-field, a .radicand, a .held), (paired-operand (c .before .before .before .pair .ensures) (f .0), paired-operand (c .before .before .pair2 .ensures) (f .1)))
 
 returns-3 : tie.Need-returns-3
 returns-3 c =
     let d = c .before .before .before .before in
     let a = accepted _ (d .before .before .before .before .before .before .read-ticket .ensures) (omega arith) in
-    let f = both-true _ _ (sym (d .before .both .ensures) ∙ not-false _ (d .if2 .left)) in
-    let x = passed-pair (d .before .before .before .pair .ensures) (f .0) in
-    let y = passed-pair (d .before .before .pair2 .ensures) (f .1) in
-    let m = multiplied-words (a .radicand) x y (c .before .before .before .product .ensures) in
-    (refl, product-modulus (ap (λ (t : Ticket). t .q) (sym (a .ticket-is))) (product-done-says _ _ _ _ _ _ _ _ _ _ _ (product-done _ _ _ _ (a .passes) (a .ticket-is) (pairs-right x y _)) (m .s-is) (m .q-is) (m .p-is)))
+    let e = sym (d .before .both .ensures) ∙ not-false _ (d .if2 .left) in
+    let f = both-true _ _ e in
+    let x = d .before .before .before .pair .ensures in
+    let y = d .before .before .pair2 .ensures in
+    (refl, says-path (product-done _ _ _ _ (a .passes) (a .ticket-is) (pairs-right x y _ e)) (product-done-says _ _ (multiplied-words x y (a .radicand) (f .0) (f .1) (c .before .before .before .product .ensures))))
 
 pub product-spec : {M : Type 1} → statement M
 product-spec =

@@ -1,6 +1,7 @@
 -- Zeros, and the numbers as handed in.
 use mathlib.Core.Path.{refl}
 use borrow.Author.Needs.{needs}
+use Rattle.call_product.specs.Products.{product-zeros}
 use Rattle.call_product.proofs.refused.Statement.{statement}
 use Rattle.call_product.proofs.refused.Tie as tie
 
@@ -8,7 +9,7 @@ zero-requires : tie.Need-zero-requires
 zero-requires c κs = search needs
 
 returns : tie.Need-returns
-returns c = ((refl, refl), λ k. (c .zero .ensures k, c .zero .ensures k, c .zero .ensures k))
+returns c = (refl, product-zeros (c .zero .ensures))
 
 pub refused-spec : {M : Type 1} → statement M
 refused-spec = tie.close (tie.spec zero-requires returns)

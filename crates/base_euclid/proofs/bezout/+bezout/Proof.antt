@@ -1,11 +1,12 @@
--- The measure is the size of b: the remainder's is smaller. Each branch is one of the definition's two rules; the factors fit by their lengths.
+-- The measure is the size of b: the remainder's is smaller. Each branch is a rule of the definition, and
+-- where b is constant two of them; the factors fit by their lengths.
 use native.Mathlib.Omega.{arith}
 use Rattle.base_places.specs.Places.{length-zeros, at-zeros}
 use Rattle.base_polynomial.specs.Linear.{held-within}
 use Rattle.base_places.specs.Held.{held-length}
 use Rattle.base_polynomial.specs.Result.{size-rem}
 use Rattle.base_euclid.specs.Divided.{quo-places, quo-within}
-use Rattle.base_euclid.specs.Turn.{last-gcd, last-u, last-v, turn-held, turn-gcd, turn-u, turn-v-held, turn-u-held, turn-fits, turn-v}
+use Rattle.base_euclid.specs.Turn.{last-gcd, last-u, last-v, one-gcd, one-u, one-v, turn-held, turn-gcd, turn-u, turn-v-held, turn-u-held, turn-fits, turn-v}
 use borrow.Author.Needs.{needs}
 use Prim.Native.Nat.{ℕ, _<_}
 use borrow.Fn.Kinds.{In}
@@ -43,6 +44,20 @@ bezout-bezout-zero-requires : (t : ℕ) → bezout-lts.Need-bezout-zero-requires
 ) (bezout-at t) bezout.Post
 bezout-bezout-zero-requires t c κs = search needs
 
+bezout-bezout-zero-requires-2 : (t : ℕ) → bezout-lts.Need-bezout-zero-requires-2 (
+  bezout-zero-reads.Asked,
+  bezout-zero-reads.Learnt,
+  divide-cleared-reads.Asked,
+  divide-cleared-reads.Learnt,
+  bezout-below t,
+  bezout.Post,
+  excess-reads.Asked,
+  excess-reads.Learnt,
+  subtract-product-reads.Asked,
+  subtract-product-reads.Learnt,
+) (bezout-at t) bezout.Post
+bezout-bezout-zero-requires-2 t c κs = search needs
+
 bezout-divide-cleared-requires : (t : ℕ) → bezout-lts.Need-divide-cleared-requires (
   bezout-zero-reads.Asked,
   bezout-zero-reads.Learnt,
@@ -56,7 +71,7 @@ bezout-divide-cleared-requires : (t : ℕ) → bezout-lts.Need-divide-cleared-re
   subtract-product-reads.Learnt,
 ) (bezout-at t) bezout.Post
 bezout-divide-cleared-requires t c κs =
-    let s = c .before .before .before .before in
+    let s = c .before .before .before .before .before in
     ((s .pre .1 .0, omega arith), (s .pre .1 .1 .0, (s .pre .1 .1 .1, (length-zeros, λ i h. at-zeros i))))
 
 bezout-bezout-requires : (t : ℕ) → bezout-lts.Need-bezout-requires (
@@ -72,7 +87,7 @@ bezout-bezout-requires : (t : ℕ) → bezout-lts.Need-bezout-requires (
   subtract-product-reads.Learnt,
 ) (bezout-at t) bezout.Post
 bezout-bezout-requires t c κs =
-    let s = c .before .before .before .before .before .before .before .before .before .before in
+    let s = c .before .before .before .before .before .before .before .before .before .before .before in
     let p = s .pre .1 .0 .0 in
     let a = s .pre .1 .1 .0 in
     let b = s .pre .1 .1 .1 in
@@ -121,14 +136,14 @@ bezout-subtract-product-requires : (t : ℕ) → bezout-lts.Need-subtract-produc
   subtract-product-reads.Learnt,
 ) (bezout-at t) bezout.Post
 bezout-subtract-product-requires t c κs =
-    let s = c .before .before .before .before .before .before .before .before .before .before .before .before .before .before .before in
+    let s = c .before .before .before .before .before .before .before .before .before .before .before .before .before .before .before .before in
     let p = s .pre .1 .0 .0 in
     let a = s .pre .1 .1 .0 in
     let b = s .pre .1 .1 .1 in
     let d = c .before .before .before .before .before .before .before .before .before .before .divide-cleared .ensures in
     let e = c .before .before .before .before .bezout .ensures .1 in
     let l = c .before .before .before .excess .ensures in
-    let some : 0 < s .args .n = omega (arith, c .before .before .before .before .before .before .before .before .before .before .before .before .before .before .if1 .left) in
+    let some : 0 < s .args .n = omega (arith, c .before .before .before .before .before .before .before .before .before .before .before .before .before .before .before .if1 .left) in
     let v = turn-v-held _ p a b some (d .0) (e .0) (e .1) in
     let u = turn-u-held _ p a b some (d .0) (e .0) (e .1) in
     let fits = turn-fits _ p a b some (d .0) (e .0) (e .1) _ l in
@@ -168,14 +183,34 @@ bezout-returns-2 : (t : ℕ) → bezout-lts.Need-returns-2 (
   subtract-product-reads.Learnt,
 ) (bezout-at t) bezout.Post
 bezout-returns-2 t c =
-    let s = c .before .before .before .before .before .before .before .before .before .before .before .before .before .before .before .before in
+    let s = c .before .before .before .before .before .before .before in
+    let p = s .pre .1 .0 .0 in
+    let a = s .pre .1 .1 .0 in
+    let b = s .pre .1 .1 .1 in
+    let e = c .bezout-zero2 .ensures in
+    (one-gcd _ p a b (search needs) _ _ (e .0), (one-u _ p a b (search needs) _ _ (e .1 .1), one-v _ p a b (search needs) _ _ (e .1 .0)))
+
+bezout-returns-3 : (t : ℕ) → bezout-lts.Need-returns-3 (
+  bezout-zero-reads.Asked,
+  bezout-zero-reads.Learnt,
+  divide-cleared-reads.Asked,
+  divide-cleared-reads.Learnt,
+  bezout-below t,
+  bezout.Post,
+  excess-reads.Asked,
+  excess-reads.Learnt,
+  subtract-product-reads.Asked,
+  subtract-product-reads.Learnt,
+) (bezout-at t) bezout.Post
+bezout-returns-3 t c =
+    let s = c .before .before .before .before .before .before .before .before .before .before .before .before .before .before .before .before .before in
     let p = s .pre .1 .0 .0 in
     let a = s .pre .1 .1 .0 in
     let b = s .pre .1 .1 .1 in
     let d = c .before .before .before .before .before .before .before .before .before .before .before .divide-cleared .ensures in
     let e = c .before .before .before .before .before .bezout .ensures in
     let l = c .before .before .before .before .excess .ensures in
-    let some : 0 < s .args .n = omega (arith, c .before .before .before .before .before .before .before .before .before .before .before .before .before .before .before .if1 .left) in
+    let some : 0 < s .args .n = omega (arith, c .before .before .before .before .before .before .before .before .before .before .before .before .before .before .before .before .if1 .left) in
     (turn-gcd _ p a b some (d .0) _ _ (e .0), (turn-u _ p a b some (d .0) _ _ (e .1 .1), turn-v _ p a b some (d .0) (e .1 .0) (e .1 .1) _ _ (d .1) l _ _ (c .subtract-product .ensures)))
 
 pub +bezout-spec : {M : Type 1} → statement M
@@ -194,6 +229,7 @@ pub +bezout-spec : {M : Type 1} → statement M
     (bezout-at t)
     bezout.Post
     (bezout-bezout-zero-requires t)
+    (bezout-bezout-zero-requires-2 t)
     (bezout-divide-cleared-requires t)
     (bezout-bezout-requires t)
     (bezout-add-excess t)
@@ -201,3 +237,4 @@ pub +bezout-spec : {M : Type 1} → statement M
     (bezout-subtract-product-requires t)
     (bezout-returns t)
     (bezout-returns-2 t)
+    (bezout-returns-3 t)

@@ -1,11 +1,11 @@
 -- The invariant: the coefficients from k on are the quotient's, zeros stand below.
-use mathlib.Core.Path.{_≡_, sym, ap, ap₂, _∙_, subst}
-use Prim.Native.Nat.{ℕ, _≤_, _<_, _+_, _-_, _*_, _%_}
+use mathlib.Core.Path.{_≡_, sym, ap₂, _∙_, subst}
+use Prim.Native.Nat.{ℕ, _≤_, _<_, _+_, _-_, _*_}
 use native.Mathlib.Nat.{mod-lt, mul-le-mul}
 use native.Mathlib.Omega.{arith}
 use lib.ListN.{getD, take}
-use Rattle.spec_definitions.specs.Field.{modulo, prime}
-use Rattle.spec_definitions.specs.Polynomials.{mul, quo}
+use Rattle.spec_definitions.specs.Field.{modulo}
+use Rattle.spec_definitions.specs.Polynomials.{quo}
 use Rattle.spec_bridge.specs.Residues.{inverse-lt}
 use Rattle.base_polynomial.specs.Linear.{held-within}
 use Rattle.base_euclid.specs.Down.{Down, down-none, down-more, down-all}
@@ -21,61 +21,39 @@ abbrev μ-loop : tie.MeasureT-loop
 μ-loop f lead-inverse a m b n z₀ l k₀ z k = k
 
 loop-holds : tie.Need-loop-holds Inv-loop μ-loop
-loop-holds c =
-    let s = c in
-    (omega arith, down-none _ _ _ (s .pre .1 .1 .1 .0) (s .pre .1 .1 .1 .1) (λ i h. quo-past _ (s .pre .1 .0) (s .pre .1 .1 .0) i (omega arith)))
+loop-holds c = (omega arith, down-none _ _ _ (c .pre .1 .1 .1 .0) (c .pre .1 .1 .1 .1) (λ i h. quo-past _ (c .pre .1 .0) (c .pre .1 .1 .0) i (omega arith)))
 
 sub-k : tie.Need-sub-k Inv-loop μ-loop
 sub-k c = search needs
 
-add-terms : tie.Need-add-terms Inv-loop μ-loop
-add-terms c = search needs
+add-rest-at : tie.Need-add-rest-at Inv-loop μ-loop
+add-rest-at c = search needs
 
-sub-terms : tie.Need-sub-terms Inv-loop μ-loop
-sub-terms c = search needs
+sub-rest-at : tie.Need-sub-rest-at Inv-loop μ-loop
+sub-rest-at c = search needs
 
-terms-requires : tie.Need-terms-requires Inv-loop μ-loop
-terms-requires c κs =
+rest-at-requires : tie.Need-rest-at-requires Inv-loop μ-loop
+rest-at-requires c κs =
     let s = c .before .before .before in
     let l = c .before .before .loop in
     let a = s .pre .1 .0 in
     let b = s .pre .1 .1 .0 in
     let short = a .short in
     let w = quo-within-down _ a b (l .z) (l .k) (omega arith) (l .inv .1) in
-    ((s .pre .0 .0, omega arith, omega arith), (record { reduced = w .reduced; past = λ i h. w .past i (omega arith) }, held-within _ _ _ _ b (omega arith)))
-
-reduce-requires : tie.Need-reduce-requires Inv-loop μ-loop
-reduce-requires c κs = search needs
-
-add-sub : tie.Need-add-sub Inv-loop μ-loop
-add-sub c = search needs
-
-sub-sub : tie.Need-sub-sub Inv-loop μ-loop
-sub-sub c = search needs
-
-mul-sub : tie.Need-mul-sub Inv-loop μ-loop
-mul-sub c = search needs
-
-element-copy-out-sub : tie.Need-element-copy-out-sub Inv-loop μ-loop
-element-copy-out-sub c = search needs
-
-sub-requires : tie.Need-sub-requires Inv-loop μ-loop
-sub-requires c κs =
-    let s = c .before .before .before .before .before .before in
-    (s .pre .0 .0, s .pre .1 .0 .reduced _, subst (λ (x : ℕ). x < s .args .f .q) (sym (c .before .reduce .ensures)) (mod-lt (c .before .before .terms .result) (omega arith)))
+    ((s .pre .0 .0, omega arith, omega arith, a .reduced _), (record { reduced = w .reduced; past = λ i h. w .past i (omega arith) }, held-within _ _ _ _ b (omega arith)))
 
 mul-reduce : tie.Need-mul-reduce Inv-loop μ-loop
 mul-reduce c =
-    let s = c .before .before .before .before .before .before .before in
+    let s = c .before .before .before .before in
     let q = s .args .f .q in
     let pos : 0 < q = omega arith in
-    let rest : c .sub .result < q = subst (λ (x : ℕ). x < q) (sym (c .sub .ensures)) (mod-lt _ pos) in
+    let rest : c .rest-at .result < q = subst (λ (x : ℕ). x < q) (sym (c .rest-at .ensures)) (mod-lt _ pos) in
     let inverse : s .args .lead-inverse < q = subst (λ (x : ℕ). x < q) (sym (s .pre .0 .3)) (inverse-lt q pos _) in
-    let small : c .sub .result * s .args .lead-inverse ≤ 4095 * 4095 = mul-le-mul {n₂ = 4095} {m₂ = 4095} (omega arith) (omega arith) in
+    let small : c .rest-at .result * s .args .lead-inverse ≤ 4095 * 4095 = mul-le-mul {n₂ = 4095} {m₂ = 4095} (omega arith) (omega arith) in
     omega arith
 
-reduce-requires-2 : tie.Need-reduce-requires-2 Inv-loop μ-loop
-reduce-requires-2 c κs = search needs
+reduce-requires : tie.Need-reduce-requires Inv-loop μ-loop
+reduce-requires c κs = search needs
 
 mul-z : tie.Need-mul-z Inv-loop μ-loop
 mul-z c = search needs
@@ -88,18 +66,15 @@ loop-less c = search needs
 
 loop-again : tie.Need-loop-again Inv-loop μ-loop
 loop-again c =
-    let s = c .before .before .before .before .before .before .before .before in
-    let l = c .before .before .before .before .before .before .before .loop in
+    let s = c .before .before .before .before .before in
+    let l = c .before .before .before .before .loop in
     let q = s .args .f .q in
     let a = s .pre .1 .0 in
     let b = s .pre .1 .1 .0 in
     let k = l .k - 1 in
-    let place = k + s .args .n - 1 in
     let short = a .short in
-    let product = c .before .before .before .reduce .ensures ∙ c .before .before .before .before .terms .ensures .residue in
-    let rest = c .before .sub .ensures ∙ ap (modulo q .sub (getD (s .args .a .now) place 0)) product in
-    let next = quo-next q a b (s .pre .0 .0 .0) (s .pre .0 .1) (l .z) k place (l .k) (omega arith) (omega arith) (l .inv .1) in
-    (omega arith, down-more _ (l .z) (l .k) k _ (l .inv .1) (omega arith) (omega arith) (c .reduce2 .ensures ∙ ap₂ (modulo q .mul) rest (s .pre .0 .3) ∙ next))
+    let next = quo-next q a b (s .pre .0 .0 .0) (s .pre .0 .1) (l .z) k (k + s .args .n - 1) (l .k) (omega arith) (omega arith) (l .inv .1) in
+    (omega arith, down-more _ (l .z) (l .k) k _ (l .inv .1) (omega arith) (omega arith) (c .reduce .ensures ∙ ap₂ (modulo q .mul) (c .before .rest-at .ensures) (s .pre .0 .3) ∙ next))
 
 returns : tie.Need-returns Inv-loop μ-loop
 returns c =
@@ -114,17 +89,11 @@ quotient-spec =
     μ-loop
     loop-holds
     sub-k
-    add-terms
-    sub-terms
-    terms-requires
-    reduce-requires
-    add-sub
-    sub-sub
-    mul-sub
-    element-copy-out-sub
-    sub-requires
+    add-rest-at
+    sub-rest-at
+    rest-at-requires
     mul-reduce
-    reduce-requires-2
+    reduce-requires
     mul-z
     element-write-z
     loop-less

@@ -1,7 +1,8 @@
--- The measure is the size of b: the remainder's is smaller. Each branch is one of the definition's two rules.
+-- The measure is the size of b: the remainder's is smaller. Each branch is a rule of the definition, and
+-- where b is constant two of them.
 use native.Mathlib.Omega.{arith}
 use Rattle.base_polynomial.specs.Result.{size-rem}
-use Rattle.base_euclid.specs.Turn.{gcd-last, turn-held, gcd-turn}
+use Rattle.base_euclid.specs.Turn.{gcd-last, gcd-one, turn-held, gcd-turn}
 use borrow.Author.Needs.{needs}
 use Prim.Native.Nat.{ℕ, _<_}
 use borrow.Fn.Kinds.{In}
@@ -48,6 +49,30 @@ gcd-monic-by-requires : (t : ℕ) → gcd-lts.Need-monic-by-requires (
 ) (gcd-at t) gcd.Post
 gcd-monic-by-requires t c κs = search needs
 
+gcd-lead-inverse-requires-2 : (t : ℕ) → gcd-lts.Need-lead-inverse-requires-2 (
+  lead-inverse-reads.Asked,
+  lead-inverse-reads.Learnt,
+  monic-by-reads.Asked,
+  monic-by-reads.Learnt,
+  remainder-reads.Asked,
+  remainder-reads.Learnt,
+  gcd-below t,
+  gcd.Post,
+) (gcd-at t) gcd.Post
+gcd-lead-inverse-requires-2 t c κs = search needs
+
+gcd-monic-by-requires-2 : (t : ℕ) → gcd-lts.Need-monic-by-requires-2 (
+  lead-inverse-reads.Asked,
+  lead-inverse-reads.Learnt,
+  monic-by-reads.Asked,
+  monic-by-reads.Learnt,
+  remainder-reads.Asked,
+  remainder-reads.Learnt,
+  gcd-below t,
+  gcd.Post,
+) (gcd-at t) gcd.Post
+gcd-monic-by-requires-2 t c κs = search needs
+
 gcd-remainder-requires : (t : ℕ) → gcd-lts.Need-remainder-requires (
   lead-inverse-reads.Asked,
   lead-inverse-reads.Learnt,
@@ -71,7 +96,7 @@ gcd-gcd-requires : (t : ℕ) → gcd-lts.Need-gcd-requires (
   gcd.Post,
 ) (gcd-at t) gcd.Post
 gcd-gcd-requires t c κs =
-    let s = c .before .before .before .before .before .before .before in
+    let s = c .before .before .before .before .before .before .before .before in
     let p = s .pre .1 .0 .0 in
     let a = s .pre .1 .1 .0 in
     let b = s .pre .1 .1 .1 in
@@ -104,8 +129,22 @@ gcd-returns-2 : (t : ℕ) → gcd-lts.Need-returns-2 (
   gcd.Post,
 ) (gcd-at t) gcd.Post
 gcd-returns-2 t c =
-    let s = c .before .before .before .before .before .before .before .before in
-    gcd-turn _ (s .pre .1 .0 .0) (s .pre .1 .1 .0) (s .pre .1 .1 .1) (omega (arith, c .before .before .before .before .before .before .before .if1 .left)) (c .before .before .before .before .remainder .ensures) _ _ (c .gcd .ensures)
+    let s = c .before .before .before .before .before .before .before in
+    gcd-one _ (s .pre .1 .0 .0) (s .pre .1 .1 .0) (s .pre .1 .1 .1) (search needs) _ _ (c .monic-by2 .ensures)
+
+gcd-returns-3 : (t : ℕ) → gcd-lts.Need-returns-3 (
+  lead-inverse-reads.Asked,
+  lead-inverse-reads.Learnt,
+  monic-by-reads.Asked,
+  monic-by-reads.Learnt,
+  remainder-reads.Asked,
+  remainder-reads.Learnt,
+  gcd-below t,
+  gcd.Post,
+) (gcd-at t) gcd.Post
+gcd-returns-3 t c =
+    let s = c .before .before .before .before .before .before .before .before .before in
+    gcd-turn _ (s .pre .1 .0 .0) (s .pre .1 .1 .0) (s .pre .1 .1 .1) (omega (arith, c .before .before .before .before .before .before .before .before .if1 .left)) (c .before .before .before .before .remainder .ensures) _ _ (c .gcd .ensures)
 
 pub +gcd-spec : {M : Type 1} → statement M
 +gcd-spec = close μ-gcd λ t. gcd-lts.spec (
@@ -122,7 +161,10 @@ pub +gcd-spec : {M : Type 1} → statement M
     gcd.Post
     (gcd-lead-inverse-requires t)
     (gcd-monic-by-requires t)
+    (gcd-lead-inverse-requires-2 t)
+    (gcd-monic-by-requires-2 t)
     (gcd-remainder-requires t)
     (gcd-gcd-requires t)
     (gcd-returns t)
     (gcd-returns-2 t)
+    (gcd-returns-3 t)

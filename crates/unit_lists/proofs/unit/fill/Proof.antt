@@ -1,6 +1,5 @@
 -- The pairs of lists as they start, and the steps from there.
-use native.Mathlib.Omega.{arith}
-use Rattle.unit_lists.specs.Lists.{index-most, start-progress, start-room, start-ended}
+use Rattle.unit_lists.specs.Lists.{start-pairs, start-room, start-ended}
 use borrow.Author.Needs.{needs}
 use Rattle.unit_lists.proofs.unit.fill.Statement.{statement}
 use Rattle.unit_lists.proofs.unit.fill.Tie as tie
@@ -9,20 +8,18 @@ start-requires : tie.Need-start-requires
 start-requires c κs = search needs
 
 add-start : tie.Need-add-start
-add-start c =
-    let s = c .before .before .before .before .before .before .before .before .before .before .before in
-    let l = index-most (s .pre .0) (s .args .m) in
-    omega (arith, s .pre .1 .1 .1 .0)
+add-start c = search needs
 
 start-requires-2 : tie.Need-start-requires-2
 start-requires-2 c κs = search needs
 
 steps-requires : tie.Need-steps-requires
 steps-requires c κs =
-    let s = c .before .before .before .before .before .before .before .before .before .before .before .before .before .before .before .before .before .before .before .before .before .before in
-    let u = c .before .before .before .before .before .before .before .before .before .before .before .before .before .before .before .start .ensures in
-    let v = c .before .before .before .before .before .before .before .before .start2 .ensures in
-    (s .pre .0, (s .pre .1 .0, (s .pre .1 .1 .0, (s .pre .1 .1 .1 .0, (start-room (s .pre .0) u v (s .pre .1 .1 .1 .1), start-progress (s .pre .0) u v)))))
+    let v = c .before .before .before .before .before .before .before .before in
+    let u = v .before .before .before .before .before .before .before .before in
+    let s = u .before .before .before .before .before .before .before in
+    let h = s .pre .1 .0 in
+    (s .pre .0, (h, (s .pre .1 .1 .0, (s .pre .1 .1 .1 .0, (s .pre .1 .1 .1 .1 .0, (start-room h (u .start .ensures) (v .start2 .ensures) (s .pre .1 .1 .1 .1 .1), start-pairs h (u .start .ensures) (v .start2 .ensures)))))))
 
 same-length : tie.Need-same-length
 same-length c = search needs
@@ -37,7 +34,12 @@ same-length-4 : tie.Need-same-length-4
 same-length-4 c = search needs
 
 returns : tie.Need-returns
-returns c = start-ended (c .before .before .before .before .before .before .before .before .before .before .before .before .before .before .before .before .before .before .before .before .before .before .before .before .before .before .before .before .before .before .before .pre .0) (c .before .before .before .before .before .before .before .before .before .before .before .before .before .before .before .before .before .before .before .before .before .before .before .before .start .ensures) (c .before .before .before .before .before .before .before .before .before .before .before .before .before .before .before .before .before .start2 .ensures) (c .before .before .before .before .before .before .before .before .steps .ensures)
+returns c =
+    let t = c .before .before .before .before .before .before .before .before in
+    let v = t .before .before .before .before .before .before .before .before .before in
+    let u = v .before .before .before .before .before .before .before .before in
+    let s = u .before .before .before .before .before .before .before in
+    start-ended (s .pre .1 .0) (u .start .ensures) (v .start2 .ensures) (t .steps .ensures)
 
 pub fill-spec : {M : Type 1} → statement M
 fill-spec =

@@ -10,19 +10,22 @@ use Rattle.unit_lists.proofs.unit.write_unit.Tie as tie
 add-count : tie.Need-add-count
 add-count c = search needs
 
-prepare-requires : tie.Need-prepare-requires
-prepare-requires c κs = search needs
-
 fill-requires : tie.Need-fill-requires
 fill-requires c κs =
-    let s = c .before .before .before .before .before .before .before .before .before .before .before .before .before .before .before .before .before in
-    (s .pre .0, (s .pre .1 .0, (c .before .before .before .before .before .before .before .before .before .prepare .ensures, (ap (λ (e : ℕ). e + 1) (sym (s .pre .1 .1 .0)), s .pre .1 .1 .1))))
+    let s = c .before .before .before .before .before .before .before .before in
+    (s .pre .0, (s .pre .1 .0, (s .pre .1 .1 .0, (s .pre .1 .1 .1 .0, (ap (λ (e : ℕ). e + 1) (sym (s .pre .1 .1 .1 .1 .0)), s .pre .1 .1 .1 .1 .1)))))
 
 clear-requires : tie.Need-clear-requires
-clear-requires c κs = omega (arith, c .before .before .before .before .before .before .before .before .before .before .before .before .before .before .before .before .before .before .before .before .before .before .before .before .before .before .before .pre .1 .1 .1 .x-room, c .before .before .before .before .before .before .before .before .before .fill .ensures .x-is .long)
+clear-requires c κs =
+    let w = c .before .before .before .before .before .before .before .before .before in
+    let s = w .before .before .before .before .before .before .before .before .before in
+    omega (arith, s .pre .1 .1 .1 .1 .1 .x-room, w .fill .ensures .x-is .long)
 
 clear-requires-2 : tie.Need-clear-requires-2
-clear-requires-2 c κs = omega (arith, c .before .before .before .before .before .before .before .before .before .before .before .before .before .before .before .before .before .before .before .before .before .before .before .before .before .before .before .before .before .before .before .pre .1 .1 .1 .y-room, c .before .before .before .before .before .before .before .before .before .before .before .before .before .fill .ensures .y-is .long)
+clear-requires-2 c κs =
+    let w = c .before .before .before .before .before .before .before .before .before .before .before .before .before in
+    let s = w .before .before .before .before .before .before .before .before .before in
+    omega (arith, s .pre .1 .1 .1 .1 .1 .y-room, w .fill .ensures .y-is .long)
 
 same-length : tie.Need-same-length
 same-length c = search needs
@@ -38,15 +41,17 @@ same-length-4 c = search needs
 
 returns : tie.Need-returns
 returns c =
-    let s = c .before .before .before .before .before .before .before .before .before .before .before .before .before .before .before .before .before .before .before .before .before .before .before .before .before .before .before .before .before .before .before .before .before .before in
-    unit-lists (s .args .n) (s .pre .0) (c .before .before .before .before .before .before .before .before .before .before .before .before .before .before .before .before .fill .ensures) (c .before .before .before .before .before .before .clear .ensures) (c .before .before .clear2 .ensures) (s .pre .1 .1 .1) (s .args .r) (s .pre .1 .1 .0) refl
+    let v = c .before .before in
+    let u = v .before .before .before .before in
+    let w = u .before .before .before .before .before .before .before .before .before .before in
+    let s = w .before .before .before .before .before .before .before .before .before in
+    unit-lists (s .args .n) (s .pre .1 .0) (w .fill .ensures) (u .clear .ensures) (v .clear2 .ensures) (s .pre .1 .1 .1 .1 .1) (s .args .r .0) (s .pre .1 .1 .1 .1 .0) refl
 
 pub write-unit-spec : {M : Type 1} → statement M
 write-unit-spec =
     tie.close
     (tie.spec
     add-count
-    prepare-requires
     fill-requires
     clear-requires
     clear-requires-2

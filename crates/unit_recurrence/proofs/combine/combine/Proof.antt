@@ -12,10 +12,10 @@ use Rattle.unit_recurrence.proofs.combine.combine.Statement.{statement}
 use Rattle.unit_recurrence.proofs.combine.combine.Tie as tie
 
 abbrev Inv-loop : tie.InvT-loop
-Inv-loop f reciprocal a l from into₀ count k₀ into k = (k ≤ count) × Written k (add (modulo (f .q)) (mul (modulo (f .q)) a from) into₀) into₀ into
+Inv-loop f a l from into₀ count k₀ into k = (k ≤ count) × Written k (add (modulo (f .q)) (mul (modulo (f .q)) a from) into₀) into₀ into
 
 abbrev μ-loop : tie.MeasureT-loop
-μ-loop f reciprocal a l from into₀ count k₀ into k = count - k
+μ-loop f a l from into₀ count k₀ into k = count - k
 
 loop-holds : tie.Need-loop-holds Inv-loop μ-loop
 loop-holds c = (omega arith, written-none _ _)
@@ -27,7 +27,7 @@ slice-read-t : tie.Need-slice-read-t Inv-loop μ-loop
 slice-read-t c = let e = c .before .before .loop .inv .1 .long in omega arith
 
 terms-requires : tie.Need-terms-requires Inv-loop μ-loop
-terms-requires c κs = let s = c .before .before .before .before .before in ((s .pre .0 .0, s .pre .0 .1, s .pre .0 .3, omega arith), (s .pre .1 .1 .0, λ i h. s .pre .1 .1 .1 .0 i (omega arith)))
+terms-requires c κs = let s = c .before .before .before .before .before in (s .pre .0, ((s .pre .1 .0 .0, omega arith), (s .pre .1 .1 .0, λ i h. s .pre .1 .1 .1 .0 i (omega arith))))
 
 add-t : tie.Need-add-t Inv-loop μ-loop
 add-t c =
@@ -36,7 +36,7 @@ add-t c =
     let same : getD (l .into) (l .k) 0 ≡ getD (s .args .into .now) (l .k) 0 = l .inv .1 .high (l .k) (omega arith) in
     let below = s .pre .1 .1 .1 .1 (l .k) (omega arith) in
     let few = c .terms .ensures .small in
-    let w = square-small (s .args .f .q) (s .pre .0 .1) in
+    let w = square-small (s .args .f .q) (s .pre .0 .2) in
     omega arith
 
 reduce-requires : tie.Need-reduce-requires Inv-loop μ-loop
@@ -62,7 +62,7 @@ loop-again c =
     let same : getD (l .into) (l .k) 0 ≡ getD (s .args .into .now) (l .k) 0 = l .inv .1 .high (l .k) (omega arith) in (
       omega arith,
       written-more _ _ (l .into) (l .k) _ (l .inv .1) (omega arith)
-          (c .reduce .ensures ∙ ap (λ (x : ℕ). (x + t .result) % s .args .f .q) same ∙ sum-at (s .args .f .q) (s .pre .0 .0) (s .args .a .now) (s .args .from .now) (s .args .into .now) (l .k) (t .result) (t .ensures .residue)),
+          (c .reduce .ensures ∙ ap (λ (x : ℕ). (x + t .result) % s .args .f .q) same ∙ sum-at (s .args .f .q) (let o = s .pre .0 .1 in omega arith) (s .args .a .now) (s .args .from .now) (s .args .into .now) (l .k) (t .result) (t .ensures .residue)),
     )
 
 same-length : tie.Need-same-length Inv-loop μ-loop

@@ -24,8 +24,8 @@ next : (c : tie.After-shared-slice-known2 Inv-loop μ-loop)
 next c =
     let s = c .before .before .before .before .before .before in
     let i = c .before .before .before .loop .i in
-    let d : dots (s .args .a .now) (s .args .from .now) (s .args .k) (i + 1) ≤ 128 * (s .args .f .q * s .args .f .q) = dots-low-small (s .args .f .q) (s .args .a .now) (s .args .from .now) (s .args .l) (s .args .k) (i + 1) (s .pre .0 .0) (s .pre .1 .0) (λ j h. s .pre .1 .1 j (omega arith)) (omega arith) (omega arith) in
-    let w = square-small (s .args .f .q) (s .pre .0 .1) in
+    let d : dots (s .args .a .now) (s .args .from .now) (s .args .k) (i + 1) ≤ 128 * (s .args .f .q * s .args .f .q) = dots-low-small (s .args .f .q) (s .args .a .now) (s .args .from .now) (s .args .l) (s .args .k) (i + 1) (let o = s .pre .0 .1 in omega arith) (s .pre .1 .1 .0) (λ j h. s .pre .1 .1 .1 j (omega arith)) (omega arith) (omega arith) in
+    let w = square-small (s .args .f .q) (s .pre .0 .2) in
     let e = dots-more (s .args .a .now) (s .args .from .now) (s .args .k) i in
     omega arith
 
@@ -80,8 +80,8 @@ returns c =
     let s = c .before .before .before .before in
     let l = c .before .loop in
     record {
-      residue = ap (λ (v : ℕ). v % s .args .f .q) (l .inv .1) ∙ dots-all (s .args .f .q) (s .pre .0 .0) (s .args .a .now) (s .args .from .now) (s .args .k) (s .args .l) (l .i) (s .pre .1 .0 .past) (omega arith) (omega arith);
-      small = rw (l .inv .1) (dots-low-small (s .args .f .q) (s .args .a .now) (s .args .from .now) (s .args .l) (s .args .k) (l .i) (s .pre .0 .0) (s .pre .1 .0) (λ j h. s .pre .1 .1 j (omega arith)) (omega arith) (omega arith));
+      residue = ap (λ (v : ℕ). v % s .args .f .q) (l .inv .1) ∙ dots-all (s .args .f .q) (let o = s .pre .0 .1 in omega arith) (s .args .a .now) (s .args .from .now) (s .args .k) (s .args .l) (l .i) (s .pre .1 .1 .0 .past) (omega arith) (omega arith);
+      small = rw (l .inv .1) (dots-low-small (s .args .f .q) (s .args .a .now) (s .args .from .now) (s .args .l) (s .args .k) (l .i) (let o = s .pre .0 .1 in omega arith) (s .pre .1 .1 .0) (λ j h. s .pre .1 .1 .1 j (omega arith)) (omega arith) (omega arith));
     }
 
 pub terms-spec : {M : Type 1} → statement M

@@ -8,7 +8,7 @@ use Rattle.unit_recurrence.proofs.steps.advance.Statement.{statement}
 use Rattle.unit_recurrence.proofs.steps.advance.Tie as tie
 
 partial-requires : tie.Need-partial-requires
-partial-requires c κs = let s = c .before .before .before .before .before in ((s .pre .0 .0, s .pre .0 .1, s .pre .0 .2), ((s .pre .1 .0 .0, s .pre .1 .0 .1, omega arith), (s .pre .1 .1 .0, s .pre .1 .1 .1 .0)))
+partial-requires c κs = let s = c .before .before .before .before .before in (s .pre .0, ((s .pre .1 .0 .0, s .pre .1 .0 .1, omega arith), (s .pre .1 .1 .0, s .pre .1 .1 .1 .0)))
 
 add-l : tie.Need-add-l
 add-l c = search needs
@@ -20,19 +20,19 @@ fold-requires : tie.Need-fold-requires
 fold-requires c κs =
     let s = c .before .before .before .before .before .before .before .before .before in
     let v = s .pre .1 .1 .1 .0 in
-    let pos : 0 < s .args .f .q = (let h = v .s-within .reduced 0 in omega arith) in
+    let pos : 0 < s .args .f .q = (let h = s .pre .0 .1 in omega arith) in
     let room = s .pre .1 .1 .1 .1 .0 in
     let low = s .pre .1 .1 .1 .1 .1 in
-    ((pos, s .pre .0 .1, s .pre .0 .2, omega arith), ((room .p-room, room .x-room), (quo-within (s .pre .0 .0) v (c .before .before .before .partial .ensures), (low .p-below, low .x-below))))
+    (s .pre .0, ((omega arith, room .p-room, room .x-room), (quo-within (s .pre .0 .0) v (c .before .before .before .partial .ensures), (low .p-below, low .x-below))))
 
 fold-requires-2 : tie.Need-fold-requires-2
 fold-requires-2 c κs =
     let s = c .before .before .before .before .before .before .before .before .before .before .before .before .before .before .before .before .before in
     let v = s .pre .1 .1 .1 .0 in
-    let pos : 0 < s .args .f .q = (let h = v .s-within .reduced 0 in omega arith) in
+    let pos : 0 < s .args .f .q = (let h = s .pre .0 .1 in omega arith) in
     let room = s .pre .1 .1 .1 .1 .0 in
     let low = s .pre .1 .1 .1 .1 .1 in
-    ((pos, s .pre .0 .1, s .pre .0 .2, omega arith), ((room .s-room, room .y-room), (quo-within (s .pre .0 .0) v (c .before .before .before .before .before .before .before .before .before .before .before .partial .ensures), (low .s-below, low .y-below))))
+    (s .pre .0, ((omega arith, room .s-room, room .y-room), (quo-within (s .pre .0 .0) v (c .before .before .before .before .before .before .before .before .before .before .before .partial .ensures), (low .s-below, low .y-below))))
 
 same-length : tie.Need-same-length
 same-length c = search needs
@@ -50,7 +50,7 @@ returns : tie.Need-returns
 returns c =
     let s = c .before .before .before .before .before .before .before .before .before .before .before .before .before .before .before .before .before .before .before .before .before .before in
     let v = s .pre .1 .1 .1 .0 in
-    let pos : 0 < s .args .f .q = (let h = v .s-within .reduced 0 in omega arith) in
+    let pos : 0 < s .args .f .q = (let h = s .pre .0 .1 in omega arith) in
     let room = s .pre .1 .1 .1 .1 .0 in
     let low = s .pre .1 .1 .1 .1 .1 in
     record {

@@ -8,7 +8,7 @@ combine-requires : tie.Need-combine-requires
 combine-requires c κs = search needs
 
 combine-requires-2 : tie.Need-combine-requires-2
-combine-requires-2 c κs = let s = c .before .before .before .before .before in (s .pre .0, ((s .pre .1 .0 .1, s .pre .1 .0 .0), (s .pre .1 .1 .0, (s .pre .1 .1 .1 .1, s .pre .1 .1 .1 .0))))
+combine-requires-2 c κs = let s = c .before .before .before .before .before in (s .pre .0, ((s .pre .1 .0 .0, s .pre .1 .0 .2, s .pre .1 .0 .1), (s .pre .1 .1 .0, (s .pre .1 .1 .1 .1, s .pre .1 .1 .1 .0))))
 
 same-length : tie.Need-same-length
 same-length c = search needs

@@ -2,7 +2,6 @@
 use Prim.Native.Nat.{_-_}
 use native.Mathlib.Omega.{arith}
 use borrow.Author.Needs.{needs}
-use Rattle.walk_step.specs.Result.{moved-past, stepped}
 use Rattle.walk_step.proofs.step.step.Statement.{statement}
 use Rattle.walk_step.proofs.step.step.Tie as tie
 
@@ -24,22 +23,13 @@ mul-lead-inverse-2 c = let s = c .before in omega (arith, s .pre .1 .1 .1 .curre
 element-copy-out-lead-inverse-2 : tie.Need-element-copy-out-lead-inverse-2
 element-copy-out-lead-inverse-2 c = let s = c .before in omega (arith, s .pre .1 .1 .1 .current-within .reduced (s .args .size - 1))
 
-fill-requires : tie.Need-fill-requires
-fill-requires c κs =
+step-by-requires : tie.Need-step-by-requires
+step-by-requires c κs =
     let s = c .before .before .before .before in
     (s .pre .0, (s .pre .1 .1 .0 _ (s .pre .1 .1 .1 .current-within .reduced (s .args .size - 1)), (s .pre .1 .0, s .pre .1 .1 .1)))
 
-top-requires : tie.Need-top-requires
-top-requires c κs =
-    let s = c .before .before .before .before .before .before in
-    let p = s .pre .0 .0 in
-    let g = s .pre .1 .1 .1 in
-    (omega arith, moved-past p g (c .before .fill .ensures))
-
 returns : tie.Need-returns
-returns c =
-    let s = c .before .before .before .before .before .before .before in
-    stepped (s .pre .0 .0) (s .pre .1 .1 .1) (omega arith) (c .before .before .fill .ensures) (c .top .ensures)
+returns c = c .step-by .ensures
 
 pub step-spec : {M : Type 1} → statement M
 step-spec =
@@ -51,6 +41,5 @@ step-spec =
     cast-lead-inverse
     mul-lead-inverse-2
     element-copy-out-lead-inverse-2
-    fill-requires
-    top-requires
+    step-by-requires
     returns)
