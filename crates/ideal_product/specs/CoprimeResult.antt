@@ -1,4 +1,5 @@
--- The product of two operands whose Q_1 and Q_2 have no common factor, from arrays: what each call gives is held and short, and together they are the definition's product.
+-- The product of two operands whose Q_1 and Q_2 have no common factor, from arrays: what each call gives is
+-- held and short, and together they are the definition's product.
 use Prim.Native.Nat.{ℕ, suc, _≤_, _<_}
 use native.Mathlib.Omega.{arith}
 use mathlib.Core.Path.{_≡_, sym, ap, _∙_, subst}

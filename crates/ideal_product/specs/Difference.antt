@@ -1,4 +1,5 @@
--- What a caller keeps of v − w·u on arrays: it is held, its polynomial is the definition's, and it is no longer than v and the product.
+-- What a caller keeps of v − w·u on arrays: it is held, its polynomial is the definition's, and it is no longer
+-- than v and the product.
 use Prim.Native.Nat.{ℕ, suc, _+_, _≤_, _<_}
 use native.Mathlib.Omega.{arith}
 use mathlib.Core.List.{List}

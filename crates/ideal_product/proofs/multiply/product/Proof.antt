@@ -1,4 +1,5 @@
--- Where Q_1 and Q_2 have no common factor each array is held and short, and together they are the definition's product; else the product is `shared`'s.
+-- Where Q_1 and Q_2 have no common factor each array is held and short, and together they are the definition's
+-- product; else the product is `shared`'s.
 use native.Mathlib.Omega.{arith}
 use Rattle.base_polynomial.specs.Held.{held-length}
 use Rattle.base_polynomial.specs.Linear.{held-within}
