@@ -1,6 +1,6 @@
 -- Where b is a constant other than 0, the remainder is 0 and the next turn the last: the greatest common
 -- divisor is 1, its factors 0 and 1/b.
-use Prim.Native.Nat.{ℕ, zero, suc, _<_}
+use Prim.Native.Nat.{zero, suc}
 use native.Mathlib.Omega.{arith}
 use mathlib.Core.Path.{_≡_, ap, _∙_}
 use mathlib.Core.List.{List, [], _∷_}

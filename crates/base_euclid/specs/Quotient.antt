@@ -1,13 +1,13 @@
 -- The coefficient of a quotient at k is what clears a − z·b at the top, where z has the coefficients above k:
 -- there the product quo·b has one term more than z·b. The remainder is a − quo·b.
-use Prim.Native.Nat.{ℕ, suc, _+_ as _+ₙ_, _-_ as _-ₙ_, _<_, _≤_}
+use Prim.Native.Nat.{ℕ, suc, _+_ as _+ₙ_, _-_ as _-ₙ_, _<_}
 use native.Mathlib.Omega.{arith}
 use mathlib.Core.Path.{_≡_, sym, ap, ap₂, _∙_}
 use mathlib.Core.List.{List, [], _∷_}
 use lib.ListN.{length}
 use Rattle.math_ring.specs.Ring.{CRing}
 use Rattle.math_ring.specs.Identity.{ring, ring-from, times, quote}
-use Rattle.math_ring.specs.Series.{S, Series, addS, conv, negS, con}
+use Rattle.math_ring.specs.Series.{S, Series, addS, conv, negS}
 use Rattle.math_ring.specs.Degree.{Below, lead-conv}
 use Rattle.spec_arithmetic.specs.Field.{Ops}
 use Rattle.spec_arithmetic.specs.Polynomials.{at, trim, lead, sub, mul, quo, rem}

@@ -1,6 +1,5 @@
 // The greatest common divisor with Bezout's factors, on arrays that take turns: a becomes the remainder by b,
 // and b is the first of the next pair.
-ghost use mathlib.Core.Path.{_≡_};
 ghost use mathlib.Core.List.{[], _∷_};
 ghost use Rattle.spec_arithmetic.specs.Polynomials.{trim, lead as leadOf, monic as monicOf, bezout as bezoutOf};
 ghost use Rattle.base_places.specs.Record.{poly, Held, Is};

@@ -1,9 +1,9 @@
 -- The definition's case of a zero polynomial, with the inverse of the leading coefficient of a.
-use mathlib.Core.Path.{_≡_, sym, ap, _∙_, subst}
-use mathlib.Core.List.{List, [], _∷_}
-use Prim.Native.Nat.{ℕ, _<_}
-use Rattle.spec_arithmetic.specs.Field.{modulo, prime}
-use Rattle.spec_arithmetic.specs.Polynomials.{trim}
+use mathlib.Core.Path.{subst}
+use mathlib.Core.List.{[], _∷_}
+use Prim.Native.Nat.{ℕ}
+use Rattle.spec_definitions.specs.Field.{modulo, prime}
+use Rattle.spec_definitions.specs.Polynomials.{trim}
 use Rattle.base_places.specs.Record.{Is}
 use Rattle.base_polynomial.specs.Linear.{is-zero}
 use Rattle.base_euclid.specs.Monic.{lead-inverse-less}

@@ -1,6 +1,6 @@
 -- The coefficient before k, by the two cases of a shift by one place.
 use mathlib.Core.Path.{_≡_, sym, ap, _∙_}
-use Prim.Native.Nat.{ℕ, _+_, _-_}
+use Prim.Native.Nat.{_+_, _-_}
 use native.Mathlib.Omega.{arith}
 use Rattle.spec_bridge.specs.Product.{shifted, shifted-low, shifted-at}
 use borrow.Author.Needs.{needs}

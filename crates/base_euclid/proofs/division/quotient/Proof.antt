@@ -1,5 +1,5 @@
 -- The invariant: the coefficients from k on are the quotient's, zeros stand below.
-use mathlib.Core.Path.{_≡_, sym, ap₂, _∙_, subst}
+use mathlib.Core.Path.{sym, ap₂, _∙_, subst}
 use Prim.Native.Nat.{ℕ, _≤_, _<_, _+_, _-_, _*_}
 use native.Mathlib.Nat.{mod-lt, mul-le-mul}
 use native.Mathlib.Omega.{arith}

@@ -1,8 +1,7 @@
 -- The product has two terms there.
-use mathlib.Core.Path.{_≡_, sym, _∙_, subst}
+use mathlib.Core.Path.{sym, _∙_, subst}
 use Prim.Native.Nat.{ℕ, _<_}
 use native.Mathlib.Omega.{arith}
-use lib.ListN.{getD}
 use Rattle.base_euclid.specs.Two.{shifted-less, two-at}
 use borrow.Author.Needs.{needs}
 use Rattle.base_euclid.proofs.division.rest_two.Statement.{statement}

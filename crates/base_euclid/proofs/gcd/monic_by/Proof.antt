@@ -5,7 +5,6 @@ use Rattle.base_places.specs.Zeros.{scale-zero}
 use Rattle.base_places.specs.Held.{held-positive}
 use Rattle.base_polynomial.specs.Linear.{held-within}
 use Rattle.base_euclid.specs.Monic.{lead-inverse-less, is-monic}
-use borrow.Author.Needs.{needs}
 use Rattle.base_euclid.proofs.gcd.monic_by.Statement.{statement}
 use Rattle.base_euclid.proofs.gcd.monic_by.Tie as tie
 
