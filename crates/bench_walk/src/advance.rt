@@ -69,5 +69,14 @@ pub fn run_on(f: Field, n: usize, radicand: Poly, steps: u64) -> Distance
     let mut d = [0u32; 129];
     let mut twice = [0u32; 129];
     prepare(f, n, radicand, &mut inverses, &mut d, &mut twice);
-    advance(f, n, &radicand.c, radicand.size, &inverses, &d, &twice, steps)
+    advance(
+        f,
+        n,
+        &radicand.c,
+        radicand.size,
+        &inverses,
+        &d,
+        &twice,
+        steps,
+    )
 }

@@ -4,8 +4,8 @@ ghost use Rattle.spec_bridge.specs.Prime.{Prime};
 ghost use Rattle.base_polynomial.specs.Whole.{Held};
 use base_field::Field;
 use base_field::field_of;
-use libc::STDOUT_FILENO;
 use base_polynomial::Poly;
+use libc::STDOUT_FILENO;
 
 // n coefficients from a linear congruence that starts at `seed`.
 fn sample(f: Field, seed: u32, n: usize) -> Poly

@@ -44,7 +44,21 @@ fn fill(
 {
     start(m.0, p, x, count);
     start(m.0 + 1, s, y, count);
-    steps(f, n, radicand, size, inverses, d, twice, m, count, p, s, x, y);
+    steps(
+        f,
+        n,
+        radicand,
+        size,
+        inverses,
+        d,
+        twice,
+        m,
+        count,
+        p,
+        s,
+        x,
+        y,
+    );
 }
 
 // The unit, of index m − 1 and degree r: p and s receive its coefficients in their places 0 to r, where x and y end as zero. Later places
@@ -73,7 +87,21 @@ pub fn write_unit(
     ensures { λ _. ⌜ ((b : ℕ) → lists (now (p .exit)) (now (s .exit)) (now (x .exit)) (now (y .exit)) ≡ unitLists (ticket (name f) n (polyAt (now (radicand .entry)) size) b) (r .0) (m .0) (lists (now (p .entry)) (now (s .entry)) (now (x .entry)) (now (y .entry)))) ⌝ }
 {
     let count = r.0 as usize + 1;
-    fill(f, n, radicand, size, inverses, d, twice, m, count, p, s, x, y);
+    fill(
+        f,
+        n,
+        radicand,
+        size,
+        inverses,
+        d,
+        twice,
+        m,
+        count,
+        p,
+        s,
+        x,
+        y,
+    );
     clear(x, count);
     clear(y, count);
 }

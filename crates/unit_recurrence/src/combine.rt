@@ -43,14 +43,7 @@ fn terms(f: Field, a: &[u32; 129], l: usize, from: &[u32], k: usize) -> u32
 }
 
 // The first `count` places of `into` become those of a·from + into, a of l places.
-pub fn combine(
-    f: Field,
-    a: &[u32; 129],
-    l: usize,
-    from: &[u32],
-    into: &mut [u32],
-    count: usize,
-)
+pub fn combine(f: Field, a: &[u32; 129], l: usize, from: &[u32], into: &mut [u32], count: usize)
     requires { ⌜ IsField f ⌝ }
     requires { ⌜ (l ≤ 128) × (count ≤ length (now from)) × (count ≤ length (now into)) ⌝ }
     requires { ⌜ Within (name f) (now a) l ⌝ }

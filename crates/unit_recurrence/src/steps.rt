@@ -39,15 +39,7 @@ pub fn start(t: u64, p: &mut [u32], x: &mut [u32], count: usize)
 }
 
 // With `left` steps to go, a times the last convergent is added to the one before it; a has l places.
-fn fold(
-    f: Field,
-    a: &[u32; 129],
-    l: usize,
-    left: u64,
-    p: &mut [u32],
-    x: &mut [u32],
-    count: usize,
-)
+fn fold(f: Field, a: &[u32; 129], l: usize, left: u64, p: &mut [u32], x: &mut [u32], count: usize)
     requires { ⌜ IsField f ⌝ }
     requires { ⌜ (l ≤ 128) × (count ≤ length (now p)) × (count ≤ length (now x)) ⌝ }
     requires { ⌜ Within (name f) (now a) l ⌝ }
@@ -147,7 +139,30 @@ pub fn steps(
     while at.index.0 < m.0 {
         let left = m.0 - at.index.0;
         let end = at.degree.0 as usize + (top - at.size) + 1;
-        advance(f, inverses, twice, top, &current, at.size, &rest, left, end, p, s, x, y);
-        at = turn(f, inverses, twice, top, &mut before, &mut current, &mut rest, at);
+        advance(
+            f,
+            inverses,
+            twice,
+            top,
+            &current,
+            at.size,
+            &rest,
+            left,
+            end,
+            p,
+            s,
+            x,
+            y,
+        );
+        at = turn(
+            f,
+            inverses,
+            twice,
+            top,
+            &mut before,
+            &mut current,
+            &mut rest,
+            at,
+        );
     }
 }

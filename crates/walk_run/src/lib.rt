@@ -119,5 +119,14 @@ pub fn run(f: Field, n: usize, radicand: Poly, budget: u64) -> Outcome
     let mut d = [0u32; 129];
     let mut twice = [0u32; 129];
     prepare(f, n, radicand, &mut inverses, &mut d, &mut twice);
-    seek(f, n, &radicand.c, radicand.size, &inverses, &d, &twice, budget)
+    seek(
+        f,
+        n,
+        &radicand.c,
+        radicand.size,
+        &inverses,
+        &d,
+        &twice,
+        budget,
+    )
 }

@@ -133,7 +133,10 @@ fn lower(
     let q = f.q;
     let y = below(current, size - 1);
     let h = reduce(f, y * lead_inverse);
-    reduce(f, (twice[size - 1] + (q - rest[size - 1])) * lead_inverse + (q - a1) * h)
+    reduce(
+        f,
+        (twice[size - 1] + (q - rest[size - 1])) * lead_inverse + (q - a1) * h,
+    )
 }
 
 // One step where Q has one coefficient less than twice − rest may have; lead_inverse is the inverse of its leading coefficient.
@@ -157,5 +160,16 @@ pub fn linear(
     a[1] = upper(f, lead_inverse, twice, rest, current, size);
     a[0] = lower(f, lead_inverse, twice, rest, a[1], current, size);
     remainder(f, twice, rest, a[0], a[1], current, size, remains);
-    next(f, twice, before, a[0], a[1], current, size, remains, rest, after);
+    next(
+        f,
+        twice,
+        before,
+        a[0],
+        a[1],
+        current,
+        size,
+        remains,
+        rest,
+        after,
+    );
 }

@@ -55,7 +55,18 @@ pub fn stride(
     requires { ⌜ Going (name f) top (now inverses) (now twice) (now before) (now current) (now rest) at ⌝ }
     ensures { λ to. ⌜ Taken (name f) top (now (twice .entry)) (now (before .entry)) (now (current .entry)) (now (rest .entry)) (now (remains .exit)) (now (after .exit)) at to ⌝ }
 {
-    let size = step(f, inverses, twice, top, before, current, at.size, rest, remains, after);
+    let size = step(
+        f,
+        inverses,
+        twice,
+        top,
+        before,
+        current,
+        at.size,
+        rest,
+        remains,
+        after,
+    );
     Progress {
         index: Index(at.index.0 + 1),
         degree: Distance(at.degree.0 + (top - at.size) as u64),
@@ -81,7 +92,18 @@ pub fn turn(
 {
     let mut remains = [0u32; 129];
     let mut after = [0u32; 129];
-    let to = stride(f, inverses, twice, top, before, current, rest, &mut remains, &mut after, at);
+    let to = stride(
+        f,
+        inverses,
+        twice,
+        top,
+        before,
+        current,
+        rest,
+        &mut remains,
+        &mut after,
+        at,
+    );
     *before = *current;
     *current = after;
     *rest = remains;
