@@ -1,4 +1,5 @@
--- The odd primes below 4,096 as a list: exactly these, rising. All but the length is proved of a list filtered by any test.
+-- The odd primes below 4,096 as a list: exactly these, rising. All but the length is proved of a list
+-- filtered by any test.
 use Prim.Native.Nat.{ℕ, zero, suc, _+_, _≤_, _<_}
 use native.Mathlib.Nat.{le-of-suc-le-suc, not-suc-le-zero, eq-or-lt-of-le}
 use native.Mathlib.Omega.{arith}

@@ -1,4 +1,5 @@
--- The quotient of x by q from c, the quotient of 2³² − 1 by q: k, the upper half of x·c, is x div q or one less. For 2³²·(x − k·q) is q·(lower half) + x·(1 + remainder of 2³² − 1), below 2³²·2q.
+-- The quotient of x by q from c, the quotient of 2³² − 1 by q: k, the upper half of x·c, is x div q or one
+-- less. For 2³²·(x − k·q) is q·(lower half) + x·(1 + remainder of 2³² − 1), below 2³²·2q.
 use Prim.Native.Nat.{ℕ, _+_, _*_, _-_, _/_, _%_, _≤_, _<_, suc}
 use native.Mathlib.Nat.{mod-lt, mod-eq-of-lt, div-add-mod, mul-add-mod-self-left, mul-add, mul-comm, mul-left-comm, mul-le-mul-left, mul-le-mul-right}
 use native.Mathlib.Omega.{arith}

@@ -29,7 +29,8 @@ pub fn field_of(q: u32) -> Field
     }
 }
 
-// x modulo q, by a product with the reciprocal in place of a division: its upper half is the quotient of x by q or one less.
+// x modulo q, by a product with the reciprocal in place of a division: its upper half is the quotient of x by
+// q or one less.
 pub fn reduce(f: Field, x: u32) -> u32
     requires { ⌜ IsField f ⌝ }
     ensures { λ r. ⌜ r ≡ x % f .q ⌝ }

@@ -1,4 +1,5 @@
--- The state of the division's loop with k quotient coefficients to go: below k the dividend, from k on the division of its upper part.
+-- The state of the division's loop with k quotient coefficients to go: below k the dividend, from k on the
+-- division of its upper part.
 -- Places hold numbers that are not reduced; modulo q they are the definition's coefficients.
 use mathlib.Core.Path.{_≡_, sym, ap, ap₂, _∙_, subst}
 use mathlib.Core.List.{List, [], _∷_}

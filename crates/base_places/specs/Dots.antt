@@ -1,4 +1,5 @@
--- A product's coefficients as loops form them: the terms in which a factor is past its places may be left out at both ends.
+-- A product's coefficients as loops form them: the terms in which a factor is past its places may be left out
+-- at both ends.
 use mathlib.Core.Path.{_≡_, ap, _∙_}
 use mathlib.Core.List.{List}
 use mathlib.Core.Logic.{⊎-elim}

@@ -11,7 +11,8 @@ use Rattle.spec_fields.specs.Named.{Ok}
 abbrev pub poly : List ℕ → ℕ → List ℕ
 poly c size = take size c
 
--- a record as every function keeps it: admissible coefficients, zeros from the size on, none at the end before it
+-- a record as every function keeps it: admissible coefficients, zeros from the size on, none at the end
+-- before it
 pub record Held (f : FieldName) (c : List ℕ) (size : ℕ) : Type 0 where
   pub places : c ≡ pad (ops f) 129 (poly c size)
   pub short : size ≤ 129

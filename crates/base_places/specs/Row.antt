@@ -1,4 +1,5 @@
--- What is known of 129 places before they make a record: a bound of the coefficients, zeros from a place on, a multiple added.
+-- What is known of 129 places before they make a record: a bound of the coefficients, zeros from a place on,
+-- a multiple added.
 use mathlib.Core.Path.{_≡_, sym, _∙_}
 use mathlib.Core.List.{List}
 use mathlib.Core.Logic.{⊎-elim}

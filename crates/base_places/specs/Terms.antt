@@ -1,4 +1,5 @@
--- A sum of products that serves for a product's coefficient: it is not reduced, and each of its terms is at most q².
+-- A sum of products that serves for a product's coefficient: it is not reduced, and each of its terms is at
+-- most q².
 use Prim.Native.Nat.{ℕ, _+_, _*_, _%_, _<_, _≤_}
 use native.Mathlib.Nat.{mul-le-mul, mul-le-mul-right}
 use native.Mathlib.Omega.{arith}

@@ -1,4 +1,5 @@
-// Long division in place. Each quotient coefficient clears the dividend's top place; the places below are reduced only where they are read.
+// Long division in place. Each quotient coefficient clears the dividend's top place; the places below are
+// reduced only where they are read.
 ghost use mathlib.Core.Path.{_≡_};
 ghost use Prim.Native.Nat.{ℕ, _+_, _-_, _<_, _≤_, _%_};
 ghost use lib.ListN.{length, getD, take};
@@ -23,8 +24,8 @@ fn add_row(m: u32, x: &mut [u32; 129], y: &[u32; 129], k: usize, n: usize)
     }
 }
 
-// Divides x, of m places, by y, of n places, whose leading coefficient has the inverse u. The quotient's coefficients, as many as are returned,
-// go to z, and what is left in x is the remainder modulo q.
+// Divides x, of m places, by y, of n places, whose leading coefficient has the inverse u. The quotient's
+// coefficients, as many as are returned, go to z, and what is left in x is the remainder modulo q.
 pub fn clear(
     f: Field,
     u: u32,

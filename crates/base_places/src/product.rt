@@ -15,7 +15,8 @@ pub fn excess(a: usize, b: usize) -> usize
     if b <= a { a - b } else { 0 }
 }
 
-// The coefficient at k of x, of m places, times y, of n places, as a sum that is not reduced. 129·4,095² is below 2³².
+// The coefficient at k of x, of m places, times y, of n places, as a sum that is not reduced. 129·4,095² is
+// below 2³².
 pub fn terms(f: Field, x: &[u32; 129], y: &[u32; 129], k: usize, m: usize, n: usize) -> u32
     requires { ⌜ IsField f × (k < 129) × (m ≤ 129) ⌝ }
     requires { ⌜ Within (name f) (now x) m ⌝ }

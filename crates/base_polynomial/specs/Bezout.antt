@@ -1,4 +1,5 @@
--- Bezout's factors as records: they fit, by their lengths, and each turn of the recursion is a rule of the definition.
+-- Bezout's factors as records: they fit, by their lengths, and each turn of the recursion is a rule of the
+-- definition.
 use mathlib.Core.Path.{_≡_, sym, ap, ap₂, _∙_, subst}
 use mathlib.Core.Logic.{⊎-elim}
 use mathlib.Core.List.{List, [], _∷_}

@@ -1,4 +1,5 @@
--- From the places that a long division leaves to the quotient and the remainder of the definitions, for a prime q and a divisor that is not 0.
+-- From the places that a long division leaves to the quotient and the remainder of the definitions, for a
+-- prime q and a divisor that is not 0.
 use mathlib.Core.Path.{_≡_, sym, ap, ap₂, _∙_, subst}
 use mathlib.Core.List.{List, []}
 use Prim.Native.Nat.{ℕ, _+_, _-_, _%_, _<_, _≤_}

@@ -1,4 +1,5 @@
--- The rules of the greatest common divisor and of its factors, as the recursion reads them: by the size of the second record.
+-- The rules of the greatest common divisor and of its factors, as the recursion reads them: by the size of
+-- the second record.
 use mathlib.Core.Path.{_≡_, _∙_}
 use mathlib.Core.List.{List}
 use Prim.Native.Nat.{ℕ, _<_}

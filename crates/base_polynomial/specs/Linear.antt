@@ -1,4 +1,5 @@
--- From places to polynomials: an array with the coefficients of a trimmed, reduced list, and its size, is the record of that list.
+-- From places to polynomials: an array with the coefficients of a trimmed, reduced list, and its size, is the
+-- record of that list.
 -- So each sum, difference and multiple that is formed place by place is the definition's.
 use Prim.Native.Nat.{ℕ, zero, suc, _+_, _-_, _*_, _%_, _<_, _≤_}
 use native.Mathlib.Nat.{add-comm, zero-mul, suc-mul, zero-mod, add-mod-mod}

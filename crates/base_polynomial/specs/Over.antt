@@ -1,4 +1,5 @@
--- A whole record over a field's name, for lemmas: that it is held, the polynomial that it stands for, and what a caller keeps of each operation's result.
+-- A whole record over a field's name, for lemmas: that it is held, the polynomial that it stands for, and
+-- what a caller keeps of each operation's result.
 use mathlib.Core.Path.{_≡_, refl, ap, _∙_}
 use mathlib.Core.List.{List, [], _∷_}
 use Prim.Native.Nat.{ℕ, zero, suc, _+_, _-_, _<_, _≤_}

@@ -1,4 +1,5 @@
--- What a caller keeps of a result: it is held, and its polynomial is the definition's. By the laws of trimmed lists and their lengths.
+-- What a caller keeps of a result: it is held, and its polynomial is the definition's. By the laws of trimmed
+-- lists and their lengths.
 use Prim.Native.Nat.{ℕ, _+_, _-_, _<_, _≤_}
 use native.Mathlib.Omega.{arith}
 use mathlib.Core.Path.{_≡_, sym, ap, _∙_}

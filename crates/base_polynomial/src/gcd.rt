@@ -15,7 +15,8 @@ use crate::product::mul;
 use base_field::Field;
 use base_places::linear::top;
 
-// The greatest common divisor of a and b is that of b and the remainder of a by b; it is a made monic where b is 0.
+// The greatest common divisor of a and b is that of b and the remainder of a by b; it is a made monic where b
+// is 0.
 pub fn gcd(f: Field, a: Poly, b: Poly) -> Poly
     requires { ⌜ IsField f ⌝ }
     requires { ⌜ Held f a ⌝ }

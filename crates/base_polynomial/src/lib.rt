@@ -5,7 +5,8 @@ pub mod linear;
 pub mod product;
 
 // A polynomial: its coefficients, constant term first.
-// Invariant (`Held`): the coefficients are below q, they are 0 from `size` on, and the one before that place is not 0.
+// Invariant (`Held`): the coefficients are below q, they are 0 from `size` on, and the one before that place
+// is not 0.
 pub struct Poly {
     pub c: [u32; 129],
     pub size: usize,

@@ -3,11 +3,11 @@
 pub mod turns;
 
 ghost use mathlib.Core.Path.{_≡_};
-ghost use Rattle.call_product.specs.Products.{pairOf};
+ghost use Rattle.ideal_pair.specs.Pair.{pairOf};
 ghost use Rattle.bench_ideals.specs.Turns.{productTurns, giantTurns};
 use crate::turns::giants;
 use crate::turns::products;
-use call_product::both;
+use ideal_pair::operand::both;
 use ideal_pair::operand::pair;
 use ticket_read::read_ticket;
 

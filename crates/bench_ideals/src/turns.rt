@@ -3,11 +3,11 @@
 ghost use mathlib.Core.Path.{_≡_};
 ghost use Prim.Native.Nat.{_≤_};
 ghost use lib.ListN.{length};
-ghost use Rattle.spec_definitions.specs.Ticket.{genus};
+ghost use Rattle.spec_definitions.specs.Ticket.{ticket, genus};
 ghost use Rattle.spec_definitions.specs.Products.{productDone, giantDone};
 ghost use Rattle.spec_laws.specs.Admitted.{Admitted};
 ghost use Rattle.base_polynomial.specs.Whole.{poly, Held};
-ghost use Rattle.walk_run.specs.Outcome.{ticket};
+ghost use Rattle.base_field.specs.Named.{name, IsField};
 ghost use Rattle.ideal_product.specs.Operand.{heldPair, Operand};
 ghost use Rattle.bench_ideals.specs.Turns.{made};
 use base_counters::Distance;
@@ -19,10 +19,10 @@ use ticket_read::Ticket;
 
 // The size of the product's P, or 0 for no turns.
 pub fn products(t: Ticket, x: Pair, y: Pair, times: u64) -> u64
-    requires { ⌜ Admitted (t .field .q) (genus (t .n)) (poly (t .radicand)) × Held (t .field) (t .radicand) ⌝ }
-    requires { ⌜ Operand (t .field .q) (genus (t .n)) (poly (t .radicand)) (x .q .c) (x .q .size) (x .p .c) (x .p .size) ⌝ }
-    requires { ⌜ Operand (t .field .q) (genus (t .n)) (poly (t .radicand)) (y .q .c) (y .q .size) (y .p .c) (y .p .size) ⌝ }
-    ensures { λ r. ⌜ r ≡ made times (length (productDone (ticket (t .field .q) (t .n) (poly (t .radicand)) (t .budget)) (heldPair (x .q .c) (x .q .size) (x .p .c) (x .p .size)) (heldPair (y .q .c) (y .q .size) (y .p .c) (y .p .size)) .p)) ⌝ }
+    requires { ⌜ IsField (t .field) × Admitted (name (t .field)) (genus (t .n)) (poly (t .radicand)) × Held (t .field) (t .radicand) ⌝ }
+    requires { ⌜ Operand (name (t .field)) (genus (t .n)) (poly (t .radicand)) (x .q) (x .p) ⌝ }
+    requires { ⌜ Operand (name (t .field)) (genus (t .n)) (poly (t .radicand)) (y .q) (y .p) ⌝ }
+    ensures { λ r. ⌜ r ≡ made times (length (productDone (ticket (name (t .field)) (t .n) (poly (t .radicand)) (t .budget)) (heldPair (x .q) (x .p)) (heldPair (y .q) (y .p)) .p)) ⌝ }
 {
     let mut last: usize = 0;
     let mut i: u64 = 0;
@@ -36,10 +36,10 @@ pub fn products(t: Ticket, x: Pair, y: Pair, times: u64) -> u64
 
 // The size of the giant step's P, or 0 for no turns.
 pub fn giants(t: Ticket, x: Pair, y: Pair, times: u64) -> u64
-    requires { ⌜ Admitted (t .field .q) (genus (t .n)) (poly (t .radicand)) × Held (t .field) (t .radicand) × (2 ≤ t .n) ⌝ }
-    requires { ⌜ Operand (t .field .q) (genus (t .n)) (poly (t .radicand)) (x .q .c) (x .q .size) (x .p .c) (x .p .size) ⌝ }
-    requires { ⌜ Operand (t .field .q) (genus (t .n)) (poly (t .radicand)) (y .q .c) (y .q .size) (y .p .c) (y .p .size) ⌝ }
-    ensures { λ r. ⌜ r ≡ made times (length (giantDone (ticket (t .field .q) (t .n) (poly (t .radicand)) (t .budget)) (heldPair (x .q .c) (x .q .size) (x .p .c) (x .p .size)) 0 (heldPair (y .q .c) (y .q .size) (y .p .c) (y .p .size)) 0 .p)) ⌝ }
+    requires { ⌜ IsField (t .field) × Admitted (name (t .field)) (genus (t .n)) (poly (t .radicand)) × Held (t .field) (t .radicand) × (2 ≤ t .n) ⌝ }
+    requires { ⌜ Operand (name (t .field)) (genus (t .n)) (poly (t .radicand)) (x .q) (x .p) ⌝ }
+    requires { ⌜ Operand (name (t .field)) (genus (t .n)) (poly (t .radicand)) (y .q) (y .p) ⌝ }
+    ensures { λ r. ⌜ r ≡ made times (length (giantDone (ticket (name (t .field)) (t .n) (poly (t .radicand)) (t .budget)) (heldPair (x .q) (x .p)) 0 (heldPair (y .q) (y .p)) 0 .p)) ⌝ }
 {
     let d = root_of(t.field, t.n, t.radicand);
     let mut last: usize = 0;

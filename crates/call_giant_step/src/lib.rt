@@ -24,7 +24,8 @@ use ticket_read::read_ticket;
 // The largest distance that a giant step takes: 2⁴⁰.
 const FARTHEST: u64 = 1099511627776;
 
-// Invariant (`GiantStepSays`): the number of words handed in, the number of a refusal or 0, the reduced ideal, f and the distance: zero in a refusal.
+// Invariant (`GiantStepSays`): the number of words handed in, the number of a refusal or 0, the reduced
+// ideal, f and the distance: zero in a refusal.
 pub struct GiantStepAnswer {
     pub words: u64,
     pub number: u32,
@@ -85,7 +86,8 @@ fn stepped(words: u64, t: Ticket, x: Pair, d1: Distance, y: Pair, d2: Distance) 
     }
 }
 
-// The giant step of two ideals for a ticket of any words and any length; the pairs are lists of any words and any length. The ticket's budget has no effect.
+// The giant step of two ideals for a ticket of any words and any length; the pairs are lists of any words and
+// any length. The ticket's budget has no effect.
 pub fn giant_step(
     ticket: &[u32],
     q1: &[u32],

@@ -1,4 +1,5 @@
--- The kinds of a record's words, place by place: they are a list of n + 4 numbers, and the test of a whole record is the test of each place.
+-- The kinds of a record's words, place by place: they are a list of n + 4 numbers, and the test of a whole
+-- record is the test of each place.
 use Prim.Native.Nat.{ℕ, zero, suc, _+_, _-_, _/_, _%_, _<_, _≤_}
 use native.Mathlib.Omega.{arith}
 use mathlib.Core.Path.{_≡_, refl, sym, ap, ap₂, _∙_}

@@ -1,4 +1,5 @@
--- The two passes over a listing, record by record from the first on: the kinds of every record, and the distances of every two neighbours.
+-- The two passes over a listing, record by record from the first on: the kinds of every record, and the
+-- distances of every two neighbours.
 use Prim.Native.Nat.{ℕ, suc, _+_, _*_, _-_, _<_, _≤_}
 use native.Mathlib.Omega.{arith}
 use mathlib.Core.Path.{_≡_, sym, ap, ap₂, _∙_, subst}

@@ -1,4 +1,5 @@
--- A list of whole records: word offsets as multiples of a record's size, and the count of records by the length.
+-- A list of whole records: word offsets as multiples of a record's size, and the count of records by the
+-- length.
 use Prim.Native.Nat.{ℕ, zero, suc, _+_, _*_, _-_, _/_, _%_, _<_, _≤_}
 use native.Mathlib.Nat.{div-add-mod', suc-mul, zero-mul, add-zero, add-suc, mul-le-mul-right, lt-of-mul-lt-mul-right, eq-of-mul-eq-mul-right}
 use native.Mathlib.Omega.{arith}

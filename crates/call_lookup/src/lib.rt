@@ -126,7 +126,8 @@ fn listing_ok(list: &[u32], n: u64) -> bool
     rising(list, degree)
 }
 
-// Where the last record with distance at most y starts, in words: from the end down, to the first record at 0.
+// Where the last record with distance at most y starts, in words: from the end down, to the first record at
+// 0.
 fn last_within(list: &[u32], n: usize, y: Distance) -> usize
     requires { ⌜ Records (now list) n ⌝ }
     ensures { λ r. ⌜ r ≡ lastWithin (now (list .entry)) n (y .0) (recordCount (now (list .entry)) n - 1) * (n + 4) ⌝ }
@@ -148,7 +149,8 @@ pub struct Part {
     pub length: usize,
 }
 
-// Where the record of the listing with the largest distance at most y stands. Refusal 8 is the empty part at the list's start.
+// Where the record of the listing with the largest distance at most y stands. Refusal 8 is the empty part at
+// the list's start.
 pub fn place(list: &[u32], n: u64, y: Distance) -> Part
     ensures offset { λ r. ⌜ r .offset ≡ placeOf (now (list .entry)) n (y .0) ⌝ }
     ensures length { λ r. ⌜ r .length ≡ length (lookupOf (now (list .entry)) n (y .0)) ⌝ }
@@ -165,7 +167,8 @@ pub fn place(list: &[u32], n: u64, y: Distance) -> Part
     Part { offset, length }
 }
 
-// The record itself, as a part of the caller's list; the list is the listing's words alone, with nothing after them.
+// The record itself, as a part of the caller's list; the list is the listing's words alone, with nothing
+// after them.
 pub fn lookup<'a>(list: &'a [u32], n: u64, y: Distance) -> &'a [u32]
     ensures content { λ r. ⌜ now r ≡ lookupOf (now (list .entry)) n (y .0) ⌝ }
     ensures block { λ r. ⌜ r .ptr .0 ≡ list .entry .ptr .0 ⌝ }

@@ -12,6 +12,7 @@ use Rattle.base_polynomial.specs.declared.Poly.{Poly}
 use Rattle.base_polynomial.specs.Over.{Holds, holds}
 use Rattle.ideal_product.specs.declared.Product.{Product}
 use Rattle.ideal_product.specs.Product.{Multiplied}
+pub use Rattle.ideal_pair.specs.Pair.{pairOf}
 use Rattle.call_product.specs.declared.ProductAnswer.{ProductAnswer as Given}
 
 -- r is the answer a

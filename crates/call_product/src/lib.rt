@@ -10,7 +10,8 @@ use ideal_pair::operand::both;
 use ideal_pair::operand::pair;
 use ticket_read::read_ticket;
 
-// Invariant (`ProductSays`): the number of words handed in, the number of a refusal or 0, and S, Q, P: zero in a refusal.
+// Invariant (`ProductSays`): the number of words handed in, the number of a refusal or 0, and S, Q, P: zero
+// in a refusal.
 pub struct ProductAnswer {
     pub words: u64,
     pub number: u32,
@@ -34,7 +35,8 @@ fn refused(words: u64, number: u32) -> ProductAnswer
     }
 }
 
-// The product of two ideals for a ticket of any words and any length; the pairs are lists of any words and any length. The ticket's budget has no effect.
+// The product of two ideals for a ticket of any words and any length; the pairs are lists of any words and
+// any length. The ticket's budget has no effect.
 pub fn product(ticket: &[u32], q1: &[u32], p1: &[u32], q2: &[u32], p2: &[u32]) -> ProductAnswer
     ensures words { λ r. ⌜ r .words ≡ length (now (ticket .entry)) ⌝ }
     ensures says { λ r. ⌜ ProductSays r (productAnswer (now (ticket .entry)) (pairOf (now (q1 .entry)) (now (p1 .entry))) (pairOf (now (q2 .entry)) (now (p2 .entry)))) ⌝ }

@@ -1,4 +1,5 @@
--- The outcome of a ticket's words, by whether they are refused, and what T3 says of an outcome that is said as the definitions say it.
+-- The outcome of a ticket's words, by whether they are refused, and what T3 says of an outcome that is said
+-- as the definitions say it.
 use Prim.Native.Nat.{ℕ, zero, suc}
 use native.Mathlib.Omega.{arith}
 use mathlib.Core.Path.{_≡_, refl, sym, ap, _∙_, subst}

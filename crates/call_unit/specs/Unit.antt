@@ -7,13 +7,30 @@ use mathlib.Core.List.{List}
 use lib.Dec.{leb}
 use lib.ListN.{length}
 use borrow.Author.Tests.{leb-true, le-leb, lt-leb}
-use Rattle.spec_definitions.specs.Ticket.{Ticket, ticketOf}
+use Rattle.spec_definitions.specs.Words.{values}
+use Rattle.spec_definitions.specs.Ticket.{Ticket, genus, ticketOf}
 use Rattle.spec_definitions.specs.Answers.{Outcome, found, spent, refused, said, wordsOutcome}
 use Rattle.spec_definitions.specs.Units.{Lists, UnitAnswer, longEnough, unitLists, unitFrom, unitAnswer}
+use Rattle.spec_laws.specs.Admitted.{Admitted}
 use Rattle.spec_laws.specs.PairTest.{both-true}
+use Rattle.base_field.specs.Named.{IsField, name}
+use Rattle.base_polynomial.specs.Whole.{poly, Held}
+use Rattle.ticket_read.specs.declared.Ticket.{Ticket as Said}
+use Rattle.ticket_read.specs.Accepted.{Accepted}
 use Rattle.unit_recurrence.specs.Pairs.{Room}
 use Rattle.unit_lists.specs.Lists.{lists}
 use Rattle.spec_demands.specs.LeastAnswers.{LeastWritten, t3-written}
+
+-- what a ticket that is not refused gives the walk
+pub record Readable (t : Said) : Type 0 where
+  pub is-field : IsField (t .field)
+  pub admitted : Admitted (name (t .field)) (genus (t .n)) (poly (t .radicand))
+  pub held : Held (t .field) (t .radicand)
+  pub even : suc (genus (t .n)) + suc (genus (t .n)) ≡ t .n
+  pub budget : t .budget < values
+
+pub readable : {w : List ℕ} {t : Said} → Accepted w t → Readable t
+readable a = record { is-field = a .is-field; admitted = a .radicand; held = a .held; even = a .half; budget = a .budget }
 
 -- what a call says and leaves in its lists is the answer a
 pub record Answers (a : UnitAnswer) (x : Outcome) (l : Lists) : Type 0 where
@@ -41,6 +58,10 @@ kept t (refused j) l h = record { says = refl; lists-are = refl }
 
 pub kept-refused : (t : Ticket) (j : ℕ) (l : Lists) → Answers (unitFrom t (refused j) l) (refused j) l
 kept-refused t j l = kept t (refused j) l (λ R m c e. let v : _≡_ {A = ℕ} 0 1 = cc in omega arith)
+
+-- the outcome goes by its meaning
+pub from-outcome : (t : Ticket) (l : Lists) (x y z : Outcome) {out : Lists} → x ≡ z → Answers (unitFrom t x l) y out → Answers (unitFrom t z l) y out
+from-outcome t l x y z {out} e a = subst (λ (o : Outcome). Answers (unitFrom t o l) y out) e a
 
 module _ (w : List ℕ) (l : Lists) where
   pub words-answer : (t : Ticket) (x y : Outcome) (out : Lists) → ticketOf w ≡ t → x ≡ wordsOutcome w → Answers (unitFrom t x l) y out → Answers (unitAnswer w l) y out

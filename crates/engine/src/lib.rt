@@ -1,4 +1,5 @@
-// The public calls, each from a crate of its own. None relies on its caller: every list of words has its answer, and every lent list is said at exit.
+// The public calls, each from a crate of its own. None relies on its caller: every list of words has its
+// answer, and every lent list is said at exit.
 pub use base_counters::Distance;
 pub use base_counters::Index;
 pub use base_polynomial::Poly;

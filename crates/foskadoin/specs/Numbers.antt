@@ -1,4 +1,5 @@
--- What is said, as plain numbers: the paper's number and its values, with 0 for each value that an outcome does not have.
+-- What is said, as plain numbers: the paper's number and its values, with 0 for each value that an outcome
+-- does not have.
 use Prim.Native.Nat.{ℕ}
 use mathlib.Core.Path.{_≡_, refl, subst}
 use lib.ListN.{getD}

@@ -1,4 +1,5 @@
-// The calls for C and Rust: lists are a pointer and a length, answers are plain numbers. None relies on its caller.
+// The calls for C and Rust: lists are a pointer and a length, answers are plain numbers. None relies on its
+// caller.
 pub mod pairs;
 
 ghost use mathlib.Core.Path.{_≡_};
@@ -18,7 +19,8 @@ use engine::regulator;
 use engine::unit::unit;
 use walk_run::Outcome;
 
-// The number of words handed in, the paper's number of the outcome and its values: found 0, R, m, c; spent 11, k, e, 0; refused j, 0, 0, 0.
+// The number of words handed in, the paper's number of the outcome and its values: found 0, R, m, c; spent
+// 11, k, e, 0; refused j, 0, 0, 0.
 #[repr(C)]
 pub struct Numbers {
     pub words: u64,
@@ -109,7 +111,8 @@ pub extern "C" fn foskadoin_listing(ticket: &[u32], out: &mut [u32]) -> Numbers
     as_numbers(a.words, outcome)
 }
 
-// Where in the list the record with the largest distance at most y stands: refusal 8 is the empty part at the list's start.
+// Where in the list the record with the largest distance at most y stands: refusal 8 is the empty part at the
+// list's start.
 #[no_mangle]
 pub extern "C" fn foskadoin_lookup(list: &[u32], n: u64, y: u64) -> Part
     ensures offset { λ r. ⌜ r .offset ≡ placeOf (now (list .entry)) n y ⌝ }

@@ -1,15 +1,17 @@
-// The calls `product` and `giant_step`: their polynomials go into lent arrays of 129 numbers, with their sizes in the answer.
+// The calls `product` and `giant_step`: their polynomials go into lent arrays of 129 numbers, with their
+// sizes in the answer.
 ghost use mathlib.Core.Path.{_≡_};
 ghost use lib.ListN.{length};
-ghost use Rattle.spec_definitions.specs.Ticket.{ticketOf};
 ghost use Rattle.spec_definitions.specs.Products.{productAnswer, giantAnswer};
 ghost use Rattle.call_product.specs.Products.{ProductSays, pairOf};
-ghost use Rattle.call_giant_step.specs.GiantSteps.{GiantSays};
+ghost use Rattle.call_giant_step.specs.GiantSteps.{GiantStepSays};
+ghost use Rattle.foskadoin.specs.Lent.{productIn, giantStepIn};
 use base_counters::Distance;
 use engine::giant_step::giant_step;
 use engine::product::product;
 
-// The number of words handed in, the number of a refusal or 0, and the sizes of S, Q and P: the degree + 1, or 0 for the zero polynomial.
+// The number of words handed in, the number of a refusal or 0, and the sizes of S, Q and P: the degree + 1,
+// or 0 for the zero polynomial.
 #[repr(C)]
 pub struct ProductNumbers {
     pub words: u64,
@@ -43,7 +45,7 @@ pub extern "C" fn foskadoin_product(
     p: &mut [u32; 129],
 ) -> ProductNumbers
     ensures words { λ r. ⌜ r .words ≡ length (now (ticket .entry)) ⌝ }
-    ensures says { λ r. ⌜ ProductSays (ticketOf (now (ticket .entry)) .q) (productAnswer (now (ticket .entry)) (pairOf (now (q1 .entry)) (now (p1 .entry))) (pairOf (now (q2 .entry)) (now (p2 .entry)))) (r .number) (now (s .exit)) (r .«s_size») (now (q .exit)) (r .«q_size») (now (p .exit)) (r .«p_size») ⌝ }
+    ensures says { λ r. ⌜ ProductSays (productIn r (now (s .exit)) (now (q .exit)) (now (p .exit))) (productAnswer (now (ticket .entry)) (pairOf (now (q1 .entry)) (now (p1 .entry))) (pairOf (now (q2 .entry)) (now (p2 .entry)))) ⌝ }
 {
     let a = product(ticket, q1, p1, q2, p2);
     let x = a.s;
@@ -78,7 +80,7 @@ pub extern "C" fn foskadoin_giant_step(
     p: &mut [u32; 129],
 ) -> GiantStepNumbers
     ensures words { λ r. ⌜ r .words ≡ length (now (ticket .entry)) ⌝ }
-    ensures says { λ r. ⌜ GiantSays (ticketOf (now (ticket .entry)) .q) (giantAnswer (now (ticket .entry)) (pairOf (now (q1 .entry)) (now (p1 .entry))) d1 (pairOf (now (q2 .entry)) (now (p2 .entry))) d2) (r .number) (now (q .exit)) (r .«q_size») (now (p .exit)) (r .«p_size») (r .f) (r .distance) ⌝ }
+    ensures says { λ r. ⌜ GiantStepSays (giantStepIn r (now (q .exit)) (now (p .exit))) (giantAnswer (now (ticket .entry)) (pairOf (now (q1 .entry)) (now (p1 .entry))) d1 (pairOf (now (q2 .entry)) (now (p2 .entry))) d2) ⌝ }
 {
     let a = giant_step(ticket, q1, p1, Distance(d1), q2, p2, Distance(d2));
     let y = a.q;

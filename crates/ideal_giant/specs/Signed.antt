@@ -1,4 +1,5 @@
--- Differences of numbers up to 2^41 as signed numbers of 64 bits: they fit, and the machine's difference is theirs.
+-- Differences of numbers up to 2^41 as signed numbers of 64 bits: they fit, and the machine's difference is
+-- theirs.
 use Prim.Native.Nat.{ℕ, zero, suc, _-_, _≤_}
 use native.Mathlib.Omega.{arith}
 use mathlib.Core.Path.{_≡_, sym, ap₂, _∙_, subst₂}

@@ -1,4 +1,5 @@
--- The giant step: the product is where the reduction starts, and the reduced pair, f and the distance are the definition's.
+-- The giant step: the product is where the reduction starts, and the reduced pair, f and the distance are the
+-- definition's.
 use Prim.Native.Nat.{ℕ, suc, _+_, _-_, _≤_, _<_}
 use native.Mathlib.Omega.{arith}
 use mathlib.Core.Path.{_≡_, sym, ap, ap₂, _∙_, subst}

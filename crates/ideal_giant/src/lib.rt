@@ -1,4 +1,5 @@
-// The giant step: the product of two ideals, reduced by steps of the walk, with the distance that it comes to.
+// The giant step: the product of two ideals, reduced by steps of the walk, with the distance that it comes
+// to.
 pub mod step;
 
 use base_polynomial::Poly;

@@ -35,7 +35,8 @@ fn lower(q: usize, s: usize, last: usize, sum: u64) -> u64
     (q - last + s - 1) as u64 - sum
 }
 
-// The giant step of two ideals of degree at most g = n/2 − 1, with their distances. D is the radicand, of degree n, and d its root.
+// The giant step of two ideals of degree at most g = n/2 − 1, with their distances. D is the radicand, of
+// degree n, and d its root.
 pub fn giant(
     f: Field,
     n: usize,

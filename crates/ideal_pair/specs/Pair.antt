@@ -1,4 +1,5 @@
--- The test of refusal 9 in two parts: the words alone, and their polynomials, which may be trimmed. What a pair that was tested says.
+-- The test of refusal 9 in two parts: the words alone, and their polynomials, which may be trimmed. What a
+-- pair that was tested says.
 use Prim.Native.Nat.{ℕ, suc, _-_ as _-ₙ_, _≤_, _<_}
 use native.Mathlib.Omega.{arith}
 use mathlib.Core.Path.{_≡_, refl, sym, ap, ap₂, _∙_, subst}

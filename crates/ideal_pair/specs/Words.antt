@@ -1,4 +1,5 @@
--- Two pairs of words that were tested: whether refusal 9 applies, and that the product of their polynomials is that of the words.
+-- Two pairs of words that were tested: whether refusal 9 applies, and that the product of their polynomials
+-- is that of the words.
 use Prim.Native.Nat.{ℕ}
 use native.Mathlib.Omega.{arith}
 use mathlib.Core.Path.{_≡_, sym, _∙_, subst}

@@ -1,4 +1,5 @@
-// A pair as it is handed in: words of any number and any values, tested by refusal 9 and read as two polynomials.
+// A pair as it is handed in: words of any number and any values, tested by refusal 9 and read as two
+// polynomials.
 ghost use mathlib.Core.Path.{_≡_};
 ghost use mathlib.Core.Bool.{false, _&&_};
 ghost use Prim.Native.Nat.{_≤_};
@@ -90,7 +91,8 @@ fn is_ideal(f: Field, radicand: Poly, q: Poly, p: Poly) -> bool
     r.size == 0
 }
 
-// The pair of the words, where it passes the test of refusal 9; else it is not `ok`, and its polynomials are 0. D is the radicand, of degree n.
+// The pair of the words, where it passes the test of refusal 9; else it is not `ok`, and its polynomials are
+// 0. D is the radicand, of degree n.
 pub fn pair(f: Field, n: usize, radicand: Poly, q: &[u32], p: &[u32]) -> Pair
     requires { ⌜ IsField f × Admitted (name f) (genus n) (poly radicand) × Held f radicand × (2 ≤ n) ⌝ }
     ensures { λ r. ⌜ Paired (name f) n (poly radicand) (now (q .entry)) (now (p .entry)) r ⌝ }

@@ -1,4 +1,5 @@
--- What a product asks of each of its two pairs of polynomials: they stand for a pair that passes the test of refusal 9. So they are held, and are an ideal of degree at most g.
+-- What a product asks of each of its two pairs of polynomials: they stand for a pair that passes the test of
+-- refusal 9. So they are held, and are an ideal of degree at most g.
 use Prim.Native.Nat.{ℕ, suc, _≤_}
 use native.Mathlib.Omega.{arith}
 use mathlib.Core.Path.{_≡_, sym, ap₂, subst}

@@ -1,4 +1,5 @@
--- The product of two operands: each result is held, by the lengths of the product's lists, and is the definition's.
+-- The product of two operands: each result is held, by the lengths of the product's lists, and is the
+-- definition's.
 use Prim.Native.Nat.{ℕ, suc, _+_, _≤_, _<_}
 use native.Mathlib.Omega.{arith}
 use mathlib.Core.Path.{_≡_, sym, ap, ap₂, _∙_, subst}

@@ -4,7 +4,7 @@ use native.Mathlib.Omega.{arith}
 use mathlib.Core.Path.{_≡_, ap, ap₂, _∙_}
 use mathlib.Core.List.{List, _∷_, _++_, map}
 use lib.ListN.{length, length-append, length-map}
-use Rattle.spec_definitions.specs.Field.{Ops, modulo}
+use Rattle.spec_definitions.specs.Field.{Ops, FieldName, prime, ops, modulo}
 use Rattle.spec_definitions.specs.Polynomials.{pad, sub, rem, monic}
 use Rattle.spec_definitions.specs.Words.{word, high, low}
 use Rattle.spec_definitions.specs.Ticket.{genus}
@@ -13,9 +13,9 @@ use Rattle.base_polynomial.specs.Record.{poly}
 use Rattle.base_polynomial.specs.Pad.{length-pad, pad-pad}
 use Rattle.listing_record.specs.Stored.{stored}
 
--- the words of a record from arrays: Q, the first `size` places of b, and P = d − r
-unfoldable pub recordFrom : ℕ → ℕ → ℕ → ℕ → ℕ → List ℕ → List ℕ → List ℕ → ℕ → List ℕ
-recordFrom q n R index distance d r b size = recordWords (modulo q) n (R - distance) (record { index = index; distance = distance; ideal = idealOf (modulo q) (record { q = poly b size; p = sub (modulo q) d r }) })
+-- the words of a record from arrays: Q, the first `size` places of `current`, and P = d − rest
+unfoldable pub recordFrom : FieldName → ℕ → ℕ → ℕ → ℕ → List ℕ → List ℕ → List ℕ → ℕ → List ℕ
+recordFrom f n R index distance d rest current size = recordWords (ops f) n (R - distance) (record { index = index; distance = distance; ideal = idealOf (ops f) (record { q = poly current size; p = sub (ops f) d rest }) })
 
 pub length-record : (o : Ops ℕ) (n mirror : ℕ) (e : Entry) → suc (genus n) + suc (genus n) ≡ n → length (recordWords o n mirror e) ≡ n + 4
 unfolding recordWords
@@ -41,6 +41,6 @@ record-pad o n mirror e x y h ex ey =
     (ap (pad o (suc (n / 2 - 1))) ex ∙ pad-pad o (suc (n / 2 - 1)) 129 (e .ideal .q) (omega arith)) (ap (pad o (n / 2 - 1)) ey ∙ pad-pad o (n / 2 - 1) 129 (e .ideal .p) (omega arith))
 
 pub record-written : (q n R index distance : ℕ) (d r b : List ℕ) (size : ℕ) (x y l out : List ℕ) (at : ℕ) → n ≤ 64 → x ≡ pad (modulo q) 129 (monic (modulo q) (poly b size)) → y ≡ pad (modulo q) 129 (rem (modulo q) (sub (modulo q) d r) (monic (modulo q) (poly b size)))
-    → l ≡ stored out at (recordWords (modulo q) n (R - distance) (record { index = index; distance = distance; ideal = record { q = x; p = y } })) → l ≡ stored out at (recordFrom q n R index distance d r b size)
+    → l ≡ stored out at (recordWords (modulo q) n (R - distance) (record { index = index; distance = distance; ideal = record { q = x; p = y } })) → l ≡ stored out at (recordFrom (prime q) n R index distance d r b size)
 unfolding recordFrom idealOf
 record-written q n R index distance d r b size x y l out at h ex ey e = e ∙ ap (stored out at) (record-pad (modulo q) n (R - distance) _ x y h ex ey)

@@ -5,7 +5,7 @@ use mathlib.Core.Path.{_≡_, sym, ap, ap₂, _∙_, subst}
 use mathlib.Core.List.{List}
 use lib.ListN.{length, getD}
 use Rattle.math_ring.specs.Residues.{FqRing}
-use Rattle.spec_definitions.specs.Field.{modulo}
+use Rattle.spec_definitions.specs.Field.{prime, modulo}
 use Rattle.spec_definitions.specs.Polynomials.{trim, sub, rem, monic}
 use Rattle.spec_bridge.specs.Arithmetic.{at-sub, trim-sub, oks-sub}
 use Rattle.spec_bridge.specs.Monic.{trim-monic, length-monic}
@@ -21,7 +21,7 @@ use Rattle.base_polynomial.specs.Result.{Result, result, result-monic, held-siz
 
 module _ (q : ℕ) (pos : 0 < q) (x y z : List ℕ) (k : ℕ) where
   -- the difference of places that are 0 from k on
-  pub past-places : Places z (λ i. modulo q .sub (getD x i 0) (getD y i 0)) → Within q x k → Within q y k → (i : ℕ) → k ≤ i → getD z i 0 ≡ 0
+  pub past-places : Places z (λ i. modulo q .sub (getD x i 0) (getD y i 0)) → Within (prime q) x k → Within (prime q) y k → (i : ℕ) → k ≤ i → getD z i 0 ≡ 0
   past-places p a b i h = p .at i ∙ sub-zeros q pos (a .past i h) (b .past i h)
 
   pub result-places : Places z (λ i. modulo q .sub (getD x i 0) (getD y i 0)) → Top z k → Result q z k (sub (modulo q) x y)
@@ -32,7 +32,7 @@ module _ (q : ℕ) (pos : 0 < q) (x y z : List ℕ) (k : ℕ) where
       let s = t .short in
       result q z k l e (omega arith) (trim-sub (model q pos) x y) (oks-sub (model q pos) x y)
 
-module _ (q : ℕ) (b : List ℕ) (size : ℕ) (held : Held q b size) (c : List ℕ) (k : ℕ) (is : Is q c k (monic (modulo q) (poly b size))) where
+module _ (q : ℕ) (b : List ℕ) (size : ℕ) (held : Held (prime q) b size) (c : List ℕ) (k : ℕ) (is : Is (prime q) c k (monic (modulo q) (poly b size))) where
   pub monic-result : Result q c k (monic (modulo q) (poly b size))
   monic-result = result-monic q b size held c k is
 
@@ -40,11 +40,11 @@ module _ (q : ℕ) (b : List ℕ) (size : ℕ) (held : Held q b size) (c : List 
   pub monic-size : Prime q → k ≡ size
   monic-size p = is .size-is ∙ length-monic (model q (held-positive q b size held)) (inverts q (held-positive q b size held) p) (poly b size) ∙ held-size q b size held
 
-  pub remainder-is : (z : List ℕ) (n : ℕ) (l r : List ℕ) (m : ℕ) → Result q z n l → Is q r m (rem (modulo q) (poly z n) (poly c k)) → Is q r m (rem (modulo q) l (monic (modulo q) (poly b size)))
-  remainder-is z n l r m e h = subst (Is q r m) (ap₂ (rem (modulo q)) (e .is) (monic-result .is)) h
+  pub remainder-is : (z : List ℕ) (n : ℕ) (l r : List ℕ) (m : ℕ) → Result q z n l → Is (prime q) r m (rem (modulo q) (poly z n) (poly c k)) → Is (prime q) r m (rem (modulo q) l (monic (modulo q) (poly b size)))
+  remainder-is z n l r m e h = subst (Is (prime q) r m) (ap₂ (rem (modulo q)) (e .is) (monic-result .is)) h
 
   -- by a polynomial that is not 0
-  pub remainder-held : Prime q → 0 < size → (l r : List ℕ) (m : ℕ) → Is q r m (rem (modulo q) l (monic (modulo q) (poly b size))) → Held q r m
+  pub remainder-held : Prime q → 0 < size → (l r : List ℕ) (m : ℕ) → Is (prime q) r m (rem (modulo q) l (monic (modulo q) (poly b size))) → Held (prime q) r m
   remainder-held p some l r m h =
       is-held q r m _ h
       (let e : length (trim (modulo q) (monic (modulo q) (poly b size))) ≡ size = ap length (trim-monic M I (poly b size)) ∙ sym (is .size-is) ∙ monic-size p in
@@ -61,5 +61,5 @@ module _ (q : ℕ) (b : List ℕ) (size : ℕ) (held : Held q b size) (c : List 
       I = inverts q (held-positive q b size held) p
 
 -- a coefficient fits a word's value
-pub value-fits : (q : ℕ) (c : List ℕ) (size : ℕ) → q < 4096 → Held q c size → (i : ℕ) → getD c i 0 < 268435456
+pub value-fits : (q : ℕ) (c : List ℕ) (size : ℕ) → q < 4096 → Held (prime q) c size → (i : ℕ) → getD c i 0 < 268435456
 value-fits q c size s h i = let w : getD c i 0 < q = h .reduced i in omega arith

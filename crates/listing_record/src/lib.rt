@@ -5,9 +5,9 @@ pub mod record;
 ghost use mathlib.Core.Path.{_≡_};
 ghost use Prim.Native.Nat.{_+_, _/_, _<_, _≤_};
 ghost use lib.ListN.{length};
-ghost use Rattle.spec_bridge.specs.Prime.{Prime};
-ghost use Rattle.base_polynomial.specs.Record.{Held as HeldAt};
+ghost use Rattle.base_field.specs.Named.{IsField, name};
 ghost use Rattle.base_polynomial.specs.Places.{Within};
+ghost use Rattle.base_polynomial.specs.Record.{Held as HeldAt};
 ghost use Rattle.listing_record.specs.Stored.{stored};
 ghost use Rattle.listing_record.specs.Entry.{recordFrom};
 use crate::ideal::ideal_of;
@@ -16,28 +16,30 @@ use base_counters::Distance;
 use base_counters::Index;
 use base_field::Field;
 
-// The record of Q, the first `size` places of b, and P = d − left; r is the regulator.
+// The record of Q, the first `size` places of `current`, and P = d − rest; r is the regulator.
 pub fn write_record(
     f: Field,
     n: usize,
     d: &[u32; 129],
-    left: &[u32; 129],
-    b: &[u32; 129],
+    rest: &[u32; 129],
+    current: &[u32; 129],
     size: usize,
     index: Index,
     distance: Distance,
-    r: u64,
+    r: Distance,
     out: &mut [u32],
     at: usize,
 )
-    requires { ⌜ Prime (f .q) × (f .q < 4096) × (2 ≤ n) × (n ≤ 64) × (0 < size) ⌝ }
-    requires { ⌜ Within (f .q) (now d) (n / 2 + 1) × Within (f .q) (now left) (n / 2 + 1) ⌝ }
-    requires { ⌜ HeldAt (f .q) (now b) size ⌝ }
-    requires { ⌜ (at + (n + 4) ≤ length (now out)) × (index .0 < 268435456) × (distance .0 ≤ r) × (r < 72057594037927936) ⌝ }
-    ensures { λ _. ⌜ now (out .exit) ≡ stored (now (out .entry)) at (recordFrom (f .q) n r (index .0) (distance .0) (now (d .entry)) (now (left .entry)) (now (b .entry)) size) ⌝ }
+    requires { ⌜ IsField f ⌝ }
+    requires { ⌜ (2 ≤ n) × (n ≤ 64) × (0 < size) ⌝ }
+    requires { ⌜ Within (name f) (now d) (n / 2 + 1) × Within (name f) (now rest) (n / 2 + 1) ⌝ }
+    requires { ⌜ HeldAt (name f) (now current) size ⌝ }
+    requires { ⌜ (at + (n + 4) ≤ length (now out)) × (index .0 < 268435456) × (distance .0 ≤ r .0) × (r .0 < 72057594037927936) ⌝ }
+    ensures { λ _. ⌜ now (out .exit) ≡ stored (now (out .entry)) at (recordFrom (name f) n (r .0) (index .0) (distance .0) (now (d .entry)) (now (rest .entry)) (now (current .entry)) size) ⌝ }
 {
-    let x = ideal_of(f, d, left, n / 2 + 1, b, size);
+    let x = ideal_of(f, d, rest, n / 2 + 1, current, size);
     let q = x.q;
     let p = x.p;
-    put_record(out, at, n, index, distance, r - distance.0, &q.c, &p.c);
+    let mirror = Distance(r.0 - distance.0);
+    put_record(out, at, n, index, distance, mirror, &q.c, &p.c);
 }

@@ -48,19 +48,19 @@ pub fn put_record(
     n: usize,
     index: Index,
     distance: Distance,
-    mirror: u64,
+    mirror: Distance,
     q: &[u32; 129],
     p: &[u32; 129],
 )
     requires { ⌜ (at + (n + 4) ≤ length (now out)) × (2 ≤ n) × (n ≤ 64) ⌝ }
-    requires { ⌜ (index .0 < 268435456) × (distance .0 < 72057594037927936) × (mirror < 72057594037927936) ⌝ }
+    requires { ⌜ (index .0 < 268435456) × (distance .0 < 72057594037927936) × (mirror .0 < 72057594037927936) ⌝ }
     requires { ⌜ ((i : ℕ) → getD (now q) i 0 < 268435456) × ((i : ℕ) → getD (now p) i 0 < 268435456) ⌝ }
-    ensures { λ _. ⌜ ((k : ℕ) → now (out .exit) ≡ stored (now (out .entry)) at (recordWords (modulo k) n mirror (record { index = index .0; distance = distance .0; ideal = record { q = now (q .entry); p = now (p .entry) } }))) ⌝ }
+    ensures { λ _. ⌜ ((k : ℕ) → now (out .exit) ≡ stored (now (out .entry)) at (recordWords (modulo k) n (mirror .0) (record { index = index .0; distance = distance .0; ideal = record { q = now (q .entry); p = now (p .entry) } }))) ⌝ }
 {
     let h = n / 2;
     put_word(out, at, 5, index.0 as u32);
     put_number(out, at + 1, 6, distance.0);
-    put_number(out, at + 3, 10, mirror);
+    put_number(out, at + 3, 10, mirror.0);
     put_coefficients(out, at + 5, 8, q, h);
     put_coefficients(out, at + 5 + h, 9, p, h - 1);
 }

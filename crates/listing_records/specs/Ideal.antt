@@ -5,7 +5,7 @@ use mathlib.Core.Path.{_≡_, sym, ap, ap₂, _∙_, subst}
 use mathlib.Core.List.{List}
 use lib.ListN.{length}
 use Rattle.math_ring.specs.Residues.{FqRing}
-use Rattle.spec_definitions.specs.Field.{modulo}
+use Rattle.spec_definitions.specs.Field.{prime, modulo}
 use Rattle.spec_definitions.specs.Polynomials.{pad, sub}
 use Rattle.spec_definitions.specs.Walk.{walk}
 use Rattle.spec_definitions.specs.Walk as lists
@@ -23,24 +23,24 @@ use Rattle.base_polynomial.specs.Held.{is-poly, is-held}
 use Rattle.base_polynomial.specs.Places.{Within}
 use Rattle.walk_state.specs.State.{rootD, State, pad-within, pad-series}
 
-module _ (q g : ℕ) (D : List ℕ) (h : Admitted q g D) (i : ℕ) (c b r : List ℕ) (size : ℕ) (t : State q g D i c b r size) where
+module _ (q g : ℕ) (D : List ℕ) (h : Admitted (prime q) g D) (i : ℕ) (c b r : List ℕ) (size : ℕ) (t : State (prime q) g D i c b r size) where
   abbrev d : List ℕ
-  d = rootD q g D
+  d = rootD (prime q) g D
 
   abbrev M : Model (modulo q) (FqRing q (pos q (h .prime)))
   M = model q (pos q (h .prime))
 
-  Q-is : Is q b size (lists.Q (modulo q) D d i)
+  Q-is : Is (prime q) b size (lists.Q (modulo q) D d i)
   Q-is = record { places = t .q-is; size-is = t .size-is }
 
   Q-short : length (lists.Q (modulo q) D d i) ≤ 129
   Q-short = let e = Q-length (surd-of h) i in let l = h .genus-most in omega arith
 
-  pub Q-held : Held q b size
+  pub Q-held : Held (prime q) b size
   Q-held = is-held q b size _ Q-is Q-short (Q-trim (surd-of h) i) (Q-oks (surd-of h) i)
 
-  pub left-within : Within q r (suc (suc g))
-  left-within = subst (λ (x : List ℕ). Within q x (suc (suc g))) (sym (t .left-is)) (pad-within q _ (suc (suc g)) (left-length (surd-of h) i) (let l = h .genus-most in omega arith) (left-oks (surd-of h) i))
+  pub left-within : Within (prime q) r (suc (suc g))
+  left-within = subst (λ (x : List ℕ). Within (prime q) x (suc (suc g))) (sym (t .left-is)) (pad-within q _ (suc (suc g)) (left-length (surd-of h) i) (let l = h .genus-most in omega arith) (left-oks (surd-of h) i))
 
   module _ (e : List ℕ) (root-is : e ≡ pad (modulo q) 129 d) where
     P-is : sub (modulo q) e r ≡ lists.P (modulo q) D d i

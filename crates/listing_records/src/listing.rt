@@ -3,88 +3,93 @@ ghost use mathlib.Core.Path.{_≡_};
 ghost use mathlib.Core.List.{_++_};
 ghost use Prim.Native.Nat.{ℕ, _+_, _*_};
 ghost use lib.ListN.{drop};
-ghost use Rattle.spec_definitions.specs.Ticket.{genus};
+ghost use Rattle.spec_definitions.specs.Ticket.{genus, ticket};
 ghost use Rattle.spec_definitions.specs.Listing.{listingOf};
+ghost use Rattle.base_field.specs.Named.{IsField, name};
 ghost use Rattle.base_polynomial.specs.Record.{poly as polyAt, Held as HeldAt};
 ghost use Rattle.base_polynomial.specs.Whole.{poly, Held};
-ghost use Rattle.walk_state.specs.Start.{Prepared, ticket};
+ghost use Rattle.walk_state.specs.Start.{Prepared};
 ghost use Rattle.listing_records.specs.Listed.{Listable};
 use base_counters::Distance;
 use base_counters::Index;
 use base_field::Field;
 use base_polynomial::Poly;
 use listing_record::write_record;
-use walk_state::start::prepare;
-use walk_state::turn::turn;
+use walk_stride::begin;
+use walk_stride::turn;
 
-// The records of the indices 1 to m, where r is the degree of p_{m−1}; D is the first `places` places of `radicand`.
+// The records of the indices 1 to m, where r is the degree of p_{m−1}; D is the first `size` places of `radicand`.
 fn write_records(
     f: Field,
     n: usize,
     radicand: &[u32; 129],
-    places: usize,
-    table: &[u32; 4096],
+    size: usize,
+    inverses: &[u32; 4096],
     d: &[u32; 129],
-    s: &[u32; 129],
-    m: u64,
-    r: u64,
+    twice: &[u32; 129],
+    m: Index,
+    r: Distance,
     out: &mut [u32],
 )
-    requires { ⌜ Listable (f .q) n (polyAt (now radicand) places) m r (now out) ⌝ }
-    requires { ⌜ HeldAt (f .q) (now radicand) places ⌝ }
-    requires { ⌜ Prepared (f .q) (genus n) (polyAt (now radicand) places) (now table) (now d) (now s) ⌝ }
-    ensures { λ _. ⌜ ((b : ℕ) → now (out .exit) ≡ listingOf (ticket (f .q) n (polyAt (now (radicand .entry)) places) b) r m ++ drop (m * (n + 4)) (now (out .entry))) ⌝ }
+    requires { ⌜ IsField f ⌝ }
+    requires { ⌜ Listable (name f) n (polyAt (now radicand) size) (m .0) (r .0) (now out) ⌝ }
+    requires { ⌜ HeldAt (name f) (now radicand) size ⌝ }
+    requires { ⌜ Prepared (name f) (genus n) (polyAt (now radicand) size) (now inverses) (now d) (now twice) ⌝ }
+    ensures { λ _. ⌜ ((b : ℕ) → now (out .exit) ≡ listingOf (ticket (name f) n (polyAt (now (radicand .entry)) size) b) (r .0) (m .0) ++ drop (m .0 * (n + 4)) (now (out .entry))) ⌝ }
 {
     let top = n / 2 + 1;
-    let reciprocal = 4294967295 / f.q;
-    let mut before = *radicand;
-    let mut b = [0u32; 129];
-    b[0] = 1;
-    let mut left = *d;
-    let mut size: usize = 1;
-    let mut degree: u64 = 0;
-    let mut at: usize = 0;
-    let mut i: u64 = 0;
-    while i < m {
+    let mut before = [0u32; 129];
+    let mut current = [0u32; 129];
+    let mut rest = [0u32; 129];
+    let mut at = begin(radicand, d, &mut before, &mut current, &mut rest);
+    let mut place: usize = 0;
+    while at.index.0 < m.0 {
         write_record(
             f,
             n,
             d,
-            &left,
-            &b,
-            size,
-            Index(i + 1),
-            Distance(degree),
+            &rest,
+            &current,
+            at.size,
+            Index(at.index.0 + 1),
+            Distance(at.degree.0),
             r,
             out,
-            at,
+            place,
         );
-        at += n + 4;
-        degree += (top - size) as u64;
-        size = turn(
+        place += n + 4;
+        at = turn(
             f,
-            reciprocal,
-            table,
-            s,
+            inverses,
+            twice,
             top,
             &mut before,
-            &mut b,
-            size,
-            &mut left,
+            &mut current,
+            &mut rest,
+            at,
         );
-        i += 1;
     }
 }
 
-// The listing of √D: its m records, where m is the quasi-period and r the regulator. D is the radicand, of degree n.
-pub fn write_listing(f: Field, n: usize, radicand: Poly, m: u64, r: u64, out: &mut [u32])
-    requires { ⌜ Listable (f .q) n (poly radicand) m r (now out) ⌝ }
+// The listing of √D: its m records, where m is the quasi-period and r the regulator. D is the radicand, of degree n; what the walk starts
+// from is prepared.
+pub fn write_listing(
+    f: Field,
+    n: usize,
+    radicand: Poly,
+    inverses: &[u32; 4096],
+    d: &[u32; 129],
+    twice: &[u32; 129],
+    m: Index,
+    r: Distance,
+    out: &mut [u32],
+)
+    requires { ⌜ IsField f ⌝ }
+    requires { ⌜ Listable (name f) n (poly radicand) (m .0) (r .0) (now out) ⌝ }
     requires { ⌜ Held f radicand ⌝ }
-    ensures { λ _. ⌜ ((b : ℕ) → now (out .exit) ≡ listingOf (ticket (f .q) n (poly radicand) b) r m ++ drop (m * (n + 4)) (now (out .entry))) ⌝ }
+    requires { ⌜ Prepared (name f) (genus n) (poly radicand) (now inverses) (now d) (now twice) ⌝ }
+    ensures { λ _. ⌜ ((b : ℕ) → now (out .exit) ≡ listingOf (ticket (name f) n (poly radicand) b) (r .0) (m .0) ++ drop (m .0 * (n + 4)) (now (out .entry))) ⌝ }
 {
-    let mut table = [0u32; 4096];
-    let mut d = [0u32; 129];
-    let mut s = [0u32; 129];
-    prepare(f, n, radicand, &mut table, &mut d, &mut s);
-    write_records(f, n, &radicand.c, radicand.size, &table, &d, &s, m, r, out);
+    let size = radicand.size;
+    write_records(f, n, &radicand.c, size, inverses, d, twice, m, r, out);
 }

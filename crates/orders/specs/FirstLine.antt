@@ -1,4 +1,5 @@
--- What the first line of the program's output says: it fixes the outcome, and whoever reads "found R m c" or "spent k e" there may rely on T3.
+-- What the first line of the program's output says: it fixes the outcome, and whoever reads "found R m c" or
+-- "spent k e" there may rely on T3.
 use Prim.Native.Nat.{ℕ}
 use native.Mathlib.Omega.{arith}
 use mathlib.Core.Path.{_≡_, refl, sym, ap, _∙_, subst}

@@ -1,4 +1,5 @@
--- What the answer `found` of the call `listing` says of the ticket and of the lent list: a degree of 2 to 64, and room for every record.
+-- What the answer `found` of the call `listing` says of the ticket and of the lent list: a degree of 2 to 64,
+-- and room for every record.
 use Prim.Native.Nat.{ℕ, min, zero, suc, _+_, _*_, _-_, _≤_, _<_}
 use native.Mathlib.Omega.{arith}
 use mathlib.Core.Path.{_≡_, refl, sym, subst}

@@ -1,4 +1,5 @@
--- Bytes printed into a buffer one after the other: all else in it is kept, and the place after the bytes is handed on.
+-- Bytes printed into a buffer one after the other: all else in it is kept, and the place after the bytes is
+-- handed on.
 use Prim.Native.Nat.{ℕ, zero, suc, _+_, _-_, _*_, _≤_}
 use native.Mathlib.Omega.{arith}
 use native.Mathlib.Numerals.{add-one}

@@ -1,5 +1,7 @@
-// The program "orders": a ticket's words from standard input, the answer of the call `listing` as lines on standard output.
-// `output` promises that the bytes are those of the definition `programOf`. No contract can speak of what a call of C's reads or writes.
+// The program "orders": a ticket's words from standard input, the answer of the call `listing` as lines on
+// standard output.
+// `output` promises that the bytes are those of the definition `programOf`. No contract can speak of what a
+// call of C's reads or writes.
 mod output;
 
 use libc::STDIN_FILENO;

@@ -1,4 +1,5 @@
-// What the program prints, as bytes in a lent buffer: the first line of the answer, and after "found" one line a record.
+// What the program prints, as bytes in a lent buffer: the first line of the answer, and after "found" one
+// line a record.
 ghost use mathlib.Core.Path.{_≡_};
 ghost use Prim.Native.Nat.{_+_, _*_, _<_, _≤_};
 ghost use mathlib.Core.List.{_++_};
@@ -11,16 +12,17 @@ ghost use Rattle.spec_demands.specs.Numbered.{Numbered};
 ghost use Rattle.walk_run.specs.Outcome.{meaning};
 ghost use Rattle.orders.specs.Printed.{Printed};
 ghost use Rattle.orders.specs.FirstLine.{LeastPrinted};
+use base_words::value;
 use engine::listing::listing;
 use out_reading::words_of;
 use out_text::lines::found_line;
 use out_text::lines::record_line;
 use out_text::lines::refused_line;
 use out_text::lines::spent_line;
-use ticket_tests::words::value;
 use walk_run::Outcome;
 
-// The line of a record from a place on, at most ten bytes for each of its words. Each of these functions returns the place after its last byte.
+// The line of a record from a place on, at most ten bytes for each of its words. Each of these functions
+// returns the place after its last byte.
 fn put_record(out: &mut [u8], at: usize, words: &[u32]) -> usize
     requires { ⌜ (5 ≤ length (now words)) × (length (now words) ≤ 68) × (at + 1024 ≤ length (now out)) ⌝ }
     ensures { λ r. ⌜ Printed (now (out .entry)) at (now (out .exit)) r (recordLine (now (words .entry))) ⌝ }
@@ -81,7 +83,8 @@ fn put_answer(out: &mut [u8], ticket: &[u32]) -> usize
     put_records(out, first, &list, degree(ticket), m.0 as usize)
 }
 
-// All that the program prints for an input, in a buffer that has room for every answer; what stands after it is kept.
+// All that the program prints for an input, in a buffer that has room for every answer; what stands after it
+// is kept.
 pub fn output(input: &[u8], out: &mut [u8; 98304]) -> usize
     ensures size { λ r. ⌜ r ≡ length (programOf (now (input .entry))) ⌝ }
     ensures prints { λ r. ⌜ now (out .exit) ≡ programOf (now (input .entry)) ++ drop r (now (out .entry)) ⌝ }

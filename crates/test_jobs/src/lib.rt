@@ -1,5 +1,6 @@
-// Jobs from standard input for the programs that compare the engine's answers with stored ones: words of four bytes, low byte first;
-// an outcome as four numbers, as the stored answers have it; a line for a job that differs and a last line with the counts.
+// Jobs from standard input for the programs that compare the engine's answers with stored ones: words of four
+// bytes, low byte first; an outcome as four numbers, as the stored answers have it; a line for a job that
+// differs and a last line with the counts.
 ghost use Prim.Native.Nat.{_≤_};
 ghost use lib.ListN.{length};
 use libc::STDOUT_FILENO;

@@ -1,7 +1,9 @@
-// Runs the jobs of vectors/listings.txt through `listing` and compares the answers and the lists with the stored ones; a list one word short is
-// refused by 13 and kept; `lookup` gives the stored record at each distance, one below and one above it and far beyond, and refuses wrong lists.
-// The input is the number of jobs; a job is as in the file, then the number of its lookups, each of six words: how many words of the listing are
-// lent, n, the distance's high and low 32 bits, and the place and the size of the part that is to come.
+// Runs the jobs of vectors/listings.txt through `listing` and compares the answers and the lists with the
+// stored ones; a list one word short is refused by 13 and kept; `lookup` gives the stored record at each
+// distance, one below and one above it and far beyond, and refuses wrong lists.
+// The input is the number of jobs; a job is as in the file, then the number of its lookups, each of six
+// words: how many words of the listing are lent, n, the distance's high and low 32 bits, and the place and
+// the size of the part that is to come.
 // Prints a line for each job that differs, then the counts.
 ghost use Prim.Native.Nat.{_≤_};
 ghost use lib.ListN.{length};

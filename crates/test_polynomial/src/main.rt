@@ -1,6 +1,7 @@
-// Products, divisions and greatest common divisors of sample polynomials, written out to be compared with values found by another program.
+// Products, divisions and greatest common divisors of sample polynomials, written out to be compared with
+// values found by another program.
 ghost use Prim.Native.Nat.{_+_, _<_, _≤_};
-ghost use Rattle.spec_bridge.specs.Prime.{Prime};
+ghost use Rattle.base_field.specs.Named.{IsField};
 ghost use Rattle.base_polynomial.specs.Whole.{Held};
 use base_field::Field;
 use base_field::field_of;
@@ -9,7 +10,7 @@ use libc::STDOUT_FILENO;
 
 // n coefficients from a linear congruence that starts at `seed`.
 fn sample(f: Field, seed: u32, n: usize) -> Poly
-    requires { ⌜ (0 < f .q) × (f .q < 4096) × (seed < 65537) × (n ≤ 65) ⌝ }
+    requires { ⌜ IsField f × (seed < 65537) × (n ≤ 65) ⌝ }
     ensures { λ r. ⌜ Held f r × (r .size ≤ n) ⌝ }
 {
     let mut z = [0u32; 129];
@@ -47,7 +48,7 @@ fn show(p: Poly) {
 }
 
 fn show_product(f: Field, a: Poly, b: Poly)
-    requires { ⌜ (f .q < 4096) × (a .size + b .size ≤ 130) ⌝ }
+    requires { ⌜ IsField f × (a .size + b .size ≤ 130) ⌝ }
     requires { ⌜ Held f a ⌝ }
     requires { ⌜ Held f b ⌝ }
 {
@@ -56,7 +57,7 @@ fn show_product(f: Field, a: Poly, b: Poly)
 
 // Quotient and remainder.
 fn show_division(f: Field, a: Poly, b: Poly)
-    requires { ⌜ Prime (f .q) × (f .q < 4096) ⌝ }
+    requires { ⌜ IsField f ⌝ }
     requires { ⌜ Held f a ⌝ }
     requires { ⌜ Held f b ⌝ }
 {
@@ -69,7 +70,7 @@ fn show_division(f: Field, a: Poly, b: Poly)
 
 // The greatest common divisor, alone and with its factors.
 fn show_gcd(f: Field, a: Poly, b: Poly)
-    requires { ⌜ Prime (f .q) × (f .q < 4096) ⌝ }
+    requires { ⌜ IsField f ⌝ }
     requires { ⌜ Held f a ⌝ }
     requires { ⌜ Held f b ⌝ }
 {
@@ -85,7 +86,7 @@ fn show_gcd(f: Field, a: Poly, b: Poly)
 
 // The same of a and b times a third polynomial.
 fn show_common(f: Field, a: Poly, b: Poly, c: Poly)
-    requires { ⌜ Prime (f .q) × (f .q < 4096) × (a .size + c .size ≤ 130) × (b .size + c .size ≤ 130) ⌝ }
+    requires { ⌜ IsField f × (a .size + c .size ≤ 130) × (b .size + c .size ≤ 130) ⌝ }
     requires { ⌜ Held f a ⌝ }
     requires { ⌜ Held f b ⌝ }
     requires { ⌜ Held f c ⌝ }
@@ -97,7 +98,7 @@ fn show_common(f: Field, a: Poly, b: Poly, c: Poly)
 
 // Of sample polynomials of m and n places, and one of 9.
 fn samples(f: Field, m: usize, n: usize, seed: u32)
-    requires { ⌜ Prime (f .q) × (0 < f .q) × (f .q < 4096) × (m ≤ 65) × (n ≤ 65) × (seed < 1000) ⌝ }
+    requires { ⌜ IsField f × (m ≤ 65) × (n ≤ 65) × (seed < 1000) ⌝ }
 {
     let a = sample(f, seed, m);
     let b = sample(f, seed + 1, n);

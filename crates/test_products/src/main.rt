@@ -1,7 +1,10 @@
-// Runs the jobs of vectors/products.txt through `product` and `giant_step` and compares every number and every polynomial with the stored ones.
-// The input is the number of jobs, then the jobs as the file has them. Prints a line for each job that differs, then the counts.
+// Runs the jobs of vectors/products.txt through `product` and `giant_step` and compares every number and
+// every polynomial with the stored ones.
+// The input is the number of jobs, then the jobs as the file has them. Prints a line for each job that
+// differs, then the counts.
 ghost use Prim.Native.Nat.{_≤_};
 ghost use lib.ListN.{length};
+ghost use Rattle.ideal_giant.specs.Signed.{twoDistances};
 use base_counters::Distance;
 use base_polynomial::Poly;
 use engine::giant_step::GiantStepAnswer;
@@ -16,6 +19,9 @@ use test_jobs::read_word;
 use test_jobs::refused;
 use test_jobs::same;
 use test_jobs::show_counts;
+
+// The largest distance of an answer: 2⁴¹.
+const MOST: u64 = 2199023255552;
 
 // An ideal of a job: the lists of Q and P with the number of their words, and its distance.
 struct Operand {
@@ -77,20 +83,16 @@ fn same_product(a: ProductAnswer) -> bool {
 
 // total − lower.
 fn signed(total: u64, lower: u64) -> i64
-    requires { ⌜ (total ≤ 2199023255552) × (lower ≤ 2199023255552) ⌝ }
+    requires { ⌜ (total ≤ twoDistances) × (lower ≤ twoDistances) ⌝ }
 {
     total as i64 - lower as i64
 }
 
-// A number, cut to 2^41: the largest distance of an answer.
+// A number, cut to the largest distance of an answer.
 fn cut(size: u64) -> u64
-    ensures { λ r. ⌜ r ≤ 2199023255552 ⌝ }
+    ensures { λ r. ⌜ r ≤ twoDistances ⌝ }
 {
-    if size < 2199023255552 {
-        size
-    } else {
-        2199023255552
-    }
+    if size < MOST { size } else { MOST }
 }
 
 // The number that comes next in the input, negative where its sign is 1.
@@ -158,7 +160,8 @@ fn step(ticket: &[u32], x: Operand, y: Operand) -> GiantStepAnswer
     )
 }
 
-// A job after its ticket. The line of one that differs has the number that its product said, or its giant step.
+// A job after its ticket. The line of one that differs has the number that its product said, or its giant
+// step.
 fn compare(job: u32, ticket: &[u32]) -> u32
     ensures { λ r. ⌜ r ≤ 1 ⌝ }
 {

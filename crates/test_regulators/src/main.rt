@@ -1,5 +1,7 @@
-// Runs the jobs of vectors/regulators.txt and vectors/long.txt through `regulator` and compares its answers with the stored ones.
-// The input is the number of jobs, then the jobs as the files have them. Prints a line for each job that differs, then the counts.
+// Runs the jobs of vectors/regulators.txt and vectors/long.txt through `regulator` and compares its answers
+// with the stored ones.
+// The input is the number of jobs, then the jobs as the files have them. Prints a line for each job that
+// differs, then the counts.
 ghost use Prim.Native.Nat.{_≤_};
 ghost use lib.ListN.{length};
 use engine::regulator;

@@ -1,5 +1,7 @@
-// Reads jobs from standard input and prints what each is read as: the number of the refusal, q, n, the budget, and the coefficients of D.
-// The input is the number of jobs, then for each job the number of its words, at most 80, and the words; all as four bytes, low byte first.
+// Reads jobs from standard input and prints what each is read as: the number of the refusal, q, n, the
+// budget, and the coefficients of D.
+// The input is the number of jobs, then for each job the number of its words, at most 80, and the words; all
+// as four bytes, low byte first.
 ghost use Prim.Native.Nat.{_≤_};
 ghost use lib.ListN.{length};
 use libc::STDOUT_FILENO;

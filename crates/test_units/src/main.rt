@@ -1,6 +1,8 @@
-// Runs the jobs of vectors/units.txt through `unit` and compares the answers and the four lists with the stored ones: p and s in the first two,
-// zeros in the other two, later places kept. With any one of the four lists one place short the answer is 12 and all four are kept.
-// The input is the number of jobs, then the jobs as the file has them. Prints a line for each job that differs, then the counts.
+// Runs the jobs of vectors/units.txt through `unit` and compares the answers and the four lists with the
+// stored ones: p and s in the first two, zeros in the other two, later places kept. With any one of the four
+// lists one place short the answer is 12 and all four are kept.
+// The input is the number of jobs, then the jobs as the file has them. Prints a line for each job that
+// differs, then the counts.
 ghost use Prim.Native.Nat.{_<_, _≤_};
 ghost use lib.ListN.{length};
 use engine::unit::unit;

@@ -1,4 +1,5 @@
--- What a ticket that is read with the number 0 gives the calls: its parts are the definitions' ticket, and D is admitted to the walk.
+-- What a ticket that is read with the number 0 gives the calls: its parts are the definitions' ticket, and D
+-- is admitted to the walk.
 use Prim.Native.Nat.{ℕ, suc, _+_, _≤_, _<_}
 use native.Mathlib.Omega.{arith}
 use mathlib.Core.Path.{_≡_, sym, ap, _∙_, subst}

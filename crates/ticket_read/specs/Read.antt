@@ -1,4 +1,5 @@
--- What any list of words is read as: the number of the first refusal with the ticket, whose values are all zero where it is refused.
+-- What any list of words is read as: the number of the first refusal with the ticket, whose values are all
+-- zero where it is refused.
 use Prim.Native.Nat.{ℕ, zero, suc}
 use native.Mathlib.Omega.{arith}
 use mathlib.Core.Path.{_≡_, refl, sym, ap, _∙_, subst, subst₂}

@@ -1,4 +1,5 @@
-// The job ticket: any words are read as a field, a degree, the polynomial D and a budget, or refused by the number of the first test that applies.
+// The job ticket: any words are read as a field, a degree, the polynomial D and a budget, or refused by the
+// number of the first test that applies.
 
 ghost use mathlib.Core.Path.{_≡_};
 ghost use Prim.Native.Nat.{_+_, _<_, _≤_};
@@ -19,8 +20,8 @@ use ticket_tests::order::layout_refusal;
 use ticket_tests::radicand::radicand;
 use ticket_tests::radicand::radicand_refusal;
 
-// What a ticket says. Invariant (`Stands`): `number` is that of the first refusal, 1 to 7, with all other values zero, or 0;
-// then the field is one, and D has the ticket's coefficients.
+// What a ticket says. Invariant (`Stands`): `number` is that of the first refusal, 1 to 7, with all other
+// values zero, or 0; then the field is one, and D has the ticket's coefficients.
 pub struct Ticket {
     pub number: u32,
     pub field: Field,

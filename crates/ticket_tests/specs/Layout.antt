@@ -1,4 +1,5 @@
--- Tests of the later words' kinds, place by place: two lists of one length are the same exactly where they have the same numbers.
+-- Tests of the later words' kinds, place by place: two lists of one length are the same exactly where they
+-- have the same numbers.
 use Prim.Native.Nat.{ℕ, _+_, _<_}
 use native.Mathlib.Omega.{arith}
 use mathlib.Core.Path.{_≡_, sym, ap, _∙_}

@@ -1,4 +1,5 @@
--- The coefficients of D in the words, and the tests on them: where a test fails or holds at one place or at all.
+-- The coefficients of D in the words, and the tests on them: where a test fails or holds at one place or at
+-- all.
 use Prim.Native.Nat.{ℕ, zero, suc, _+_, _%_, _<_, _≤_}
 use native.Mathlib.Nat.{mod-eq-of-lt}
 use native.Mathlib.Omega.{arith}

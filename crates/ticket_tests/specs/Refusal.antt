@@ -1,4 +1,5 @@
--- The tests one after the other: the first that applies gives the number. Those on q, n and the layout come before those on D.
+-- The tests one after the other: the first that applies gives the number. Those on q, n and the layout come
+-- before those on D.
 use Prim.Native.Nat.{ℕ, suc, _+_, _≤_}
 use native.Mathlib.Omega.{arith}
 use mathlib.Core.Path.{_≡_, refl, sym, ap, ap₂, _∙_}

@@ -1,4 +1,5 @@
--- The test for square factors on records: the size of gcd(D, D′) is that of the definition's, since each result is trimmed.
+-- The test for square factors on records: the size of gcd(D, D′) is that of the definition's, since each
+-- result is trimmed.
 use Prim.Native.Nat.{ℕ, _-_, _<_, _≤_}
 use native.Mathlib.Omega.{arith}
 use mathlib.Core.Path.{_≡_, sym, ap, _∙_}

@@ -6,7 +6,8 @@ use crate::head::wrong_degree;
 use crate::layout::wrong_layout;
 use base_field::primes::is_odd_prime;
 
-// The first of the tests 2, 3 and 4 that applies, 0 where none does. q and n are the values of the first two words.
+// The first of the tests 2, 3 and 4 that applies, 0 where none does. q and n are the values of the first two
+// words.
 pub fn layout_refusal(q: u32, n: usize, words: &[u32]) -> u32
     ensures { λ r. ⌜ r ≡ firstOf (layoutTests q n (now (words .entry))) ⌝ }
 {

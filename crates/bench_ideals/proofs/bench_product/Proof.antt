@@ -6,9 +6,9 @@ use borrow.Author.Needs.{needs}
 use borrow.Author.Tests.{not-true, not-false}
 use Rattle.spec_laws.specs.PairTest.{both-true}
 use Rattle.ideal_pair.specs.Pair.{paired-operand}
-use Rattle.ideal_pair.specs.Words.{paired-product}
-use Rattle.call_regulator.specs.Accepted.{accepted, number-is, degree-two}
-use Rattle.call_product.specs.Products.{product-refused, product-wrong, pairs-wrong, pairs-right, passed-pair}
+use Rattle.ideal_pair.specs.Words.{pairs-wrong, pairs-right, paired-product}
+use Rattle.ticket_read.specs.Accepted.{accepted, number-is, degree-two}
+use Rattle.call_product.specs.Products.{product-refused, product-wrong}
 use Rattle.bench_ideals.specs.Turns.{product-none, product-turns}
 use Rattle.bench_ideals.proofs.bench_product.Statement.{statement}
 use Rattle.bench_ideals.proofs.bench_product.Tie as tie
@@ -22,12 +22,12 @@ returns c = product-none _ _ _ _ _ (product-refused _ _ _ _ (number-is _ (c .bef
 pair-requires : tie.Need-pair-requires
 pair-requires c κs =
     let a = accepted _ (c .before .before .read-ticket .ensures) (omega arith) in
-    (a .radicand, a .held, degree-two a)
+    (a .is-field, a .radicand, a .held, degree-two a)
 
 pair-requires-2 : tie.Need-pair-requires-2
 pair-requires-2 c κs =
     let a = accepted _ (c .before .before .before .read-ticket .ensures) (omega arith) in
-    (a .radicand, a .held, degree-two a)
+    (a .is-field, a .radicand, a .held, degree-two a)
 
 both-requires : tie.Need-both-requires
 both-requires c κs = search needs
@@ -42,16 +42,17 @@ products-requires : tie.Need-products-requires
 products-requires c κs =
     let a = accepted _ (c .before .before .before .before .before .before .read-ticket .ensures) (omega arith) in
     let f = both-true _ _ (sym (c .before .both .ensures) ∙ not-false _ (c .if2 .left)) in
-    ((a .radicand, a .held), (paired-operand (passed-pair (c .before .before .before .pair .ensures) (f .0)), paired-operand (passed-pair (c .before .before .pair2 .ensures) (f .1))))
+    ((a .is-field, a .radicand, a .held), (paired-operand (c .before .before .before .pair .ensures) (f .0), paired-operand (c .before .before .pair2 .ensures) (f .1)))
 
 returns-3 : tie.Need-returns-3
 returns-3 c =
     let d = c .before in
     let a = accepted _ (d .before .before .before .before .before .before .read-ticket .ensures) (omega arith) in
-    let f = both-true _ _ (sym (d .before .both .ensures) ∙ not-false _ (d .if2 .left)) in
-    let x = passed-pair (d .before .before .before .pair .ensures) (f .0) in
-    let y = passed-pair (d .before .before .pair2 .ensures) (f .1) in
-    product-turns _ _ _ _ _ (a .passes) (a .ticket-is) (pairs-right x y _) _ _ (sym (paired-product (a .radicand) x y)) (c .products .ensures)
+    let e = sym (d .before .both .ensures) ∙ not-false _ (d .if2 .left) in
+    let f = both-true _ _ e in
+    let x = d .before .before .before .pair .ensures in
+    let y = d .before .before .pair2 .ensures in
+    product-turns _ _ _ _ _ (a .passes) (a .ticket-is) (pairs-right x y _ e) _ _ (sym (paired-product x y (a .radicand) (f .0) (f .1))) (c .products .ensures)
 
 pub bench-product-spec : {M : Type 1} → statement M
 bench-product-spec =

@@ -1,4 +1,5 @@
--- `giant_step` meets its contract: a ticket or a pair that is refused gives zeros; two ideals go to `stepped`, and the answer depends on their polynomials alone.
+-- `giant_step` meets its contract: a ticket or a pair that is refused gives zeros; two ideals go to
+-- `stepped`, and the answer depends on their polynomials alone.
 use mathlib.Core.Path.{sym, _∙_}
 use native.Mathlib.Omega.{arith}
 use borrow.Author.Needs.{needs}

@@ -1,4 +1,5 @@
--- Each test in its turn is the definition's; past the first three the list is whole records, which the passes ask for.
+-- Each test in its turn is the definition's; past the first three the list is whole records, which the passes
+-- ask for.
 use native.Mathlib.Omega.{arith}
 use mathlib.Core.Path.{sym, ap, _∙_}
 use mathlib.Core.Bool.{not}

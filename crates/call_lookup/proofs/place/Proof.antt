@@ -1,4 +1,5 @@
--- A list that is refused has the empty part at its start, and one that is not has n + 4 words from the place found.
+-- A list that is refused has the empty part at its start, and one that is not has n + 4 words from the place
+-- found.
 use native.Mathlib.Omega.{arith}
 use mathlib.Core.Path.{sym}
 use borrow.Author.Needs.{needs}

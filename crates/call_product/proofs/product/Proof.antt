@@ -1,4 +1,5 @@
--- `product` meets its contract: a ticket or a pair that is refused gives zeros; two ideals give their product, which depends on their polynomials alone.
+-- `product` meets its contract: a ticket or a pair that is refused gives zeros; two ideals give their
+-- product, which depends on their polynomials alone.
 use mathlib.Core.Path.{refl, sym, _∙_}
 use native.Mathlib.Omega.{arith}
 use borrow.Author.Needs.{needs}

@@ -1,4 +1,5 @@
--- `regulator` meets its contract: the outcome is the definitions', and T3 holds of every outcome that is said so.
+-- `regulator` meets its contract: the outcome is the definitions', and T3 holds of every outcome that is said
+-- so.
 use mathlib.Core.Path.{refl}
 use borrow.Author.Needs.{needs}
 use Rattle.call_regulator.specs.Regulator.{least}

@@ -1,12 +1,10 @@
--- `unit` meets its contract: a refused or spent ticket leaves the lists as they are, a found one goes to `unit_found`; T3 of the lists follows from what is said and written.
-use mathlib.Core.Path.{refl, sym, ap, _∙_}
+-- `unit` meets its contract: a refused ticket leaves the lists as they are, any other goes to `unit_of`; T3 of the lists follows from what is said and written.
+use mathlib.Core.Path.{refl}
 use native.Mathlib.Omega.{arith}
 use borrow.Author.Needs.{needs}
-use Rattle.walk_run.specs.Outcome.{meaning}
-use Rattle.call_regulator.specs.Accepted.{accepted, number-is, degree-two}
+use Rattle.ticket_read.specs.Accepted.{accepted, number-is}
 use Rattle.call_regulator.specs.Regulator.{refused-outcome, accepted-outcome}
-use Rattle.call_unit.specs.Unit.{kept, kept-refused, words-answer, least-written}
-use Rattle.call_regulator.proofs.Kept.{not-found}
+use Rattle.call_unit.specs.Unit.{readable, kept-refused, words-answer, least-written}
 use Rattle.call_unit.proofs.unit.Statement.{statement}
 use Rattle.call_unit.proofs.unit.Tie as tie
 
@@ -18,24 +16,8 @@ returns c =
     let a = words-answer _ _ _ _ _ _ refl (refused-outcome _ _ (number-is _ (c .before .before .read-ticket .ensures)) (λ e. omega arith)) (kept-refused _ _ _) in
     (refl, (a .says, (a .lists-are, least-written _ _ _ _ a)))
 
-run-requires : tie.Need-run-requires
-run-requires c κs =
-    let a = accepted _ (c .before .before .read-ticket .ensures) (omega arith) in
-    (a .radicand, (a .held, degree-two a, a .budget))
-
-enum-known-o : tie.Need-enum-known-o
-enum-known-o c = search needs
-
-returns-2 : tie.Need-returns-2
-returns-2 c =
-    let a = accepted _ (c .before .before .before .before .read-ticket .ensures) (omega arith) in
-    let r = words-answer _ _ _ _ _ _ (a .ticket-is) (accepted-outcome _ _ a (c .before .run .ensures)) (kept _ _ _ (not-found (c .before .run .result) (c .match .keys2))) in
-    (refl, (r .says, (r .lists-are, least-written _ _ _ _ r)))
-
-unit-found-requires : tie.Need-unit-found-requires
-unit-found-requires c κs =
-    let a = accepted _ (c .before .before .before .before .before .before .before .before .before .before .read-ticket .ensures) (omega arith) in
-    (record { admitted = a .radicand; even = a .half; budget = a .budget; outcome = sym (c .before .before .before .before .before .before .before .run .ensures) ∙ ap meaning (c .before .before .before .before .before .o .given .1) }, a .held)
+unit-of-requires : tie.Need-unit-of-requires
+unit-of-requires c κs = readable (accepted _ (c .before .before .before .before .before .before .read-ticket .ensures) (omega arith))
 
 same-length : tie.Need-same-length
 same-length c = search needs
@@ -49,12 +31,11 @@ same-length-3 c = search needs
 same-length-4 : tie.Need-same-length-4
 same-length-4 c = search needs
 
-returns-3 : tie.Need-returns-3
-returns-3 c =
-    let d = c .before .before .before .before .before .before .before .before .before in
-    let a = accepted _ (d .before .before .before .before .before .before .before .before .before .before .read-ticket .ensures) (omega arith) in
-    let o = accepted-outcome _ _ a (d .before .before .before .before .before .before .before .run .ensures) in
-    let r = words-answer _ _ _ _ _ _ (a .ticket-is) (sym (ap meaning (d .before .before .before .before .before .o .given .1)) ∙ o) (c .before .before .before .before .before .before .before .before .unit-found .ensures) in
+returns-2 : tie.Need-returns-2
+returns-2 c =
+    let u = c .before .before .before .before .before .before .before .before in
+    let a = accepted _ (u .before .before .before .before .before .before .before .read-ticket .ensures) (omega arith) in
+    let r = words-answer _ _ _ _ _ _ (a .ticket-is) (accepted-outcome _ _ a refl) (u .unit-of .ensures) in
     (refl, (r .says, (r .lists-are, least-written _ _ _ _ r)))
 
 pub unit-spec : {M : Type 1} → statement M
@@ -63,12 +44,9 @@ unit-spec =
     (tie.spec
     read-ticket-requires
     returns
-    run-requires
-    enum-known-o
-    returns-2
-    unit-found-requires
+    unit-of-requires
     same-length
     same-length-2
     same-length-3
     same-length-4
-    returns-3)
+    returns-2)

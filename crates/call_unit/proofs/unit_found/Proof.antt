@@ -2,7 +2,7 @@
 use native.Mathlib.Omega.{arith}
 use borrow.Author.Needs.{needs}
 use borrow.Author.Tests.{not-true, not-false}
-use Rattle.call_regulator.specs.Found.{found-degree}
+use Rattle.walk_run.specs.Found.{found-degree, found-index}
 use Rattle.call_unit.specs.Unit.{long-lists, short-lists, room-long, room-short, room-is}
 use Rattle.call_unit.proofs.unit_found.Statement.{statement}
 use Rattle.call_unit.proofs.unit_found.Tie as tie
@@ -15,8 +15,11 @@ returns c = short-lists _ _ _ _ _ (room-short _ _ _ _ _ _ (c .before .room .ensu
 
 write-unit-requires : tie.Need-write-unit-requires
 write-unit-requires c κs =
-    let f = c .before .before .before .before .before .before .before .before .before .before .pre .0 in
-    (f .admitted, ((c .before .before .before .before .before .before .before .before .before .before .pre .1, (let e = f .even in omega arith)), (found-degree f, room-is _ _ _ _ _ _ (c .before .before .before .before .before .room .ensures) (not-false _ (c .before .before .before .before .if1 .left)))))
+    let o = c .before .before .before .before .before .before .before in
+    let s = o .before .before .before .before .before .before in
+    let f = s .pre .1 .0 in
+    let e = f .even in
+    (s .pre .0, (f .admitted, ((s .pre .1 .1 .0, omega arith, found-index f), (s .pre .1 .1 .1, (found-degree f, room-is _ _ _ _ _ _ (o .before .room .ensures) (not-false _ (o .if1 .left)))))))
 
 same-length : tie.Need-same-length
 same-length c = search needs
@@ -32,8 +35,9 @@ same-length-4 c = search needs
 
 returns-2 : tie.Need-returns-2
 returns-2 c =
-    let b = c .before .before .before .before .before .before .before .before .before .before .before .before .before .before in
-    long-lists _ _ _ _ _ _ (room-long _ _ _ _ _ _ (b .room .ensures) (not-false _ (c .before .before .before .before .before .before .before .before .before .before .before .before .before .if1 .left))) (c .before .before .before .before .before .before .before .before .write-unit .ensures _)
+    let w = c .before .before .before .before .before .before .before .before in
+    let o = w .before .before .before .before .before .before .before .before in
+    long-lists _ _ _ _ _ _ (room-long _ _ _ _ _ _ (o .before .room .ensures) (not-false _ (o .if1 .left))) (w .write-unit .ensures _)
 
 pub unit-found-spec : {M : Type 1} → statement M
 unit-found-spec =

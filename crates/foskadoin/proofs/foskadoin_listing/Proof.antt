@@ -1,4 +1,5 @@
--- `foskadoin_listing` meets its contract: the numbers of the engine's outcome, T3 of them, and the list as the engine leaves it.
+-- `foskadoin_listing` meets its contract: the numbers of the engine's outcome, T3 of them, and the list as
+-- the engine leaves it.
 use mathlib.Core.Path.{sym, _∙_}
 use borrow.Author.Needs.{needs}
 use Rattle.spec_demands.specs.Numbered.{t1-numbers}

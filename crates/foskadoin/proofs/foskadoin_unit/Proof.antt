@@ -1,4 +1,5 @@
--- `foskadoin_unit` meets its contract: the numbers of the engine's outcome, the lists as the engine leaves them, and T3 of both.
+-- `foskadoin_unit` meets its contract: the numbers of the engine's outcome, the lists as the engine leaves
+-- them, and T3 of both.
 use mathlib.Core.Path.{sym, _∙_}
 use borrow.Author.Needs.{needs}
 use Rattle.spec_demands.specs.Numbered.{t1-numbers}

@@ -12,18 +12,19 @@ add-ideal-of : tie.Need-add-ideal-of
 add-ideal-of c = search needs
 
 ideal-of-requires : tie.Need-ideal-of-requires
-ideal-of-requires c κs = search needs
+ideal-of-requires c κs = let s = c .before in let n = s .pre .1 .0 .1 in (s .pre .0, ((omega arith, s .pre .1 .0 .2), (s .pre .1 .1 .0, s .pre .1 .1 .1 .0)))
 
-sub-put-record : tie.Need-sub-put-record
-sub-put-record c = search needs
+sub-t18 : tie.Need-sub-t18
+sub-t18 c = search needs
 
 put-record-requires : tie.Need-put-record-requires
 put-record-requires c κs =
-    let s = c .before .before .before .before .before .before .before .before .before .before in
-    let x = c .before .before .before .before .before .before .before .before .ideal-of .ensures in
-    let h = s .pre .1 .1 .0 in
-    let q-fits = value-fits _ _ _ (s .pre .0 .1) (monic-result _ _ _ h _ _ (x .0) .held) in
-    let p-fits = value-fits _ _ _ (s .pre .0 .1) (remainder-held _ _ _ h _ _ (x .0) (s .pre .0 .0) (s .pre .0 .4) (sub (modulo (s .args .f .q)) (s .args .d .now) (s .args .left .now)) _ _ (x .1)) in
+    let i = c .before .before .before .before .before .before .before .before .before in
+    let s = i .before .before in
+    let x = i .ideal-of .ensures in
+    let h = s .pre .1 .1 .1 .0 in
+    let q-fits = value-fits _ _ _ (s .pre .0 .2) (monic-result _ _ _ h _ _ (x .0) .held) in
+    let p-fits = value-fits _ _ _ (s .pre .0 .2) (remainder-held _ _ _ h _ _ (x .0) (s .pre .0 .0) (s .pre .1 .0 .2) (sub (modulo (s .args .f .q)) (s .args .d .now) (s .args .rest .now)) _ _ (x .1)) in
     ((search needs, search needs, search needs), ((search needs, omega arith, omega arith), (q-fits, p-fits)))
 
 same-length : tie.Need-same-length
@@ -31,10 +32,11 @@ same-length c = search needs
 
 returns : tie.Need-returns
 returns c =
-    let s = c .before .before .before .before .before .before .before .before .before .before .before .before .before in
+    let i = c .before .before .before .before .before .before .before .before .before .before .before .before in
+    let s = i .before .before in
     let a = s .args in
-    let x = c .before .before .before .before .before .before .before .before .before .before .before .ideal-of .ensures in
-    record-written (a .f .q) (a .n) (a .r) (a .index .0) (a .distance .0) (a .d .now) (a .left .now) (a .b .now) (a .size) _ _ _ (a .out .now) (a .at) (s .pre .0 .3) (x .0 .places) (x .1 .places) (c .before .before .put-record .ensures (a .f .q))
+    let x = i .ideal-of .ensures in
+    record-written (a .f .q) (a .n) (a .r .0) (a .index .0) (a .distance .0) (a .d .now) (a .rest .now) (a .current .now) (a .size) _ _ _ (a .out .now) (a .at) (s .pre .1 .0 .1) (x .0 .places) (x .1 .places) (c .before .before .put-record .ensures (a .f .q))
 
 pub write-record-spec : {M : Type 1} → statement M
 write-record-spec =
@@ -42,7 +44,7 @@ write-record-spec =
     (tie.spec
     add-ideal-of
     ideal-of-requires
-    sub-put-record
+    sub-t18
     put-record-requires
     same-length
     returns)

@@ -34,7 +34,7 @@ show-common-requires c κs =
     let x = c .before .before .before .before .before .sample .ensures in
     let y = c .before .before .before .before .sample2 .ensures in
     let z = c .before .before .before .sample3 .ensures in
-    ((s .pre .0, search needs, omega arith, omega arith), (x .0, (y .0, z .0)))
+    ((s .pre .0, omega arith, omega arith), (x .0, (y .0, z .0)))
 
 returns : tie.Need-returns
 returns c = search needs

@@ -1,5 +1,5 @@
 -- The two products are held.
-use Rattle.base_polynomial.specs.Result.{result-mul}
+use Rattle.base_polynomial.specs.Over.{result-mul}
 use borrow.Author.Needs.{needs}
 use Rattle.test_polynomial.proofs.show_common.Statement.{statement}
 use Rattle.test_polynomial.proofs.show_common.Tie as tie
@@ -13,7 +13,7 @@ mul-requires-2 c κs = search needs
 show-gcd-requires : tie.Need-show-gcd-requires
 show-gcd-requires c κs =
     let s = c .before .before in
-    ((s .pre .0 .0, search needs), (result-mul _ _ _ (s .pre .1 .0) _ _ (s .pre .1 .1 .1) _ _ (s .pre .0 .2) (c .before .mul .ensures) .held, result-mul _ _ _ (s .pre .1 .1 .0) _ _ (s .pre .1 .1 .1) _ _ (s .pre .0 .3) (c .mul2 .ensures) .held))
+    (s .pre .0 .0, (result-mul (s .pre .1 .0) (s .pre .1 .1 .1) (s .pre .0 .1) (c .before .mul .ensures) .held, result-mul (s .pre .1 .1 .0) (s .pre .1 .1 .1) (s .pre .0 .2) (c .mul2 .ensures) .held))
 
 returns : tie.Need-returns
 returns c = search needs

@@ -1,4 +1,5 @@
--- The record of D has the words' coefficients, so that the tests on it are the definition's; where none applies each value is the ticket's.
+-- The record of D has the words' coefficients, so that the tests on it are the definition's; where none
+-- applies each value is the ticket's.
 use Prim.Native.Nat.{ℕ}
 use native.Mathlib.Omega.{arith}
 use mathlib.Core.Path.{_≡_, refl, sym, ap, _∙_}

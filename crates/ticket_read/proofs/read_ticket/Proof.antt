@@ -1,4 +1,5 @@
--- Each test that passes leaves the definition's refusal to the next; the values that are read are the ticket's parts.
+-- Each test that passes leaves the definition's refusal to the next; the values that are read are the
+-- ticket's parts.
 use Prim.Native.Nat.{ℕ, _+_, _≤_}
 use native.Mathlib.Omega.{arith}
 use mathlib.Core.Path.{_≡_, refl, sym, ap, _∙_}

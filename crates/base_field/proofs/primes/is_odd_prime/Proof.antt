@@ -1,4 +1,5 @@
--- The search halves the part of the table where q can stand: every entry before it is below q, every entry after it is above. The list's rule then decides.
+-- The search halves the part of the table where q can stand: every entry before it is below q, every entry
+-- after it is above. The list's rule then decides.
 use Prim.Native.Nat.{ℕ, _≤_, _<_, _+_, _-_, _/_}
 use native.Mathlib.Omega.{arith}
 use mathlib.Core.Path.{_≡_, sym, ap, _∙_}

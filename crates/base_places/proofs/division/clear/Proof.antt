@@ -1,4 +1,5 @@
--- The invariant is the stage: with k coefficients to go, the upper part of the dividend is divided. Each turn is a step of it.
+-- The invariant is the stage: with k coefficients to go, the upper part of the dividend is divided. Each turn
+-- is a step of it.
 use mathlib.Core.Path.{_≡_, sym, ap, subst}
 use Prim.Native.Nat.{ℕ, suc, _≤_, _<_, _-_, _+_, _*_, _%_}
 use native.Mathlib.Nat.{mod-lt, mul-le-mul}

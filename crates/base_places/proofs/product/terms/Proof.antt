@@ -1,4 +1,5 @@
--- The sum's invariant: it is the first i terms of the coefficient, at most q² each. The terms left out at both ends are 0.
+-- The sum's invariant: it is the first i terms of the coefficient, at most q² each. The terms left out at
+-- both ends are 0.
 use mathlib.Core.Path.{_≡_, sym, ap, _∙_}
 use Prim.Native.Nat.{ℕ, _≤_, _-_, _+_, _*_, _%_}
 use native.Mathlib.Omega.{arith}

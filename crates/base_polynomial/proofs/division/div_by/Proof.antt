@@ -1,4 +1,5 @@
--- The places that the long division leaves are those of quotient and remainder; their sizes are found from the top.
+-- The places that the long division leaves are those of quotient and remainder; their sizes are found from
+-- the top.
 use mathlib.Core.Path.{sym, subst}
 use Prim.Native.Nat.{ℕ, _<_}
 use native.Mathlib.Omega.{arith}

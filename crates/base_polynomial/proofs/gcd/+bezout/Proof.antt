@@ -1,4 +1,5 @@
--- The measure is the size of b: the remainder's is smaller. Each branch is one of the definition's two rules; the factors fit by their lengths.
+-- The measure is the size of b: the remainder's is smaller. Each branch is one of the definition's two rules;
+-- the factors fit by their lengths.
 use mathlib.Core.Path.{_≡_, sym, subst}
 use mathlib.Core.List.{List}
 use native.Mathlib.Omega.{arith}

@@ -6,7 +6,8 @@ use lib.ListN.{length}
 use borrow.Author.Needs.{needs}
 use Rattle.spec_definitions.specs.Products.{giantDone}
 use Rattle.base_polynomial.specs.Whole.{poly}
-use Rattle.walk_run.specs.Outcome.{ticket}
+use Rattle.spec_definitions.specs.Ticket.{ticket}
+use Rattle.base_field.specs.Named.{name}
 use Rattle.ideal_product.specs.Operand.{heldPair}
 use Rattle.bench_ideals.specs.Turns.{made, made-none, made-more, made-to}
 use Rattle.bench_ideals.proofs.turns.giants.Statement.{statement}
@@ -15,7 +16,7 @@ use Rattle.bench_ideals.proofs.turns.giants.Tie as tie
 abbrev Inv-loop : tie.InvT-loop
 Inv-loop t x y times d last₀ i₀ last i =
     (i ≤ times)
-    × (last ≡ made i (length (giantDone (ticket (t .field .q) (t .n) (poly (t .radicand)) (t .budget)) (heldPair (x .q .c) (x .q .size) (x .p .c) (x .p .size)) 0 (heldPair (y .q .c) (y .q .size) (y .p .c) (y .p .size)) 0 .p)))
+    × (last ≡ made i (length (giantDone (ticket (name (t .field)) (t .n) (poly (t .radicand)) (t .budget)) (heldPair (x .q) (x .p)) 0 (heldPair (y .q) (y .p)) 0 .p)))
 
 abbrev μ-loop : tie.MeasureT-loop
 μ-loop t x y times d last₀ i₀ last i = times - i

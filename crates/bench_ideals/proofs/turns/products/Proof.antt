@@ -6,7 +6,8 @@ use lib.ListN.{length}
 use borrow.Author.Needs.{needs}
 use Rattle.spec_definitions.specs.Products.{productDone}
 use Rattle.base_polynomial.specs.Whole.{poly}
-use Rattle.walk_run.specs.Outcome.{ticket}
+use Rattle.spec_definitions.specs.Ticket.{ticket}
+use Rattle.base_field.specs.Named.{name}
 use Rattle.ideal_product.specs.Operand.{heldPair}
 use Rattle.bench_ideals.specs.Turns.{made, made-none, made-more, made-to, productDone-p}
 use Rattle.bench_ideals.proofs.turns.products.Statement.{statement}
@@ -15,7 +16,7 @@ use Rattle.bench_ideals.proofs.turns.products.Tie as tie
 abbrev Inv-loop : tie.InvT-loop
 Inv-loop t x y times last₀ i₀ last i =
     (i ≤ times)
-    × (last ≡ made i (length (productDone (ticket (t .field .q) (t .n) (poly (t .radicand)) (t .budget)) (heldPair (x .q .c) (x .q .size) (x .p .c) (x .p .size)) (heldPair (y .q .c) (y .q .size) (y .p .c) (y .p .size)) .p)))
+    × (last ≡ made i (length (productDone (ticket (name (t .field)) (t .n) (poly (t .radicand)) (t .budget)) (heldPair (x .q) (x .p)) (heldPair (y .q) (y .p)) .p)))
 
 abbrev μ-loop : tie.MeasureT-loop
 μ-loop t x y times last₀ i₀ last i = times - i

@@ -1,4 +1,5 @@
--- `foskadoin_giant_step` meets its contract: the answer of the engine, with its polynomials in the lent arrays.
+-- `foskadoin_giant_step` meets its contract: the answer of the engine, with its polynomials in the lent
+-- arrays.
 use borrow.Author.Needs.{needs}
 use Rattle.foskadoin.proofs.pairs.foskadoin_giant_step.Statement.{statement}
 use Rattle.foskadoin.proofs.pairs.foskadoin_giant_step.Tie as tie

@@ -1,4 +1,5 @@
--- The product is where the reduction starts; the reduced pair is held, and f is minus what its degrees fall short.
+-- The product is where the reduction starts; the reduced pair is held, and f is minus what its degrees fall
+-- short.
 use native.Mathlib.Omega.{arith}
 use Prim.Native.Nat.{_≤_}
 use mathlib.Core.Path.{_∙_}

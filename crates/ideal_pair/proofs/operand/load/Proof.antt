@@ -1,4 +1,5 @@
--- The loop's invariant: the words before i stand in their places, zeros from i on. The size found is that of the trimmed list.
+-- The loop's invariant: the words before i stand in their places, zeros from i on. The size found is that of
+-- the trimmed list.
 use Prim.Native.Nat.{ℕ, _-_, _≤_}
 use native.Mathlib.Omega.{arith}
 use mathlib.Core.Path.{refl, sym, _∙_}

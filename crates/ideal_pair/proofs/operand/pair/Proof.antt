@@ -1,4 +1,5 @@
--- The words' test first, so that they can be read; then the test of their polynomials, which are those of the words without zeros at the end.
+-- The words' test first, so that they can be read; then the test of their polynomials, which are those of the
+-- words without zeros at the end.
 use Prim.Native.Nat.{ℕ}
 use native.Mathlib.Omega.{arith}
 use mathlib.Core.Path.{_≡_, sym, _∙_}

@@ -1,4 +1,5 @@
--- The difference is at most as long as the longer P, so that each product fits; each polynomial is the definition's.
+-- The difference is at most as long as the longer P, so that each product fits; each polynomial is the
+-- definition's.
 use Prim.Native.Nat.{ℕ}
 use native.Mathlib.Omega.{arith}
 use mathlib.Core.Path.{ap, ap₂, _∙_, subst}

@@ -46,7 +46,7 @@ same-length c = search needs
 returns : tie.Need-returns
 returns c k =
     let s = c .before .before .before .before .before .before .before .before .before .before .before .before .before .before .before .before .before .before .before .before .before .before in
-    stored-record k (s .args .n) (s .args .mirror) _ (s .args .out .now) _ _ _ _ _ (s .args .at) (s .pre .0 .1) (c .before .before .before .before .before .before .before .before .before .before .before .before .before .before .before .before .before .before .put-word .ensures) (c .before .before .before .before .before .before .before .before .before .before .before .before .before .before .put-number .ensures) (c .before .before .before .before .before .before .before .before .before .before .put-number2 .ensures) (c .before .before .before .before .before .before .put-coefficients .ensures k) (c .before .before .put-coefficients2 .ensures k)
+    stored-record k (s .args .n) (s .args .mirror .0) _ (s .args .out .now) _ _ _ _ _ (s .args .at) (s .pre .0 .1) (c .before .before .before .before .before .before .before .before .before .before .before .before .before .before .before .before .before .before .put-word .ensures) (c .before .before .before .before .before .before .before .before .before .before .before .before .before .before .put-number .ensures) (c .before .before .before .before .before .before .before .before .before .before .put-number2 .ensures) (c .before .before .before .before .before .before .put-coefficients .ensures k) (c .before .before .put-coefficients2 .ensures k)
 
 pub put-record-spec : {M : Type 1} → statement M
 put-record-spec =

@@ -1,96 +1,119 @@
--- The invariant: the records of the indices 1 to i are stored, and the arrays have the state at i.
+-- The invariant: the records of the indices 1 to the walk's are stored.
 use Prim.Native.Nat.{_+_, _-_, _/_, _≤_, _<_}
 use native.Mathlib.Omega.{arith}
-use mathlib.Core.Path.{refl}
+use Rattle.spec_definitions.specs.Field.{prime}
 use Rattle.base_polynomial.specs.Record.{poly}
-use Rattle.walk_state.specs.Walked.{walked-first}
 use Rattle.listing_records.specs.Ideal.{Q-held}
-use Rattle.listing_records.specs.Listed.{Listed, degree-two, degree-most, top-fits, root-within, regulator-fits, listed-first, listed-all, place-fits, degree-within, size-within, size-positive, left-places, turn-ready, listed-next}
+use Rattle.listing_records.specs.Listed.{Listed, degree-two, degree-most, top-fits, root-within, regulator-fits, listed-first, listed-all, place-fits, place-small, degree-within, rest-places, listed-going, listed-next}
 use borrow.Author.Needs.{needs}
 use Rattle.listing_records.proofs.listing.write_records.Statement.{statement}
 use Rattle.listing_records.proofs.listing.write_records.Tie as tie
 
 abbrev Inv-loop : tie.InvT-loop
-Inv-loop f n radicand places table d s m r out₀ top reciprocal before₀ b₀ left₀ size₀ degree₀ at₀ i₀ out before b left size degree at i =
-    (i ≤ m) × Listed (f .q) n (poly radicand places) r out₀ i out before b left size degree at
+Inv-loop f n radicand size inverses d twice m r out₀ top before₀ current₀ rest₀ at₀ place₀ out before current rest at place =
+    (at .index .0 ≤ m .0) × Listed (prime (f .q)) n (poly radicand size) (r .0) out₀ out before current rest at place
 
 abbrev μ-loop : tie.MeasureT-loop
-μ-loop f n radicand places table d s m r out₀ top reciprocal before₀ b₀ left₀ size₀ degree₀ at₀ i₀ out before b left size degree at i =
-    m - i
+μ-loop f n radicand size inverses d twice m r out₀ top before₀ current₀ rest₀ at₀ place₀ out before current rest at place =
+    m .0 - at .index .0
+
+abbrev start : tie.At-loop Inv-loop μ-loop → tie.Start Inv-loop μ-loop
+start l = l .before .before .before .before .before .before
 
 add-top : tie.Need-add-top Inv-loop μ-loop
-add-top c = let l : c .before .args .n / 2 + 1 ≤ 128 = top-fits (c .before .pre .0) in omega arith
+add-top c = let l = top-fits (c .before .pre .1 .0) in omega arith
 
-div-reciprocal : tie.Need-div-reciprocal Inv-loop μ-loop
-div-reciprocal c = let l : 2 < c .before .before .args .f .q = c .before .before .pre .0 .admitted .odd in omega arith
-
-array-write-b : tie.Need-array-write-b Inv-loop μ-loop
-array-write-b c = search needs
+begin-requires : tie.Need-begin-requires Inv-loop μ-loop
+begin-requires c κs = search needs
 
 loop-holds : tie.Need-loop-holds Inv-loop μ-loop
 loop-holds c =
-    let s = c .before .before .before .before in
-    (omega arith, listed-first (s .pre .0) (walked-first (s .args .radicand .now) (s .args .places) (s .pre .0 .admitted) (s .pre .1 .0) (s .pre .1 .1)))
+    let s = c .before .before .before .before .before in
+    let i = c .begin .ensures .index-is in
+    (omega arith, listed-first (s .args .radicand .now) (s .args .size) (s .pre .1 .0) (s .pre .1 .1 .0) (s .pre .1 .1 .1) (c .begin .ensures))
 
-add-degree : tie.Need-add-degree Inv-loop μ-loop
-add-degree c = search needs
+add-t25 : tie.Need-add-t25 Inv-loop μ-loop
+add-t25 c =
+    let t = c .before .before .before in
+    let l = t .before .before .before in
+    let s = start l in
+    let a = s .pre .1 .0 in
+    let p = s .pre .1 .1 .1 in
+    let v = l .loop .inv .1 in
+    let more = t .if1 .taken in
+    omega (arith, a .index-fits, more)
 
 write-record-requires : tie.Need-write-record-requires Inv-loop μ-loop
 write-record-requires c κs =
-    let s = c .before .before .before .before .before .before .before .before .before in
-    let a = s .pre .0 in
-    let t = c .before .before .before .before .loop .inv .1 in
-    let m = a .index-fits in
+    let t = c .before .before .before .before in
+    let l = t .before .before .before in
+    let s = start l in
+    let a = s .pre .1 .0 in
+    let p = s .pre .1 .1 .1 in
+    let v = l .loop .inv .1 in
+    let more = t .if1 .taken in
     let f = regulator-fits a in
-    ((a .admitted .prime, a .admitted .small, degree-two a, degree-most a, size-positive a (s .pre .1 .1) t), ((root-within a (s .pre .1 .1), left-places a (s .pre .1 .1) t), (Q-held _ _ _ (a .admitted) _ _ _ _ _ (t .walked .state), (place-fits a (s .pre .1 .1) t (search needs), omega arith, degree-within a (s .pre .1 .1) t (search needs), omega arith))))
+    let g = listed-going a p v more in
+    (s .pre .0, ((degree-two a, degree-most a, g .some), ((root-within a p, rest-places a p v), (Q-held _ _ _ (a .admitted) _ _ _ _ _ (v .walked .state), (place-fits a p v more, omega (arith, a .index-fits, more), degree-within a p v more, omega arith)))))
 
-add-at : tie.Need-add-at Inv-loop μ-loop
-add-at c = search needs
+add-place : tie.Need-add-place Inv-loop μ-loop
+add-place c =
+    let t = c .before .before .before .before .before .before .before in
+    let l = t .before .before .before in
+    let s = start l in
+    let a = s .pre .1 .0 in
+    let p = s .pre .1 .1 .1 in
+    let v = l .loop .inv .1 in
+    let more = t .if1 .taken in
+    omega (arith, degree-most a)
 
-add-at-2 : tie.Need-add-at-2 Inv-loop μ-loop
-add-at-2 c =
-    let s = c .before .before .before .before .before .before .before .before .before .before .before .before in
-    let w = place-fits (s .pre .0) (s .pre .1 .1) (c .before .before .before .before .before .before .before .loop .inv .1) (search needs) in
-    omega arith
-
-sub-degree : tie.Need-sub-degree Inv-loop μ-loop
-sub-degree c = let s = c .before .before .before .before .before .before .before .before .before .before .before .before in size-within (s .pre .0) (s .pre .1 .1) (c .before .before .before .before .before .before .before .loop .inv .1)
-
-add-degree-2 : tie.Need-add-degree-2 Inv-loop μ-loop
-add-degree-2 c =
-    let s = c .before .before .before .before .before .before .before .before .before .before .before .before in
-    let w = degree-within (s .pre .0) (s .pre .1 .1) (c .before .before .before .before .before .before .before .loop .inv .1) (search needs) in
-    let f = regulator-fits (s .pre .0) in
-    let l : s .args .n / 2 + 1 ≤ 128 = top-fits (s .pre .0) in
-    omega arith
+add-place-2 : tie.Need-add-place-2 Inv-loop μ-loop
+add-place-2 c =
+    let t = c .before .before .before .before .before .before .before in
+    let l = t .before .before .before in
+    let s = start l in
+    let a = s .pre .1 .0 in
+    let p = s .pre .1 .1 .1 in
+    let v = l .loop .inv .1 in
+    let more = t .if1 .taken in
+    omega (arith, place-small a p v more)
 
 turn-requires : tie.Need-turn-requires Inv-loop μ-loop
 turn-requires c κs =
-    let s = c .before .before .before .before .before .before .before .before .before .before .before .before .before .before .before in
-    let a = s .pre .0 in
-    let t = c .before .before .before .before .before .before .before .before .before .before .loop .inv .1 in
-    ((a .admitted .prime, a .admitted .small, refl), ((size-positive a (s .pre .1 .1) t, size-within a (s .pre .1 .1) t, top-fits a), (s .pre .1 .1 .inverses, turn-ready a (s .pre .1 .1) t)))
-
-add-i : tie.Need-add-i Inv-loop μ-loop
-add-i c = search needs
+    let t = c .before .before .before .before .before .before .before .before .before .before in
+    let l = t .before .before .before in
+    let s = start l in
+    let a = s .pre .1 .0 in
+    let p = s .pre .1 .1 .1 in
+    let v = l .loop .inv .1 in
+    let more = t .if1 .taken in
+    (s .pre .0, listed-going a p v more)
 
 loop-less : tie.Need-loop-less Inv-loop μ-loop
-loop-less c = search needs
+loop-less c =
+    let t = c .before .before .before .before .before .before .before .before .before .before .before in
+    omega (arith, t .if1 .taken, c .turn .ensures .taken .index-is)
 
 loop-again : tie.Need-loop-again Inv-loop μ-loop
 loop-again c =
-    let s = c .before .before .before .before .before .before .before .before .before .before .before .before .before .before .before .before in
-    let t = c .before .before .before .before .before .before .before .before .before .before .before .loop .inv .1 in
-    let u = c .turn in
-    (omega (arith, c .before .before .before .before .before .before .before .before .before .before .loop-test .taken), listed-next (s .pre .0) (s .pre .1 .1) t (c .before .before .before .before .before .before .write-record .ensures) (u .ensures .0) (u .ensures .1))
+    let w = c .before .before .before .before .before .before in
+    let t = w .before .before .before .before .before in
+    let l = t .before .before .before in
+    let s = start l in
+    let a = s .pre .1 .0 in
+    let p = s .pre .1 .1 .1 in
+    let v = l .loop .inv .1 in
+    let more = t .if1 .taken in
+    let u = c .turn .ensures in
+    (omega (arith, more, u .taken .index-is), listed-next a p v (w .write-record .ensures) u)
 
 same-length : tie.Need-same-length Inv-loop μ-loop
-same-length c = c .before .loop .inv .1 .long
+same-length c = c .before .before .before .loop .inv .1 .long
 
 returns : tie.Need-returns Inv-loop μ-loop
 returns c =
-    let s = c .before .before .before .before .before .before in
-    listed-all (s .pre .0) (c .before .loop .inv .1) (omega arith)
+    let l = c .before .before .before in
+    listed-all (start l .pre .1 .0) (l .loop .inv .1) (omega (arith, l .loop .inv .0, c .if1 .left))
 
 pub write-records-spec : {M : Type 1} → statement M
 write-records-spec =
@@ -99,17 +122,13 @@ write-records-spec =
     Inv-loop
     μ-loop
     add-top
-    div-reciprocal
-    array-write-b
+    begin-requires
     loop-holds
-    add-degree
+    add-t25
     write-record-requires
-    add-at
-    add-at-2
-    sub-degree
-    add-degree-2
+    add-place
+    add-place-2
     turn-requires
-    add-i
     loop-less
     loop-again
     same-length

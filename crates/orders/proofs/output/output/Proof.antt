@@ -1,4 +1,5 @@
--- A cut word is refused, and whole words are a ticket of at most 70 words. T3 of the first line follows from what is printed.
+-- A cut word is refused, and whole words are a ticket of at most 70 words. T3 of the first line follows from
+-- what is printed.
 use native.Mathlib.Omega.{arith}
 use mathlib.Core.Path.{_≡_, sym, _∙_}
 use lib.ListN.{length}

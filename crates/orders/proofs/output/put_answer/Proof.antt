@@ -6,7 +6,7 @@ use lib.Seq.{length-take-le}
 use Rattle.spec_definitions.specs.Answers.{said}
 use Rattle.spec_demands.specs.Numbered.{t1-numbers}
 use Rattle.walk_run.specs.Outcome.{meaning}
-use Rattle.call_regulator.proofs.Kept.{not-found}
+use Rattle.walk_run.proofs.Kept.{not-found}
 use Rattle.orders.specs.Found.{found-fits, records-fit}
 use Rattle.orders.specs.Program.{answer-found, answer-other}
 use Rattle.orders.specs.Printed.{printed-prefix, printed-then, printed-same}

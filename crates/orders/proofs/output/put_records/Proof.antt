@@ -1,4 +1,5 @@
--- Each record lies within the list, and its line within the buffer. The measure is the number of records left.
+-- Each record lies within the list, and its line within the buffer. The measure is the number of records
+-- left.
 use Prim.Native.Nat.{_+_, _-_, _*_, _≤_}
 use native.Mathlib.Omega.{arith}
 use mathlib.Core.Path.{_≡_, refl, ap}
