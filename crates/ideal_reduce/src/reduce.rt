@@ -73,7 +73,10 @@ fn quotient_before(
     requires { ⌜ HeldAt (name f) (now radicand) l × HeldAt (name f) (now q) m × HeldAt (name f) (now p) k ⌝ }
     ensures { λ r. ⌜ Is f r (cofactorAt (ops f) (polyAt (now (radicand .entry)) l) (heldPair (recordOf (now (q .entry)) m) (recordOf (now (p .entry)) k))) ⌝ }
 {
-    let a = Poly { c: *radicand, size: l };
+    let a = Poly {
+        c: *radicand,
+        size: l,
+    };
     let b = Poly { c: *q, size: m };
     let c = Poly { c: *p, size: k };
     let r = cofactor(f, a, b, c);
@@ -113,13 +116,25 @@ fn descend(
     let mut after = [0u32; 129];
     while h < size {
         let lead_inverse = inverse(f, current[size - 1]);
-        let next = step_by(f, lead_inverse, &twice, top, &before, &current, size, &rest, &mut remains, &mut after);
-        top = height(&twice, &remains, size);
-        sum += (top - next) as u64;
+        let next = step_by(
+            f,
+            lead_inverse,
+            &twice,
+            top,
+            &before,
+            &current,
+            size,
+            &rest,
+            &mut remains,
+            &mut after,
+        );
+        let high = height(&twice, &remains, size);
+        sum += (high - next) as u64;
         before = current;
         current = after;
         rest = remains;
         size = next;
+        top = high;
     }
     let last = difference(f, d, &rest, larger(top, h + 1));
     let x = Poly { c: current, size };
@@ -132,7 +147,17 @@ pub fn reduce(f: Field, n: usize, radicand: Poly, d: &[u32; 129], q: Poly, p: Po
     ensures { λ r. ⌜ Reduces (name f) (genus n) (poly radicand) (heldPair q p) r ⌝ }
 {
     if n / 2 < q.size {
-        descend(f, n, &radicand.c, radicand.size, d, &q.c, q.size, &p.c, p.size)
+        descend(
+            f,
+            n,
+            &radicand.c,
+            radicand.size,
+            d,
+            &q.c,
+            q.size,
+            &p.c,
+            p.size,
+        )
     } else {
         Reduced { q, p, sum: 0 }
     }
