@@ -196,9 +196,30 @@ fn fill(
     ensures { λ _. ⌜ Moved (name f) (now (twice .entry)) (now (before .entry)) (now (current .entry)) (now (rest .entry)) (now (remains .exit)) (now (after .exit)) ⌝ }
 {
     if top == size + 1 {
-        linear(f, lead_inverse, twice, before, current, size, rest, remains, after);
+        linear(
+            f,
+            lead_inverse,
+            twice,
+            before,
+            current,
+            size,
+            rest,
+            remains,
+            after,
+        );
     } else {
-        general(f, lead_inverse, twice, top, before, current, size, rest, remains, after);
+        general(
+            f,
+            lead_inverse,
+            twice,
+            top,
+            before,
+            current,
+            size,
+            rest,
+            remains,
+            after,
+        );
     }
 }
 
@@ -222,7 +243,18 @@ pub fn step_by(
     requires { ⌜ Ready (name f) top size (now twice) (now before) (now current) (now rest) ⌝ }
     ensures { λ k. ⌜ Stepped (name f) (now (twice .entry)) (now (before .entry)) (now (current .entry)) (now (rest .entry)) (now (remains .exit)) (now (after .exit)) k ⌝ }
 {
-    fill(f, lead_inverse, twice, top, before, current, size, rest, remains, after);
+    fill(
+        f,
+        lead_inverse,
+        twice,
+        top,
+        before,
+        current,
+        size,
+        rest,
+        remains,
+        after,
+    );
     base_polynomial::linear::top(after, top)
 }
 
@@ -246,5 +278,16 @@ pub fn step(
     ensures { λ k. ⌜ Stepped (name f) (now (twice .entry)) (now (before .entry)) (now (current .entry)) (now (rest .entry)) (now (remains .exit)) (now (after .exit)) k ⌝ }
 {
     let lead_inverse = inverses[current[size - 1] as usize];
-    step_by(f, lead_inverse, twice, top, before, current, size, rest, remains, after)
+    step_by(
+        f,
+        lead_inverse,
+        twice,
+        top,
+        before,
+        current,
+        size,
+        rest,
+        remains,
+        after,
+    )
 }

@@ -2,8 +2,8 @@
 use mathlib.Core.Path.{subst}
 use mathlib.Core.List.{[], _∷_}
 use Prim.Native.Nat.{ℕ}
-use Rattle.spec_definitions.specs.Field.{modulo, prime}
-use Rattle.spec_definitions.specs.Polynomials.{trim}
+use Rattle.spec_arithmetic.specs.Field.{modulo, prime}
+use Rattle.spec_arithmetic.specs.Polynomials.{trim}
 use Rattle.base_places.specs.Record.{Is}
 use Rattle.base_polynomial.specs.Linear.{is-zero}
 use Rattle.base_euclid.specs.Monic.{lead-inverse-less}
