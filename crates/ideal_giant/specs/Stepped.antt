@@ -14,6 +14,7 @@ use Rattle.spec_definitions.specs.Answers.{rootOf}
 use Rattle.spec_definitions.specs.Listing.{idealOf}
 use Rattle.spec_definitions.specs.Products.{Product, productOf, turnsOf, degreeSum, shiftOf, giantDone}
 use Rattle.spec_bridge.specs.Division.{trim-quo, oks-quo, trim-rem, oks-rem}
+use Rattle.spec_bridge.specs.Monic.{length-monic}
 use Rattle.spec_laws.specs.Admitted.{Admitted, surd-of}
 use Rattle.spec_laws.specs.Pairs.{IsIdeal}
 use Rattle.spec_laws.specs.Product.{commonOf, productQ, productP, bezoutU, bezoutW, product-is}
@@ -138,6 +139,9 @@ module _ (n : ℕ) {f : FieldName} {D : List ℕ} (h : Admitted f (genus n) D) {
       module _ {a : Poly} (a-is : Is f a (monic (ops f) (poly (k .q)))) where
         pub monic-held : Held f a
         monic-held = result-monic (red .held-q) a-is .held
+
+        pub monic-some : 0 < a .size
+        monic-some = let e = a-is .size-is in let w = length-monic (M h) (I h) (poly (k .q)) in let v = held-size (red .held-q) in let z = red .some in omega arith
 
         -- ---- the answer
         pub stepped : {b : Poly} → Is f b (rem (ops f) (poly (k .p)) (poly a)) → {d₁ d₂ less : ℕ} → less ≡ fall → {u : ℤ} → u ≡ pos 0 -ℤ pos less → {v : ℤ} → v ≡ pos (d₁ + d₂) -ℤ pos less → Stepped f n D x d₁ y d₂ (record { q = a; p = b; f = u; distance = v })

@@ -2,19 +2,20 @@
 ghost use mathlib.Core.Path.{_≡_};
 ghost use Prim.Native.Nat.{_+_, _-_, _<_, _≤_};
 ghost use lib.IntN.{pos, _-ℤ_};
+ghost use Rattle.spec_definitions.specs.Polynomials.{rem as remOf};
 ghost use Rattle.spec_definitions.specs.Ticket.{genus};
 ghost use Rattle.spec_laws.specs.Admitted.{Admitted};
 ghost use Rattle.base_polynomial.specs.Whole.{poly, Held, Is};
 ghost use Rattle.walk_state.specs.State.{rootD};
 ghost use Rattle.ideal_product.specs.Operand.{heldPair, Operand};
-ghost use Rattle.base_field.specs.Named.{name, IsField};
+ghost use Rattle.base_field.specs.Named.{name, ops, IsField};
 ghost use Rattle.ideal_giant.specs.Signed.{farthest, twoDistances};
 ghost use Rattle.ideal_giant.specs.Stepped.{Stepped};
 use crate::Giant;
 use base_counters::Distance;
+use base_euclid::division::remainder;
 use base_field::Field;
 use base_polynomial::Poly;
-use base_polynomial::division::div_rem;
 use base_polynomial::linear::monic;
 use ideal_product::multiply::product;
 use ideal_reduce::reduce::reduce;
@@ -33,6 +34,17 @@ fn lower(q: usize, s: usize, last: usize, sum: u64) -> u64
     ensures { λ r. ⌜ r ≡ (q - last - sum) + (s - 1) ⌝ }
 {
     (q - last + s - 1) as u64 - sum
+}
+
+// P modulo Q, which is not 0.
+fn residue(f: Field, p: Poly, q: Poly) -> Poly
+    requires { ⌜ IsField f × (0 < q .size) ⌝ }
+    requires { ⌜ Held f p × Held f q ⌝ }
+    ensures { λ r. ⌜ Is f r (remOf (ops f) (poly p) (poly q)) ⌝ }
+{
+    let mut c = p.c;
+    let size = remainder(f, &mut c, p.size, &q.c, q.size);
+    Poly { c, size }
 }
 
 // The giant step of two ideals of degree at most g = n/2 − 1, with their distances. D is the radicand, of
@@ -65,8 +77,7 @@ pub fn giant(
     let y = r.p;
     let less = lower(q.size, s.size, x.size, r.sum);
     let a = monic(f, x);
-    let k = div_rem(f, y, a);
-    let b = k.rem;
+    let b = residue(f, y, a);
     Giant {
         q: a,
         p: b,

@@ -1,4 +1,5 @@
--- How many places the difference of two arrays has: they are equal from there on, and differ at the place before.
+-- How many places the difference of two arrays has: they are equal from there on, and differ at the place
+-- before.
 use Prim.Native.Nat.{ℕ, _-_, _≤_, _<_}
 use native.Mathlib.Omega.{arith}
 use mathlib.Core.Path.{_≡_, sym, ap, _∙_}

@@ -1,20 +1,20 @@
--- The steps from any ideal by the recurrences of the walk, as equations of lists: with the remainder r_{j−1} of the step before, P_j + d is 2d − r_{j−1}, and the next Q is
--- the Q before and a_j·(r_j − r_{j−1}). Before the first step these are d − P_0 and (D − P_0²)/Q_0.
-use Prim.Native.Nat.{ℕ, zero, suc, _≤_, _<_}
-use native.Mathlib.Omega.{arith}
-use mathlib.Core.Path.{_≡_, refl, sym, ap, ap₂, _∙_}
+-- The steps from any ideal by the recurrences of the walk, as equations of lists: with the remainder r_{j−1}
+-- of the step before, P_j + d is 2d − r_{j−1}, and the next Q is the Q before and a_j·(r_j − r_{j−1}). Before
+-- the first step these are d − P_0 and (D − P_0²)/Q_0.
+use Prim.Native.Nat.{ℕ, zero, suc}
+use mathlib.Core.Path.{_≡_, sym, ap, ap₂, _∙_}
 use mathlib.Core.List.{List, [], _∷_}
 use lib.ListN.{length}
 use Rattle.math_ring.specs.Ring.{CRing}
-use Rattle.math_ring.specs.Identity.{ring, ring-from, times, plus, quote}
+use Rattle.math_ring.specs.Identity.{ring-from, times, plus, quote}
 use Rattle.math_ring.specs.Series.{Series}
 use Rattle.math_algebra.specs.Field.{Field}
 use Rattle.math_algebra.specs.Polynomial.{F, Px, deg-path}
 use Rattle.math_algebra.specs.Finite.{Finite, finite-add, finite-sub, finite-mul, cancel-left}
 use Rattle.math_surd.specs.Step.{State}
 use Rattle.math_ideals.specs.Steps.{height, height-deg}
-use Rattle.spec_arithmetic.specs.Field.{Ops}
-use Rattle.spec_arithmetic.specs.Polynomials.{trim, add, sub, mul, quo, rem}
+use Rattle.spec_definitions.specs.Field.{Ops}
+use Rattle.spec_definitions.specs.Polynomials.{add, sub, mul, quo, rem}
 use Rattle.spec_definitions.specs.Walk.{Ideal, partial, nextP, next, steps}
 use Rattle.spec_bridge.specs.Model.{Model, Oks, series}
 use Rattle.spec_bridge.specs.Trim.{Trim, below-length, series-ext}

@@ -1,8 +1,9 @@
--- The reduction at its index j, in arrays of 129 places: Q_j, the Q before it and the remainder of the step before, with the sum of the degrees of a so far. A step of the walk
--- takes one to the next, and the size of Q falls.
+-- The reduction at its index j, in arrays of 129 places: Q_j, the Q before it and the remainder of the step
+-- before, with the sum of the degrees of a so far. A step of the walk takes one to the next, and the size of
+-- Q falls.
 use Prim.Native.Nat.{ℕ, zero, suc, _+_, _-_, _≤_, _<_}
 use native.Mathlib.Omega.{arith}
-use mathlib.Core.Path.{_≡_, refl, sym, ap, ap₂, _∙_, subst, subst₂}
+use mathlib.Core.Path.{_≡_, refl, sym, ap, ap₂, _∙_, subst}
 use mathlib.Core.Logic.{⊎-elim}
 use mathlib.Core.List.{List}
 use lib.ListN.{length, getD, List·getD-eq-default}
@@ -39,7 +40,8 @@ use Rattle.ideal_reduce.specs.Height.{Height, height-length}
 use Rattle.ideal_reduce.specs.Recurrence.{before, left, left-oks, before-oks, P-left, dividend, left-next, Q-step, height-size}
 use Rattle.ideal_reduce.specs.Start.{Start, Begun, begun, p-less}
 
--- the arrays, the size of Q and the sum are those of an index; the degree of each Q before is above g; `top` bounds the sizes of the next step
+-- the arrays, the size of Q and the sum are those of an index; the degree of each Q before is above g; `top`
+-- bounds the sizes of the next step
 pub record At (f : FieldName) (g : ℕ) (D : List ℕ) (x : Ideal ℕ) (before-array current rest : List ℕ) (size top sum : ℕ) : Type 0 where
   pub index : ℕ
   pub before-is : before-array ≡ pad (ops f) 129 (before (ops f) D (rootD f g D) x index)
@@ -340,11 +342,11 @@ module _ {f : FieldName} {g : ℕ} {radicand : Poly} {e : List ℕ} {q p : Poly}
         let n : length (sub (ops f) (rootD f g (poly radicand)) (poly p)) ≤ 129 = length-sub (M (s .admitted)) (rootD f g (poly radicand)) (poly p) 129 (omega arith) (omega arith) in
         ext-getD 0 r _ (places .long ∙ sym (length-pad (ops f) 129 _)) (λ i _. places .at i ∙ ap₂ (ops f .sub) (ap (λ (c : List ℕ). getD c i 0) (s .root-is) ∙ at-pad (ops f) 129 (rootD f g (poly radicand)) (omega arith) i) (sym (at-poly (s .held-p) i)) ∙ sym (at-pad (ops f) 129 _ n i ∙ at-sub (M (s .admitted)) (rootD f g (poly radicand)) (poly p) i))
 
-    pub at-first : {first : Poly} → Is f first (cofactorAt (ops f) (poly radicand) (heldPair q p)) → At f g (poly radicand) (heldPair q p) (first .c) (q .c) r (q .size) (q .size) 0
+    pub at-first : {c : List ℕ} → c ≡ pad (ops f) 129 (cofactorAt (ops f) (poly radicand) (heldPair q p)) → At f g (poly radicand) (heldPair q p) c (q .c) r (q .size) (q .size) 0
     unfolding before left steps degreeSum
-    at-first first-is = record {
+    at-first c-is = record {
       index = 0;
-      before-is = first-is .places;
+      before-is = c-is;
       q-is = s .held-q .places;
       left-is = rest-is;
       size-is = sym (length-poly (s .held-q));

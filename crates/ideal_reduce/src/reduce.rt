@@ -1,25 +1,27 @@
-// The reduction of a pair: steps of the walk until the degree of Q is at most g. Each Q but the first two is by the recurrence (2-7) of
-// source 000, as in the walk, so that D − P² is divided by Q once.
+// The reduction of a pair: steps of the walk until the degree of Q is at most g. Each Q is by the recurrence
+// (2-7) of source 000, as in the walk: D − P² is divided by Q once, for the Q before the first.
 ghost use mathlib.Core.Path.{_≡_};
 ghost use Prim.Native.Nat.{ℕ, _/_, _<_, _≤_};
 ghost use lib.ListN.{getD};
+ghost use Rattle.spec_definitions.specs.Polynomials.{pad};
 ghost use Rattle.spec_definitions.specs.Ticket.{genus};
 ghost use Rattle.spec_laws.specs.Pairs.{cofactorAt};
 ghost use Rattle.base_field.specs.Named.{name, ops, IsField};
 ghost use Rattle.base_polynomial.specs.Places.{Places, Within, Top};
 ghost use Rattle.base_polynomial.specs.Record.{poly as polyAt, Held as HeldAt};
-ghost use Rattle.base_polynomial.specs.Whole.{poly, Is};
+ghost use Rattle.base_polynomial.specs.Whole.{poly};
 ghost use Rattle.ideal_product.specs.Operand.{heldPair};
 ghost use Rattle.ideal_reduce.specs.Height.{Height};
 ghost use Rattle.ideal_reduce.specs.Start.{recordOf, Start};
 ghost use Rattle.ideal_reduce.specs.Turn.{Reduces};
 use crate::Reduced;
+use base_euclid::division::divide;
+use base_euclid::division::subtract_product;
 use base_field::Field;
 use base_field::inverse;
 use base_polynomial::Poly;
 use base_polynomial::linear::add_places;
 use base_polynomial::linear::sub_places;
-use ideal_product::multiply::cofactor;
 use walk_step::step::step_by;
 
 // The larger of m and n.
@@ -59,7 +61,7 @@ fn difference(f: Field, x: &[u32; 129], y: &[u32; 129], n: usize) -> Poly
     Poly { c, size }
 }
 
-// (D − P²)/Q, where D has l places, Q has m and P has k.
+// z becomes (D − P²)/Q, where D has l places, Q has m and P has k.
 fn quotient_before(
     f: Field,
     radicand: &[u32; 129],
@@ -68,24 +70,20 @@ fn quotient_before(
     m: usize,
     p: &[u32; 129],
     k: usize,
-) -> Poly
-    requires { ⌜ IsField f × (k ≤ 65) ⌝ }
+    z: &mut [u32; 129],
+)
+    requires { ⌜ IsField f × (0 < m) × (k ≤ 65) ⌝ }
     requires { ⌜ HeldAt (name f) (now radicand) l × HeldAt (name f) (now q) m × HeldAt (name f) (now p) k ⌝ }
-    ensures { λ r. ⌜ Is f r (cofactorAt (ops f) (polyAt (now (radicand .entry)) l) (heldPair (recordOf (now (q .entry)) m) (recordOf (now (p .entry)) k))) ⌝ }
+    ensures { λ _. ⌜ now (z .exit) ≡ pad (ops f) 129 (cofactorAt (ops f) (polyAt (now (radicand .entry)) l) (heldPair (recordOf (now (q .entry)) m) (recordOf (now (p .entry)) k))) ⌝ }
 {
-    let a = Poly {
-        c: *radicand,
-        size: l,
-    };
-    let b = Poly { c: *q, size: m };
-    let c = Poly { c: *p, size: k };
-    let r = cofactor(f, a, b, c);
-    r.quo
+    let mut a = *radicand;
+    let size = subtract_product(f, &mut a, l, p, k, p, k);
+    divide(f, &mut a, size, q, m, z);
 }
 
-// The steps from a pair with deg Q above g until the first k with deg Q_k at most g. D has l places, Q has m and P has k. The Q before
-// the first is (D − P²)/Q, and the remainder before it d − P. From then on deg a_j is the degree of P_j + d = twice − rest less that of
-// Q_j.
+// The steps from a pair with deg Q above g until the first k with deg Q_k at most g. D has l places, Q has m
+// and P has k. The Q before the first is (D − P²)/Q, and the remainder before it d − P. From then on deg a_j
+// is the degree of P_j + d = twice − rest less that of Q_j.
 fn descend(
     f: Field,
     n: usize,
@@ -102,13 +100,13 @@ fn descend(
     ensures { λ r. ⌜ Reduces (name f) (genus n) (polyAt (now (radicand .entry)) l) (heldPair (recordOf (now (q .entry)) m) (recordOf (now (p .entry)) k)) r ⌝ }
 {
     let h = n / 2;
-    let first = quotient_before(f, radicand, l, q, m, p, k);
-    let start = difference(f, d, p, m);
+    let mut before = [0u32; 129];
+    quotient_before(f, radicand, l, q, m, p, k, &mut before);
+    let mut rest = [0u32; 129];
+    sub_places(f, d, p, m, &mut rest);
     let mut twice = [0u32; 129];
     add_places(f, d, d, h + 1, &mut twice);
-    let mut before = first.c;
     let mut current = *q;
-    let mut rest = start.c;
     let mut size = m;
     let mut top = m;
     let mut sum: u64 = 0;
@@ -141,7 +139,8 @@ fn descend(
     Reduced { q: x, p: last, sum }
 }
 
-// The first pair (Q_k, P_k), k from 0 on, with deg Q_k at most g = n/2 − 1. D is the radicand, of degree n, and d its root.
+// The first pair (Q_k, P_k), k from 0 on, with deg Q_k at most g = n/2 − 1. D is the radicand, of degree n,
+// and d its root.
 pub fn reduce(f: Field, n: usize, radicand: Poly, d: &[u32; 129], q: Poly, p: Poly) -> Reduced
     requires { ⌜ IsField f × Start (name f) (genus n) radicand (now d) q p × (2 ≤ n) ⌝ }
     ensures { λ r. ⌜ Reduces (name f) (genus n) (poly radicand) (heldPair q p) r ⌝ }

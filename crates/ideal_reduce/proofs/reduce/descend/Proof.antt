@@ -1,5 +1,6 @@
--- The loop's invariant: the arrays are those of an index, with every Q before it of degree above g, and the sum runs to that index. The size of Q falls.
-use Prim.Native.Nat.{ℕ, suc, _+_, _-_, _/_, _≤_, _<_}
+-- The loop's invariant: the arrays are those of an index, with every Q before it of degree above g, and the
+-- sum runs to that index. The size of Q falls.
+use Prim.Native.Nat.{suc, _+_, _-_, _/_, _≤_, _<_}
 use native.Mathlib.Omega.{arith}
 use mathlib.Core.Path.{_≡_}
 use borrow.Author.Needs.{needs}
@@ -17,11 +18,11 @@ use Rattle.ideal_reduce.proofs.reduce.descend.Statement.{statement}
 use Rattle.ideal_reduce.proofs.reduce.descend.Tie as tie
 
 abbrev Inv-loop : tie.InvT-loop
-Inv-loop f n radicand l d q m p k h twice before₀ current₀ rest₀ size₀ top₀ sum₀ remains₀ after₀ before current rest size top sum remains after =
+Inv-loop f n radicand l d q m p k h before₀ rest₀ twice current₀ size₀ top₀ sum₀ remains₀ after₀ before rest current size top sum remains after =
     At (name f) (genus n) (poly radicand l) (heldPair (recordOf q m) (recordOf p k)) before current rest size top sum
 
 abbrev μ-loop : tie.MeasureT-loop
-μ-loop f n radicand l d q m p k h twice before₀ current₀ rest₀ size₀ top₀ sum₀ remains₀ after₀ before current rest size top sum remains after =
+μ-loop f n radicand l d q m p k h before₀ rest₀ twice current₀ size₀ top₀ sum₀ remains₀ after₀ before rest current size top sum remains after =
     size
 
 abbrev start : tie.At-loop Inv-loop μ-loop → tie.Start Inv-loop μ-loop
@@ -34,22 +35,23 @@ root-top s = (top-is (s .args .n) (s .pre .0 .1), s .pre .1 .admitted .genus-mos
 high : (c : tie.In-loop Inv-loop μ-loop) → suc (genus (start (c .before) .args .n)) < c .before .loop .size
 high c = let s = start (c .before) in let e = half-degree (s .args .n) (s .pre .0 .1) in omega arith
 
-twice-is : (l : tie.At-loop Inv-loop μ-loop) → l .before .before .before .before .add-places .last .1 .1 .1 .1 .0 ≡ pad (modulo (start l .args .f .q)) 129 (add (modulo (start l .args .f .q)) (rootD (name (start l .args .f)) (genus (start l .args .n)) (poly (start l .args .radicand .now) (start l .args .l))) (rootD (name (start l .args .f)) (genus (start l .args .n)) (poly (start l .args .radicand .now) (start l .args .l))))
+twice-is : (l : tie.At-loop Inv-loop μ-loop) → l .before .before .add-places .last .1 .1 .1 .1 .0 ≡ pad (modulo (start l .args .f .q)) 129 (add (modulo (start l .args .f .q)) (rootD (name (start l .args .f)) (genus (start l .args .n)) (poly (start l .args .radicand .now) (start l .args .l))) (rootD (name (start l .args .f)) (genus (start l .args .n)) (poly (start l .args .radicand .now) (start l .args .l))))
 twice-is l =
     let s = start l in
     let t = s .pre .1 in
-    twice-places (s .args .f .q) (s .args .n) (s .args .radicand .now) (s .args .l) (t .admitted) (t .held-D) (s .pre .0 .1) (s .args .d .now) _ (t .root-is) (l .before .before .before .before .add-places .ensures)
+    twice-places (s .args .f .q) (s .args .n) (s .args .radicand .now) (s .args .l) (t .admitted) (t .held-D) (s .pre .0 .1) (s .args .d .now) _ (t .root-is) (l .before .before .add-places .ensures)
 
 quotient-before-requires : tie.Need-quotient-before-requires Inv-loop μ-loop
 quotient-before-requires c κs =
-    let t = c .pre .1 in
+    let s = c .before in
+    let t = s .pre .1 in
     let w = t .p-most in
     let g = t .admitted .genus-most in
-    ((c .pre .0 .0, omega arith), (t .held-D, t .held-q, t .held-p))
+    ((s .pre .0 .0, (let v = s .pre .0 .2 in omega arith), omega arith), (t .held-D, t .held-q, t .held-p))
 
-difference-requires : tie.Need-difference-requires Inv-loop μ-loop
-difference-requires c κs =
-    let s = c .before in
+sub-places-requires : tie.Need-sub-places-requires Inv-loop μ-loop
+sub-places-requires c κs =
+    let s = c .before .before .before in
     let t = s .pre .1 in
     let e = root-top s in
     let w = t .q-most in
@@ -61,7 +63,7 @@ add-add-places c = search needs
 
 add-places-requires : tie.Need-add-places-requires Inv-loop μ-loop
 add-places-requires c κs =
-    let s = c .before .before .before in
+    let s = c .before .before .before .before .before in
     let t = s .pre .1 in
     let e = root-top s in
     let w = root-within t (s .args .n / 2 + 1) (omega arith) (omega arith) in
@@ -69,10 +71,10 @@ add-places-requires c κs =
 
 loop-holds : tie.Need-loop-holds Inv-loop μ-loop
 loop-holds c =
-    let b = c .before .before .before .before .before in
-    let s = b .before .before in
+    let b = c .before .before .before in
+    let s = b .before .before .before .before in
     let e = root-top s in
-    at-first (s .pre .1) (let v = s .pre .0 .2 in omega arith) (b .difference .ensures .0) (b .before .quotient-before .ensures)
+    at-first (s .pre .1) (let v = s .pre .0 .2 in omega arith) (b .sub-places .ensures) (b .before .before .quotient-before .ensures)
 
 sub-inverse : tie.Need-sub-inverse Inv-loop μ-loop
 sub-inverse c = search needs
@@ -151,8 +153,8 @@ add-larger c = search needs
 larger-requires : tie.Need-larger-requires Inv-loop μ-loop
 larger-requires c κs = search needs
 
-difference-requires-2 : tie.Need-difference-requires-2 Inv-loop μ-loop
-difference-requires-2 c κs =
+difference-requires : tie.Need-difference-requires Inv-loop μ-loop
+difference-requires c κs =
     let l = c .before .before .before in
     let s = start l in
     let t = l .loop .inv in
@@ -167,7 +169,7 @@ returns c =
     let s = start l in
     let t = l .loop .inv in
     let e = half-degree (s .args .n) (s .pre .0 .1) in
-    let d = c .difference2 .ensures in
+    let d = c .difference .ensures in
     reduces (begun (s .pre .1)) t (omega arith) (s .pre .1 .root-is) (d .0) (d .1)
 
 pub descend-spec : {M : Type 1} → statement M
@@ -177,7 +179,7 @@ descend-spec =
     Inv-loop
     μ-loop
     quotient-before-requires
-    difference-requires
+    sub-places-requires
     add-add-places
     add-places-requires
     loop-holds
@@ -193,5 +195,5 @@ descend-spec =
     loop-again
     add-larger
     larger-requires
-    difference-requires-2
+    difference-requires
     returns)

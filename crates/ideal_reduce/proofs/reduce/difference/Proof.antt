@@ -1,6 +1,5 @@
 -- The places of the difference, with its size.
 use mathlib.Core.Path.{_∙_}
-use native.Mathlib.Omega.{arith}
 use borrow.Author.Needs.{needs}
 use Rattle.spec_bridge.specs.Residues.{pos}
 use Rattle.base_polynomial.specs.Linear.{sub-zeros}
