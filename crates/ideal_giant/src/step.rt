@@ -2,7 +2,7 @@
 ghost use mathlib.Core.Path.{_≡_};
 ghost use Prim.Native.Nat.{_+_, _-_, _<_, _≤_};
 ghost use lib.IntN.{pos, _-ℤ_};
-ghost use Rattle.spec_definitions.specs.Polynomials.{rem as remOf};
+ghost use Rattle.spec_arithmetic.specs.Polynomials.{rem as remOf};
 ghost use Rattle.spec_definitions.specs.Ticket.{genus};
 ghost use Rattle.spec_laws.specs.Admitted.{Admitted};
 ghost use Rattle.base_polynomial.specs.Whole.{poly, Held, Is};

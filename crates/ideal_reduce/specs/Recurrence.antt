@@ -13,8 +13,8 @@ use Rattle.math_algebra.specs.Polynomial.{F, Px, deg-path}
 use Rattle.math_algebra.specs.Finite.{Finite, finite-add, finite-sub, finite-mul, cancel-left}
 use Rattle.math_surd.specs.Step.{State}
 use Rattle.math_ideals.specs.Steps.{height, height-deg}
-use Rattle.spec_definitions.specs.Field.{Ops}
-use Rattle.spec_definitions.specs.Polynomials.{add, sub, mul, quo, rem}
+use Rattle.spec_arithmetic.specs.Field.{Ops}
+use Rattle.spec_arithmetic.specs.Polynomials.{add, sub, mul, quo, rem}
 use Rattle.spec_definitions.specs.Walk.{Ideal, partial, nextP, next, steps}
 use Rattle.spec_bridge.specs.Model.{Model, Oks, series}
 use Rattle.spec_bridge.specs.Trim.{Trim, below-length, series-ext}

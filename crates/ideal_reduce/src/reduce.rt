@@ -3,7 +3,7 @@
 ghost use mathlib.Core.Path.{_≡_};
 ghost use Prim.Native.Nat.{ℕ, _/_, _<_, _≤_};
 ghost use lib.ListN.{getD};
-ghost use Rattle.spec_definitions.specs.Polynomials.{pad};
+ghost use Rattle.spec_arithmetic.specs.Polynomials.{pad};
 ghost use Rattle.spec_definitions.specs.Ticket.{genus};
 ghost use Rattle.spec_laws.specs.Pairs.{cofactorAt};
 ghost use Rattle.base_field.specs.Named.{name, ops, IsField};

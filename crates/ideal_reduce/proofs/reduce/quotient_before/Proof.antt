@@ -3,8 +3,8 @@ use native.Mathlib.Omega.{arith}
 use mathlib.Core.Path.{ap, _∙_}
 use mathlib.Core.List.{List}
 use Prim.Native.Nat.{ℕ}
-use Rattle.spec_definitions.specs.Field.{modulo}
-use Rattle.spec_definitions.specs.Polynomials.{pad, quo}
+use Rattle.spec_arithmetic.specs.Field.{modulo}
+use Rattle.spec_arithmetic.specs.Polynomials.{pad, quo}
 use Rattle.base_polynomial.specs.Record.{poly}
 use Rattle.base_polynomial.specs.Held.{held-length}
 use Rattle.base_polynomial.specs.Linear.{held-within}
