@@ -1,3 +1,4 @@
+pub mod RecordLength
 pub mod Sentences
 pub mod Tests
 pub mod Readings

@@ -16,7 +16,7 @@ use Rattle.spec_arithmetic.specs.Field.{FieldName, fits}
 use Rattle.spec_arithmetic.specs.Words.{kind, value, same}
 use Rattle.spec_definitions.specs.Ticket.{wrongHead, wrongPrime, wrongDegree, laterKinds, wrongLayout, wrongCoefficient, wrongLead}
 use Rattle.spec_lists.specs.Same.{one-of-one}
-use Rattle.spec_lists.specs.Layout.{length-later, later-coefficient, later-budget, later-end}
+use Rattle.spec_laws.specs.Layout.{length-later, later-coefficient, later-budget, later-end}
 use Rattle.spec_bridge.specs.Prime.{OddPrime, odd-prime-true, prime-odd-prime, odd-prime-more, prime-divisor, prime-of-divisors}
 use Rattle.spec_fields.specs.Named.{IsField}
 use Rattle.spec_demands.specs.Sentences.{kindAt, valueAt, q, field, n, TooLarge, coefficient, D, AllowedPrime, AllowedField, WrongHead, WrongPrime, WrongDegree, WrongKind, WrongLayout, WrongCoefficient, WrongLead}

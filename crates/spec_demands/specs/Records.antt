@@ -18,7 +18,7 @@ use Rattle.spec_definitions.specs.Listing.{Entry, recordWords, entryOf, recordO
 use Rattle.spec_definitions.specs.Lookup.{recordKinds, recordAt, distanceAt, recordCount, rightKinds, rising}
 use Rattle.spec_lists.specs.Words.{kind-word, value-word, low-less, joined-back}
 use Rattle.spec_lists.specs.Same.{same-refl}
-use Rattle.spec_lists.specs.Record.{length-record}
+use Rattle.spec_demands.specs.RecordLength.{length-record}
 
 -- ---- lists
 map-append : (f : ℕ → ℕ) (l m : List ℕ) → map f (l ++ m) ≡ map f l ++ map f m

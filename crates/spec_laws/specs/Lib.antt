@@ -18,3 +18,4 @@ pub mod Signs
 pub mod Norms
 pub mod Solutions
 pub mod State
+pub mod Layout

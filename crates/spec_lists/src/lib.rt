@@ -1,2 +1,1 @@
-// Laws of words and of lists of numbers, specs only: a word's kind and value, equal lists, padded lists, the
-// kinds of a ticket's words, the length of a record.
+// Laws of words and of lists of numbers, specs only: a word's kind and value, equal lists, padded lists.

@@ -10,7 +10,7 @@ use lib.Seq.{ext-getD, getD-drop}
 use Rattle.spec_arithmetic.specs.Words.{kind, same}
 use Rattle.spec_definitions.specs.Ticket.{laterKinds}
 use Rattle.spec_lists.specs.Same.{same-refl, same-not}
-use Rattle.spec_lists.specs.Layout.{length-later}
+use Rattle.spec_laws.specs.Layout.{length-later}
 
 module _ (n : ℕ) (w : List ℕ) (all : length w ≡ n + 5) where
   length-kinds : length (map kind (drop 2 w)) ≡ n + 3

@@ -2,7 +2,7 @@
 use native.Mathlib.Omega.{arith}
 use mathlib.Core.Path.{sym}
 use borrow.Author.Needs.{needs}
-use Rattle.spec_lists.specs.Layout.{later-coefficient, later-budget, later-end}
+use Rattle.spec_laws.specs.Layout.{later-coefficient, later-budget, later-end}
 use Rattle.ticket_tests.proofs.layout.later_kind.Statement.{statement}
 use Rattle.ticket_tests.proofs.layout.later_kind.Tie as tie
 
