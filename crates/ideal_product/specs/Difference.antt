@@ -2,6 +2,7 @@
 -- than v and the product.
 use Prim.Native.Nat.{ℕ, suc, _+_, _≤_, _<_}
 use native.Mathlib.Omega.{arith}
+use mathlib.Core.Path.{_≡_, subst}
 use mathlib.Core.List.{List}
 use lib.ListN.{length}
 use Rattle.spec_arithmetic.specs.Field.{FieldName, ops}
@@ -47,3 +48,6 @@ size-subtract {f} {x} {m} held-x {y} {n} held-y is k h h′ =
     let e = is .size-is in
     let w = length-sub (model (f .q) (held-positive (f .q) x m held-x)) (poly x m) (poly y n) k (omega arith) (omega arith) in
     omega arith
+
+pub is-path : {f : FieldName} {c : List ℕ} {size : ℕ} {l l′ : List ℕ} → l ≡ l′ → Is f c size l → Is f c size l′
+is-path {f} {c} {size} e h = subst (λ (l : List ℕ). Is f c size l) e h

@@ -67,6 +67,9 @@ module _ {f : FieldName} {g : ℕ} {D : List ℕ} (h : Admitted f g D) {q1 p1 : 
       pub Q-result : Result f q (productQ (ops f) x y)
       Q-result = result Q-is (let e = Q-length (K h) (M h) (I h) (operand-ideal h t) (operand-ideal h t′) (operand-degree h t) (operand-degree h t′) in let w = h .genus-most in omega arith) (trim-quo (M h) _ _) (oks-quo (M h) _ _)
 
+      pub Q-positive : 0 < q .size
+      Q-positive = let e = Q-length (K h) (M h) (I h) (operand-ideal h t) (operand-ideal h t′) (operand-degree h t) (operand-degree h t′) in let z = Q-is .size-is in omega arith
+
       product-q : Is f q (productOf (ops f) D x y .ideal .q)
       product-q = subst (Is f q) (ap (λ (r : Product ℕ). r .ideal .q) (sym (product-is (K h) (M h) (I h) D x y))) Q-is
 

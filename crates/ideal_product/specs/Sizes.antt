@@ -1,12 +1,12 @@
--- How long the results of calls on polynomials are: sums, differences and Bezout's first factor.
+-- How long the results of calls on polynomials are: sums and Bezout's first factor.
 use Prim.Native.Nat.{ℕ, _≤_, _<_}
 use native.Mathlib.Omega.{arith}
 use mathlib.Core.Logic.{⊎-elim}
 use Rattle.math_ring.specs.Order.{le-or-lt}
-use Rattle.spec_arithmetic.specs.Field.{FieldName, ops}
-use Rattle.spec_arithmetic.specs.Polynomials.{add, sub, bezout}
+use Rattle.spec_definitions.specs.Field.{FieldName, ops}
+use Rattle.spec_definitions.specs.Polynomials.{add, bezout}
 use Rattle.spec_bridge.specs.Trim.{trim-nil}
-use Rattle.spec_bridge.specs.Lengths.{length-add, length-sub}
+use Rattle.spec_bridge.specs.Lengths.{length-add}
 use Rattle.spec_bridge.specs.BezoutLength.{bezout-u-length, bezout-u-constant}
 use Rattle.spec_bridge.specs.Prime.{Prime}
 use Rattle.spec_bridge.specs.Residues.{model, inverts}
@@ -19,9 +19,6 @@ module _ {f : FieldName} {a : Poly} (ha : Held f a) {b : Poly} (hb : Held f b) w
 
   pub size-add : {c : Poly} → (k : ℕ) → a .size ≤ k → b .size ≤ k → Is f c (add (ops f) (poly a) (poly b)) → c .size ≤ k
   size-add k h l r = let x = held-size ha in let y = held-size hb in let e = r .size-is in let w = length-add (model (f .q) pos) (poly a) (poly b) k (omega arith) (omega arith) in omega arith
-
-  pub size-sub : {c : Poly} → (k : ℕ) → a .size ≤ k → b .size ≤ k → Is f c (sub (ops f) (poly a) (poly b)) → c .size ≤ k
-  size-sub k h l r = let x = held-size ha in let y = held-size hb in let e = r .size-is in let w = length-sub (model (f .q) pos) (poly a) (poly b) k (omega arith) (omega arith) in omega arith
 
   -- the first factor is shorter than the second polynomial, or a constant
   pub size-u : {c : Poly} → Prime (f .q) → (k : ℕ) → 1 ≤ k → b .size ≤ k → Is f c (bezout (ops f) (poly a) (poly b) .u) → c .size ≤ k

@@ -11,9 +11,12 @@ ghost use Rattle.base_field.specs.Named.{name, ops, IsField};
 use crate::Multipliers;
 use crate::Product;
 use crate::arrays::multiply;
+use crate::arrays::quotient;
+use crate::arrays::subtract;
 use crate::coprime::factor;
 use base_euclid::bezout::bezout;
 use base_euclid::bezout::first_factor;
+use base_euclid::division::remainder;
 use base_euclid::division::subtract_product;
 use base_field::Field;
 use base_polynomial::Poly;
@@ -80,25 +83,33 @@ fn bracket(f: Field, p1: Poly, p2: Poly, u: Poly, w: Poly, c: Poly) -> Poly
     requires { ⌜ Held f u × Held f w × Held f c ⌝ }
     ensures { λ r. ⌜ Is f r (addOf (ops f) (mulOf (ops f) (poly u) (subOf (ops f) (poly p2) (poly p1))) (mulOf (ops f) (poly w) (poly c))) ⌝ }
 {
-    let d = sub(f, p2, p1);
-    let a = mul(f, u, d);
-    let b = mul(f, w, c);
-    add(f, a, b)
+    let mut t = [0u32; 129];
+    let k = subtract(f, &p2.c, p2.size, &p1.c, p1.size, &mut t);
+    let mut x = [0u32; 129];
+    let l = multiply(f, &u.c, u.size, &t, k, &mut x);
+    let mut y = [0u32; 129];
+    let m = multiply(f, &w.c, w.size, &c.c, c.size, &mut y);
+    let mut z = [0u32; 129];
+    let n = crate::arrays::add(f, &x, l, &y, m, &mut z);
+    Poly { c: z, size: n }
 }
 
 // P_1 + (Q_1/S)·b modulo Q.
 fn residue(f: Field, q1: Poly, p1: Poly, s: Poly, b: Poly, q: Poly) -> Poly
-    requires { ⌜ IsField f × (0 < s .size) × (q1 .size + b .size ≤ 130) ⌝ }
+    requires { ⌜ IsField f × (0 < s .size) × (0 < q .size) × (q1 .size + b .size ≤ 130) ⌝ }
     requires { ⌜ Held f q1 × Held f p1 ⌝ }
     requires { ⌜ Held f s × Held f b × Held f q ⌝ }
     ensures { λ r. ⌜ Is f r (remOf (ops f) (addOf (ops f) (poly p1) (mulOf (ops f) (quoOf (ops f) (poly q1) (poly s)) (poly b))) (poly q)) ⌝ }
 {
-    let d = div_rem(f, q1, s);
-    let c = d.quo;
-    let m = mul(f, c, b);
-    let t = add(f, p1, m);
-    let r = div_rem(f, t, q);
-    r.rem
+    let mut a = q1.c;
+    let mut z = [0u32; 129];
+    let k = quotient(f, &mut a, q1.size, &s.c, s.size, &mut z);
+    let mut y = [0u32; 129];
+    let m = multiply(f, &z, k, &b.c, b.size, &mut y);
+    let mut t = [0u32; 129];
+    let l = crate::arrays::add(f, &p1.c, p1.size, &y, m, &mut t);
+    let size = remainder(f, &mut t, l, &q.c, q.size);
+    Poly { c: t, size }
 }
 
 // The product of two ideals of degree at most g = n/2 − 1, from h = gcd(Q_1, Q_2) and its factor y of Q_1.

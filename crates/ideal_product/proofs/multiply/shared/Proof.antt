@@ -2,7 +2,7 @@
 use native.Mathlib.Omega.{arith}
 use Rattle.ideal_product.specs.Multipliers.{gcd-result, first-result, first-size, common-is, bezout-u-is, bezout-w-is}
 use Rattle.ideal_product.specs.Operand.{operand-q, operand-p, operand-q-size, operand-p-size}
-use Rattle.ideal_product.specs.Product.{S-result, S-bounds, Q-result, U-result, U-bound, W-result, W-bound, cofactor-result, cofactor-bound, bracket-result, bracket-bound, multiplied}
+use Rattle.ideal_product.specs.Product.{S-result, S-bounds, Q-result, Q-positive, U-result, U-bound, W-result, W-bound, cofactor-result, cofactor-bound, bracket-result, bracket-bound, multiplied}
 use Rattle.ideal_product.proofs.multiply.shared.Statement.{statement}
 use Rattle.ideal_product.proofs.multiply.shared.Tie as tie
 
@@ -84,7 +84,7 @@ residue-requires c κs =
     let v = c .before .before .before .before .cofactor .ensures .0 in
     let s-q = S-bounds h x y m in
     let b-q = bracket-bound h x y m n m-u m-w v (c .bracket .ensures) in
-    ((i, s-q .0, omega arith), ((operand-q h x, operand-p h x), (S-result h x y m .held, bracket-result h x y m n m-u m-w v (c .bracket .ensures) .held, Q-result h x y m n .held)))
+    ((i, s-q .0, Q-positive h x y m n, omega arith), ((operand-q h x, operand-p h x), (S-result h x y m .held, bracket-result h x y m n m-u m-w v (c .bracket .ensures) .held, Q-result h x y m n .held)))
 
 returns : tie.Need-returns
 returns c =
