@@ -56,7 +56,9 @@ sub-places-requires c κs =
     let e = root-top s in
     let w = t .q-most in
     let m : s .args .m ≤ 129 = omega arith in
-    ((s .pre .0 .0, m), (root-within t (s .args .m) (let v = s .pre .0 .2 in omega arith) m, p-within t))
+    let x = root-within t (s .args .m) (let v = s .pre .0 .2 in omega arith) m in
+    let y = p-within t in
+    ((s .pre .0 .0, m), (search (needs, x, y), search (needs, x, y)))
 
 add-add-places : tie.Need-add-add-places Inv-loop μ-loop
 add-add-places c = search needs
