@@ -3,8 +3,8 @@ use Prim.Native.Nat.{ℕ, _≤_, _<_}
 use native.Mathlib.Omega.{arith}
 use mathlib.Core.Logic.{⊎-elim}
 use Rattle.math_ring.specs.Order.{le-or-lt}
-use Rattle.spec_definitions.specs.Field.{FieldName, ops}
-use Rattle.spec_definitions.specs.Polynomials.{add, bezout}
+use Rattle.spec_arithmetic.specs.Field.{FieldName, ops}
+use Rattle.spec_arithmetic.specs.Polynomials.{add, bezout}
 use Rattle.spec_bridge.specs.Trim.{trim-nil}
 use Rattle.spec_bridge.specs.Lengths.{length-add}
 use Rattle.spec_bridge.specs.BezoutLength.{bezout-u-length, bezout-u-constant}

@@ -1,6 +1,6 @@
 // Sums, differences, products and quotients on arrays of coefficients, with their sizes.
 ghost use Prim.Native.Nat.{ℕ, _+_, _<_, _≤_};
-ghost use Rattle.spec_definitions.specs.Polynomials.{add as addOf, sub as subOf, mul as mulOf, quo as quoOf};
+ghost use Rattle.spec_arithmetic.specs.Polynomials.{add as addOf, sub as subOf, mul as mulOf, quo as quoOf};
 ghost use Rattle.base_polynomial.specs.Record.{poly, Held, Is};
 ghost use Rattle.base_field.specs.Named.{name, ops, IsField};
 use base_euclid::division::divide;

@@ -4,8 +4,8 @@ use native.Mathlib.Omega.{arith}
 use mathlib.Core.Path.{ap, ap₂, _∙_}
 use mathlib.Core.List.{List}
 use Prim.Native.Nat.{ℕ}
-use Rattle.spec_definitions.specs.Field.{ops}
-use Rattle.spec_definitions.specs.Polynomials.{add, mul}
+use Rattle.spec_arithmetic.specs.Field.{ops}
+use Rattle.spec_arithmetic.specs.Polynomials.{add, mul}
 use Rattle.base_field.specs.Named.{name}
 use Rattle.base_polynomial.specs.Over.{poly}
 use Rattle.base_polynomial.specs.Result.{result-sub, result-mul}

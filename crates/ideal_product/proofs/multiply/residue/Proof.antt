@@ -3,8 +3,8 @@ use native.Mathlib.Omega.{arith}
 use mathlib.Core.Path.{ap, _∙_}
 use mathlib.Core.List.{List}
 use Prim.Native.Nat.{ℕ}
-use Rattle.spec_definitions.specs.Field.{ops}
-use Rattle.spec_definitions.specs.Polynomials.{add, mul, rem}
+use Rattle.spec_arithmetic.specs.Field.{ops}
+use Rattle.spec_arithmetic.specs.Polynomials.{add, mul, rem}
 use Rattle.base_field.specs.Named.{name}
 use Rattle.base_polynomial.specs.Over.{poly}
 use Rattle.base_polynomial.specs.Result.{result-add, result-mul, result-quo, size-quo}
