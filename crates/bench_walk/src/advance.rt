@@ -16,8 +16,8 @@ use walk_state::start::prepare;
 use walk_stride::begin;
 use walk_stride::stride;
 
-// The degree of p_{steps − 1}: so many steps, past every constant Q. D is the first `size` places of `radicand`. The arrays take turns as
-// in a run.
+// The degree of p_{steps − 1}: so many steps, past every constant Q. D is the first `size` places of
+// `radicand`. The arrays take turns as in a run.
 fn advance(
     f: Field,
     n: usize,

@@ -1,5 +1,5 @@
-// The call `listing`: the outcome first, then the records into the lent list where it is long enough. What the walk starts from is
-// prepared once, for the run and for the pass that writes.
+// The call `listing`: the outcome first, then the records into the lent list where it is long enough. What
+// the walk starts from is prepared once, for the run and for the pass that writes.
 ghost use mathlib.Core.Path.{_≡_};
 ghost use lib.ListN.{length};
 ghost use Rattle.spec_definitions.specs.Ticket.{ticket as ticketFrom, genus};

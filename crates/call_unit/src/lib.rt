@@ -1,5 +1,6 @@
-// The call `unit`: the outcome first, then the unit into the four lent lists where each is long enough. Nothing is written before R is
-// known. What the walk starts from is prepared once, for the run and for the pass that writes.
+// The call `unit`: the outcome first, then the unit into the four lent lists where each is long enough.
+// Nothing is written before R is known. What the walk starts from is prepared once, for the run and for the
+// pass that writes.
 ghost use mathlib.Core.Path.{_≡_};
 ghost use mathlib.Core.Bool.{_&&_};
 ghost use Prim.Native.Nat.{suc};

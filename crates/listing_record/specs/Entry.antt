@@ -1,4 +1,5 @@
--- One record as words, from the arrays of the walk: it has n + 4 words, and Q and P in 129 places give the same.
+-- One record as words, from the arrays of the walk: it has n + 4 words, and Q and P in 129 places give the
+-- same.
 use Prim.Native.Nat.{ℕ, suc, _+_, _-_, _/_, _≤_}
 use native.Mathlib.Omega.{arith}
 use mathlib.Core.Path.{_≡_, ap, ap₂, _∙_}

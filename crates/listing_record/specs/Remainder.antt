@@ -1,4 +1,5 @@
--- A difference of places as a polynomial, and the remainder of one by a monic polynomial: what each function asks of the results before it.
+-- A difference of places as a polynomial, and the remainder of one by a monic polynomial: what each function
+-- asks of the results before it.
 use Prim.Native.Nat.{ℕ, _≤_, _<_}
 use native.Mathlib.Omega.{arith}
 use mathlib.Core.Path.{_≡_, sym, ap, ap₂, _∙_, subst}

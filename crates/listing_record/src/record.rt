@@ -1,4 +1,5 @@
-// The words of one record, stored from a place on. What is stored is one list, `recordWords`, and every other word of the lent list stays.
+// The words of one record, stored from a place on. What is stored is one list, `recordWords`, and every other
+// word of the lent list stays.
 ghost use mathlib.Core.Path.{_≡_};
 ghost use mathlib.Core.List.{[], _∷_, map};
 ghost use Prim.Native.Nat.{ℕ, _+_, _<_, _≤_};

@@ -1,4 +1,5 @@
--- The ideal of a record from the arrays of the walk: P_i = d − r_{i−1}, so that no P is kept. The operations depend only on coefficients.
+-- The ideal of a record from the arrays of the walk: P_i = d − r_{i−1}, so that no P is kept. The operations
+-- depend only on coefficients.
 use Prim.Native.Nat.{ℕ, suc, _≤_}
 use native.Mathlib.Omega.{arith}
 use mathlib.Core.Path.{_≡_, sym, ap, ap₂, _∙_, subst}

@@ -1,4 +1,5 @@
--- What holds at each turn of the listing: where the walk stands, and the records of the indices 1 to the walk's, stored from the first place on.
+-- What holds at each turn of the listing: where the walk stands, and the records of the indices 1 to the
+-- walk's, stored from the first place on.
 use Prim.Native.Nat.{ℕ, suc, _+_, _-_, _*_, _/_, _≤_, _<_}
 use native.Mathlib.Nat.{mul-le-mul, suc-mul, zero-mul}
 use native.Mathlib.Numerals.{add-one}

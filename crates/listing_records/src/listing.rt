@@ -18,7 +18,8 @@ use listing_record::write_record;
 use walk_stride::begin;
 use walk_stride::turn;
 
-// The records of the indices 1 to m, where r is the degree of p_{m−1}; D is the first `size` places of `radicand`.
+// The records of the indices 1 to m, where r is the degree of p_{m−1}; D is the first `size` places of
+// `radicand`.
 fn write_records(
     f: Field,
     n: usize,
@@ -71,8 +72,8 @@ fn write_records(
     }
 }
 
-// The listing of √D: its m records, where m is the quasi-period and r the regulator. D is the radicand, of degree n; what the walk starts
-// from is prepared.
+// The listing of √D: its m records, where m is the quasi-period and r the regulator. D is the radicand, of
+// degree n; what the walk starts from is prepared.
 pub fn write_listing(
     f: Field,
     n: usize,

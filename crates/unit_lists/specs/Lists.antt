@@ -1,4 +1,5 @@
--- The four lists at the end, as the definitions give them: p and s hold the unit's coefficients, the other two zeros, each in its places 0 to R, and all later places are as they were.
+-- The four lists at the end, as the definitions give them: p and s hold the unit's coefficients, the other
+-- two zeros, each in its places 0 to R, and all later places are as they were.
 use Prim.Native.Nat.{ℕ, zero, suc, _+_, _%_, _≤_}
 use native.Mathlib.Numerals.{add-one}
 use native.Mathlib.Decide.{ℕ-discrete}

@@ -61,8 +61,9 @@ fn fill(
     );
 }
 
-// The unit, of index m − 1 and degree r: p and s receive its coefficients in their places 0 to r, where x and y end as zero. Later places
-// are as they were. D, of degree n, is the first `size` places of `radicand`; what the walk starts from is prepared.
+// The unit, of index m − 1 and degree r: p and s receive its coefficients in their places 0 to r, where x and
+// y end as zero. Later places are as they were. D, of degree n, is the first `size` places of `radicand`;
+// what the walk starts from is prepared.
 pub fn write_unit(
     f: Field,
     n: usize,

@@ -1,5 +1,6 @@
--- Two lent lists that hold the two last convergents and take turns: with t steps left, the last one, u, stands in the first list where t is even and in the second where t is odd,
--- and v, the one before it, in the other. So the last of all ends in the first list.
+-- Two lent lists that hold the two last convergents and take turns: with t steps left, the last one, u,
+-- stands in the first list where t is even and in the second where t is odd, and v, the one before it, in the
+-- other. So the last of all ends in the first list.
 use Prim.Native.Nat.{ℕ, suc, _+_, _*_, _/_, _%_, _<_, _≤_}
 use native.Mathlib.Nat.{div-add-mod, mod-lt}
 use native.Mathlib.Decide.{ℕ-discrete}

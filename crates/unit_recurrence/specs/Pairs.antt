@@ -1,4 +1,5 @@
--- The two pairs of lists at index i, with t steps to go: p_{i−1} with p_{i−2} and s_{i−1} with s_{i−2}. One step of the walk takes them to the next index.
+-- The two pairs of lists at index i, with t steps to go: p_{i−1} with p_{i−2} and s_{i−1} with s_{i−2}. One
+-- step of the walk takes them to the next index.
 use Prim.Native.Nat.{ℕ, suc, _+_, _-_, _%_, _≤_, _<_}
 use native.Mathlib.Nat.{mod-eq-of-lt, eq-or-lt-of-le}
 use native.Mathlib.Numerals.{add-one}

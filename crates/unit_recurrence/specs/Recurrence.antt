@@ -1,4 +1,5 @@
--- The convergents by one rule from index 0 on: p_{−2} = 0 and s_{−2} = 1 stand before p_{−1} = 1 and s_{−1} = 0, so that p_0 = a_0·1 + 0 = d and s_0 = a_0·0 + 1. How long each is.
+-- The convergents by one rule from index 0 on: p_{−2} = 0 and s_{−2} = 1 stand before p_{−1} = 1 and s_{−1} =
+-- 0, so that p_0 = a_0·1 + 0 = d and s_0 = a_0·0 + 1. How long each is.
 use Prim.Native.Nat.{ℕ, zero, suc, _≤_}
 use native.Mathlib.Omega.{arith}
 use mathlib.Core.Path.{_≡_, refl, sym, ap, ap₂, _∙_}

@@ -1,4 +1,5 @@
--- The sum of a list and a product, place by place: a coefficient of the product depends only on the places up to it, so that what lies past the places in use does not count.
+-- The sum of a list and a product, place by place: a coefficient of the product depends only on the places up
+-- to it, so that what lies past the places in use does not count.
 use Prim.Native.Nat.{ℕ, zero, suc, _+_, _*_, _-_, _%_, _<_, _≤_}
 use native.Mathlib.Nat.{mul-le-mul, mul-le-mul-right, add-mod-mod}
 use native.Mathlib.Omega.{arith}
@@ -60,7 +61,8 @@ sum-at q pos a b c k t e =
 
 -- ---- lists with polynomials in their first k places
 module _ (q : ℕ) (pos : 0 < q) (a f : List ℕ) (same : (i : ℕ) → getD a i 0 ≡ getD f i 0) (k n : ℕ) (fits : n ≤ k) where
-  -- the first n places of `into` are replaced by those of a·from + into: then its polynomial is f·p + o, where n is at least its length
+  -- the first n places of `into` are replaced by those of a·from + into: then its polynomial is f·p + o,
+  -- where n is at least its length
   pub written-sum : (p o x y from into out : List ℕ) → length o ≤ n → length (add (modulo q) (mul (modulo q) f p) o) ≤ n → Written k p x from → Written k o y into → Written n (add (modulo q) (mul (modulo q) a from) into) into out → Written k (add (modulo q) (mul (modulo q) f p) o) y out
   written-sum p o x y from into out short-o short w v u =
       record {

@@ -1,4 +1,5 @@
--- A lent list whose first k places hold a polynomial's coefficients, zeros above its degree, and whose later places are as they were: how a loop fills it, and the list as one equation.
+-- A lent list whose first k places hold a polynomial's coefficients, zeros above its degree, and whose later
+-- places are as they were: how a loop fills it, and the list as one equation.
 use Prim.Native.Nat.{ℕ, _+_, _-_, _<_, _≤_}
 use native.Mathlib.Omega.{arith}
 use mathlib.Core.Path.{_≡_, refl, sym, ap, _∙_}

@@ -1,5 +1,5 @@
-// The steps of the convergents along the walk. The two last convergents of each kind stand in a pair of lists, and each step adds a
-// multiple of the one to the other.
+// The steps of the convergents along the walk. The two last convergents of each kind stand in a pair of
+// lists, and each step adds a multiple of the one to the other.
 ghost use mathlib.Core.Path.{_≡_};
 ghost use mathlib.Core.List.{[], _∷_};
 ghost use Prim.Native.Nat.{_+_, _<_, _≤_};
@@ -74,8 +74,8 @@ fn partial(
     quotient(f, lead_inverse, twice, rest, top, current, size, a);
 }
 
-// One step of the convergents, with `left` to go: a times the last ones is added to those before them, in the first `end` places; a is the
-// quotient of twice − rest by Q.
+// One step of the convergents, with `left` to go: a times the last ones is added to those before them, in the
+// first `end` places; a is the quotient of twice − rest by Q.
 fn advance(
     f: Field,
     inverses: &[u32; 4096],

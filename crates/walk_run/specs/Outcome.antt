@@ -1,4 +1,5 @@
--- What an outcome means, and how the walk's index, degree and constant make the definitions' outcome of a ticket.
+-- What an outcome means, and how the walk's index, degree and constant make the definitions' outcome of a
+-- ticket.
 use Prim.Native.Nat.{ℕ, _%_}
 use mathlib.Core.Path.{_≡_, refl, ap}
 use mathlib.Core.Bool.{Bool, true, false}

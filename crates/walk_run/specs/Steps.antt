@@ -1,5 +1,5 @@
--- The steps of a run: where the walk stands between them, that no Q on the way is constant, and the outcome where the budget is spent
--- or a constant Q is met.
+-- The steps of a run: where the walk stands between them, that no Q on the way is constant, and the outcome
+-- where the budget is spent or a constant Q is met.
 use Prim.Native.Nat.{ℕ, suc, _≤_, _<_}
 use native.Mathlib.Omega.{arith}
 use mathlib.Core.Path.{_≡_, sym, ap, ap₂, _∙_, subst}

@@ -53,9 +53,9 @@ fn spent(at: Progress) -> Outcome
     Outcome::Spent(index, degree)
 }
 
-// The steps from index 0 on, against the budget; D is the first `size` places of `radicand`. The loop leaves with the first index from
-// 1 on whose Q is constant. The arrays take turns, so that nothing is copied: Q stands in b, c, a and b again, the Q before it in
-// a, b, c and a, the remainder in x, y, z and x.
+// The steps from index 0 on, against the budget; D is the first `size` places of `radicand`. The loop leaves
+// with the first index from 1 on whose Q is constant. The arrays take turns, so that nothing is copied: Q
+// stands in b, c, a and b again, the Q before it in a, b, c and a, the remainder in x, y, z and x.
 pub fn seek(
     f: Field,
     n: usize,

@@ -1,5 +1,5 @@
--- The root of D in 129 places, from the top coefficient down: what holds when the places from e on stand. Each coefficient is half of that of D − d² at its place plus h,
--- and to set it is to add its monomial.
+-- The root of D in 129 places, from the top coefficient down: what holds when the places from e on stand.
+-- Each coefficient is half of that of D − d² at its place plus h, and to set it is to add its monomial.
 use Prim.Native.Nat.{ℕ, zero, suc, _+_, _%_, _≤_, _<_}
 use native.Mathlib.Nat.{mod-lt, mod-eq-of-lt, zero-add}
 use native.Mathlib.Decide.{ℕ-discrete}

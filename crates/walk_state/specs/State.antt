@@ -1,5 +1,6 @@
--- The state of the walk at index i, in arrays of 129 places: Q, the Q before it and the remainder of the step before, zeros above their degrees. A step takes one to the next:
--- its operations depend only on coefficients, so that they are the laws' on lists.
+-- The state of the walk at index i, in arrays of 129 places: Q, the Q before it and the remainder of the step
+-- before, zeros above their degrees. A step takes one to the next: its operations depend only on
+-- coefficients, so that they are the laws' on lists.
 use Prim.Native.Nat.{ℕ, suc, _-_, _%_, _≤_, _<_}
 use native.Mathlib.Omega.{arith}
 use mathlib.Core.Path.{_≡_, sym, ap, ap₂, _∙_, fun-ext, subst, subst₂}

@@ -1,4 +1,5 @@
--- The table of inverses, filled from 0 up: each entry from 2 on by the rule of the inverse, with a smaller entry.
+-- The table of inverses, filled from 0 up: each entry from 2 on by the rule of the inverse, with a smaller
+-- entry.
 use Prim.Native.Nat.{ℕ, _+_, _-_, _*_, _/_, _%_, _<_}
 use native.Mathlib.Nat.{mod-lt}
 use native.Mathlib.Omega.{arith}

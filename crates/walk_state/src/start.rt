@@ -15,7 +15,8 @@ use base_polynomial::Poly;
 use base_polynomial::linear::add_places;
 use base_polynomial::product::dot;
 
-// inverses[a] becomes the inverse of a, for each a below q: 1/a is −(q div a) times 1/(q mod a), which stands in the table already.
+// inverses[a] becomes the inverse of a, for each a below q: 1/a is −(q div a) times 1/(q mod a), which stands
+// in the table already.
 pub fn fill_inverses(f: Field, inverses: &mut [u32; 4096])
     requires { ⌜ IsField f ⌝ }
     ensures { λ _. ⌜ Inverses (name f) (now (inverses .exit)) ⌝ }
@@ -30,7 +31,8 @@ pub fn fill_inverses(f: Field, inverses: &mut [u32; 4096])
     }
 }
 
-// The coefficient of x^e in the root of D, of degree h: half of the coefficient of D − d² at e + h, where d has the coefficients above it.
+// The coefficient of x^e in the root of D, of degree h: half of the coefficient of D − d² at e + h, where d
+// has the coefficients above it.
 fn coefficient(f: Field, h: usize, e: usize, radicand: &[u32; 129], d: &[u32; 129]) -> u32
     requires { ⌜ IsField f ⌝ }
     requires { ⌜ (e < h) × (h ≤ 64) ⌝ }

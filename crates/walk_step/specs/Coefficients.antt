@@ -1,4 +1,6 @@
--- The coefficients of s − r − x·b and of before + a·(z − r), as loops form them: each is the residue of a sum t, in which a number serves for a product's coefficient if its residue is that, and multiples of q do not count.
+-- The coefficients of s − r − x·b and of before + a·(z − r), as loops form them: each is the residue of a sum
+-- t, in which a number serves for a product's coefficient if its residue is that, and multiples of q do not
+-- count.
 use Prim.Native.Nat.{ℕ, _+_, _*_, _-_, _%_, _<_}
 use native.Mathlib.Nat.{mod-lt, mod-eq-of-lt, mul-mod-left}
 use mathlib.Core.Path.{_≡_, sym, ap, ap₂, _∙_}

@@ -1,4 +1,5 @@
--- The coefficients of one step where the quotient has degree 1: each product has two terms, with the place itself and the place before. q − a serves for −a, so that nothing is below 0.
+-- The coefficients of one step where the quotient has degree 1: each product has two terms, with the place
+-- itself and the place before. q − a serves for −a, so that nothing is below 0.
 use Prim.Native.Nat.{ℕ, zero, suc, _+_, _*_, _-_, _%_, _<_, _≤_}
 use native.Mathlib.Nat.{mul-add, add-mul, mul-assoc, mul-comm, zero-add, zero-mul, add-mod-mod}
 use native.Mathlib.Numerals.{add-one}

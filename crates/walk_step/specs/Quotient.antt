@@ -1,4 +1,5 @@
--- The remainder of a step is s − r − a·b, and the quotient's coefficient at k is what clears s − r − z·b at the top, where z has the coefficients above k: there the product a·b has one term more than z·b.
+-- The remainder of a step is s − r − a·b, and the quotient's coefficient at k is what clears s − r − z·b at
+-- the top, where z has the coefficients above k: there the product a·b has one term more than z·b.
 use Prim.Native.Nat.{ℕ, suc, _+_, _*_, _-_, _%_, _<_, _≤_}
 use native.Mathlib.Nat.{mod-lt}
 use native.Mathlib.Omega.{arith}

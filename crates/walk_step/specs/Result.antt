@@ -1,4 +1,5 @@
--- From the places that a step fills to its results: the arrays are the lists padded with zeros, and the size found is the length, as no list has a zero at its end.
+-- From the places that a step fills to its results: the arrays are the lists padded with zeros, and the size
+-- found is the length, as no list has a zero at its end.
 use Prim.Native.Nat.{ℕ, _<_, _≤_}
 use native.Mathlib.Omega.{arith}
 use mathlib.Core.Path.{_≡_, refl, sym, ap, _∙_, subst}

@@ -1,4 +1,5 @@
--- Sizes in one step: b has size n, the quotient at most m + 1 − n coefficients, the next r fewer than n. All coefficients are below q.
+-- Sizes in one step: b has size n, the quotient at most m + 1 − n coefficients, the next r fewer than n. All
+-- coefficients are below q.
 use Prim.Native.Nat.{ℕ, _+_, _-_, _<_, _≤_}
 use native.Mathlib.Omega.{arith}
 use mathlib.Core.Path.{_≡_, sym, ap, _∙_, subst}

@@ -1,4 +1,5 @@
--- One step of the walk on arrays of 129 places, zeros above the degree: what it starts from and what it gives.
+-- One step of the walk on arrays of 129 places, zeros above the degree: what it starts from and what it
+-- gives.
 -- With twice = 2d and rest the remainder of the step before, twice − rest is P + d; Q stands in `current`.
 use mathlib.Core.Path.{_≡_}
 use mathlib.Core.List.{List}

@@ -1,4 +1,5 @@
--- What a loop has after i terms where it takes x·y from a number, and where it adds x·(y − z): with what is taken away it is a multiple of q more than what is added.
+-- What a loop has after i terms where it takes x·y from a number, and where it adds x·(y − z): with what is
+-- taken away it is a multiple of q more than what is added.
 use Prim.Native.Nat.{ℕ, zero, suc, _+_, _*_, _-_, _≤_, _<_}
 use native.Mathlib.Nat.{add-mul, mul-le-mul, zero-mul}
 use native.Mathlib.Omega.{arith}

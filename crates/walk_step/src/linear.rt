@@ -1,5 +1,6 @@
-// One step of the walk where the quotient is a0 + a1·x, the most frequent case: the two coefficients directly, and one pass each for
-// the remainder and the next Q. Each pass keeps the factor at the place before. q − a stands for −a, so that no sum goes below 0.
+// One step of the walk where the quotient is a0 + a1·x, the most frequent case: the two coefficients
+// directly, and one pass each for the remainder and the next Q. Each pass keeps the factor at the place
+// before. q − a stands for −a, so that no sum goes below 0.
 ghost use mathlib.Core.Path.{_≡_};
 ghost use Prim.Native.Nat.{_+_, _*_, _-_, _%_, _<_, _≤_};
 ghost use lib.ListN.{getD};
@@ -113,8 +114,8 @@ fn upper(
     reduce(f, (twice[size] + (q - rest[size])) * lead_inverse)
 }
 
-// a0, which clears twice − rest − a1·x·Q at the place below. Each term is multiplied by the inverse on its own, so that one product
-// alone waits for a1.
+// a0, which clears twice − rest − a1·x·Q at the place below. Each term is multiplied by the inverse on its
+// own, so that one product alone waits for a1.
 fn lower(
     f: Field,
     lead_inverse: u32,
@@ -139,7 +140,8 @@ fn lower(
     )
 }
 
-// One step where Q has one coefficient less than twice − rest may have; lead_inverse is the inverse of its leading coefficient.
+// One step where Q has one coefficient less than twice − rest may have; lead_inverse is the inverse of its
+// leading coefficient.
 pub fn linear(
     f: Field,
     lead_inverse: u32,

@@ -1,7 +1,8 @@
-// One step of the walk by the recurrences (2-7) of source 000. With twice = 2d and rest the remainder of the step before, the dividend
-// P + d is twice − rest; its quotient by Q is a, its remainder the next rest, and the next Q is the Q before and a·(next rest − rest):
-// one division and one short product. Arrays of 129 places by reference, loops to the sizes that the caller keeps, one reduction a
-// coefficient. Q stands in `current`, since `now` is a word of the contracts.
+// One step of the walk by the recurrences (2-7) of source 000. With twice = 2d and rest the remainder of the
+// step before, the dividend P + d is twice − rest; its quotient by Q is a, its remainder the next rest, and
+// the next Q is the Q before and a·(next rest − rest): one division and one short product. Arrays of 129
+// places by reference, loops to the sizes that the caller keeps, one reduction a coefficient. Q stands in
+// `current`, since `now` is a word of the contracts.
 ghost use mathlib.Core.Path.{_≡_};
 ghost use Prim.Native.Nat.{ℕ, _+_, _-_, _<_, _≤_};
 ghost use lib.ListN.{length, getD};
@@ -15,8 +16,8 @@ use base_field::Field;
 use base_field::reduce;
 use base_polynomial::product::excess;
 
-// The coefficient at k of twice − rest − x·Q, where x has l places and zeros before `from`. q − a stands for −a, so that no sum goes
-// below 0; 128 products of 4,095² are below 2³¹.
+// The coefficient at k of twice − rest − x·Q, where x has l places and zeros before `from`. q − a stands for
+// −a, so that no sum goes below 0; 128 products of 4,095² are below 2³¹.
 fn rest_at(
     f: Field,
     twice: &[u32; 129],
@@ -44,7 +45,8 @@ fn rest_at(
     reduce(f, t)
 }
 
-// The coefficient at k of before + a·(remains − rest), where a has l places. 128 products of 4,095·8,190 are below 2³².
+// The coefficient at k of before + a·(remains − rest), where a has l places. 128 products of 4,095·8,190 are
+// below 2³².
 fn next_at(
     f: Field,
     before: &[u32; 129],
@@ -71,8 +73,8 @@ fn next_at(
     reduce(f, t)
 }
 
-// a becomes the quotient of twice − rest by Q, whose leading coefficient has the inverse lead_inverse: from the top coefficient down,
-// each clears what is left at its top place.
+// a becomes the quotient of twice − rest by Q, whose leading coefficient has the inverse lead_inverse: from
+// the top coefficient down, each clears what is left at its top place.
 pub fn quotient(
     f: Field,
     lead_inverse: u32,
@@ -223,8 +225,8 @@ fn fill(
     }
 }
 
-// One step: remains becomes the next remainder and after the next Q, whose size is returned; lead_inverse is the inverse of the leading
-// coefficient of Q.
+// One step: remains becomes the next remainder and after the next Q, whose size is returned; lead_inverse is
+// the inverse of the leading coefficient of Q.
 pub fn step_by(
     f: Field,
     lead_inverse: u32,

@@ -8,7 +8,8 @@ use Rattle.base_polynomial.specs.Places.{zeros}
 use Rattle.walk_step.specs.Step.{Inverses, Ready, Stepped}
 use Rattle.walk_stride.specs.declared.Progress.{Progress}
 
--- the arrays and counts of a walk from which a step can be taken; a degree is at most 2³³ at an index below 2²⁸
+-- the arrays and counts of a walk from which a step can be taken; a degree is at most 2³³ at an index below
+-- 2²⁸
 pub record Going (f : FieldName) (top : ℕ) (inverses twice before current rest : List ℕ) (at : Progress) : Type 0 where
   pub some : 0 < at .size
   pub most : at .size ≤ top

@@ -1,4 +1,5 @@
--- One step of the walk of √D, with top = g + 2: where the walk stands after it, and whether its Q is constant.
+-- One step of the walk of √D, with top = g + 2: where the walk stands after it, and whether its Q is
+-- constant.
 use Prim.Native.Nat.{ℕ, suc, _+_, _-_, _≤_, _<_}
 use native.Mathlib.Nat.{eq-or-lt-of-le}
 use native.Mathlib.Numerals.{add-one}

@@ -1,4 +1,5 @@
--- Where the walk of √D stands: the state at its index and the degree of p_{i−1}. Whether a constant Q was met is told by the sizes.
+-- Where the walk of √D stands: the state at its index and the degree of p_{i−1}. Whether a constant Q was met
+-- is told by the sizes.
 use Prim.Native.Nat.{ℕ, suc, _+_, _*_, _-_, _≤_, _<_}
 use native.Mathlib.Nat.{eq-or-lt-of-le, mul-le-mul}
 use native.Mathlib.Numerals.{add-one}

@@ -1,4 +1,5 @@
-// The walk from index to index: where it stands, its beginning, and one step with its counts, into other arrays or in place.
+// The walk from index to index: where it stands, its beginning, and one step with its counts, into other
+// arrays or in place.
 ghost use mathlib.Core.Path.{_≡_};
 ghost use Rattle.base_field.specs.Named.{IsField, name};
 ghost use Rattle.walk_stride.specs.Progress.{Begun, Going, Taken, Turned};
@@ -37,8 +38,8 @@ pub fn begin(
     }
 }
 
-// One step from three arrays into two others: `remains` and `after` become the next remainder and the next Q. A run takes its arrays in
-// turn, so that none is copied.
+// One step from three arrays into two others: `remains` and `after` become the next remainder and the next Q.
+// A run takes its arrays in turn, so that none is copied.
 pub fn stride(
     f: Field,
     inverses: &[u32; 4096],
@@ -75,7 +76,8 @@ pub fn stride(
     }
 }
 
-// One step in place: `before` becomes Q, which stands in `current`, and `current` and `rest` the next Q and the next remainder.
+// One step in place: `before` becomes Q, which stands in `current`, and `current` and `rest` the next Q and
+// the next remainder.
 pub fn turn(
     f: Field,
     inverses: &[u32; 4096],

@@ -1,4 +1,5 @@
--- `list_found` meets its contract: a list that is too short is refused as it is, any other receives the records.
+-- `list_found` meets its contract: a list that is too short is refused as it is, any other receives the
+-- records.
 use Prim.Native.Nat.{_+_, _*_, _≤_}
 use native.Mathlib.Nat.{mul-le-mul}
 use native.Mathlib.Omega.{arith}

@@ -1,4 +1,5 @@
--- `listing` meets its contract: a refused ticket leaves the list as it is, any other goes to `listing_of`; T3 of the outcome follows from what is said.
+-- `listing` meets its contract: a refused ticket leaves the list as it is, any other goes to `listing_of`; T3
+-- of the outcome follows from what is said.
 use mathlib.Core.Path.{refl, sym}
 use native.Mathlib.Omega.{arith}
 use borrow.Author.Needs.{needs}

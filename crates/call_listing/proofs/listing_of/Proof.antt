@@ -1,4 +1,5 @@
--- `listing_of` meets its contract: a spent budget leaves the list as it is, a walk that is found goes to `list_found`.
+-- `listing_of` meets its contract: a spent budget leaves the list as it is, a walk that is found goes to
+-- `list_found`.
 use mathlib.Core.Path.{sym, ap, _∙_}
 use native.Mathlib.Omega.{arith}
 use borrow.Author.Needs.{needs}

@@ -1,4 +1,5 @@
--- `unit` meets its contract: a refused ticket leaves the lists as they are, any other goes to `unit_of`; T3 of the lists follows from what is said and written.
+-- `unit` meets its contract: a refused ticket leaves the lists as they are, any other goes to `unit_of`; T3
+-- of the lists follows from what is said and written.
 use mathlib.Core.Path.{refl}
 use native.Mathlib.Omega.{arith}
 use borrow.Author.Needs.{needs}

@@ -1,4 +1,5 @@
--- `unit_found` meets its contract: lists that are too short are refused as they are, any others receive the unit.
+-- `unit_found` meets its contract: lists that are too short are refused as they are, any others receive the
+-- unit.
 use native.Mathlib.Omega.{arith}
 use borrow.Author.Needs.{needs}
 use borrow.Author.Tests.{not-true, not-false}

@@ -1,4 +1,5 @@
--- `unit_of` meets its contract: a spent budget leaves the lists as they are, a walk that is found goes to `unit_found`.
+-- `unit_of` meets its contract: a spent budget leaves the lists as they are, a walk that is found goes to
+-- `unit_found`.
 use mathlib.Core.Path.{sym, ap, _∙_, subst}
 use native.Mathlib.Omega.{arith}
 use borrow.Author.Needs.{needs}

@@ -1,4 +1,5 @@
--- The budget is spent at the index where the loop returns; where it leaves with an index, Q there is the first that is constant.
+-- The budget is spent at the index where the loop returns; where it leaves with an index, Q there is the
+-- first that is constant.
 use Prim.Native.Nat.{ℕ, suc, _+_, _-_, _/_, _≤_, _<_}
 use native.Mathlib.Omega.{arith}
 use mathlib.Core.Path.{_≡_, ap, ap₂, _∙_}

@@ -1,4 +1,5 @@
--- The difference of places is P, made monic Q keeps its size, and the remainder of one by the other is the definition's.
+-- The difference of places is P, made monic Q keeps its size, and the remainder of one by the other is the
+-- definition's.
 use mathlib.Core.Path.{sym, subst}
 use Prim.Native.Nat.{ℕ, _<_}
 use Rattle.base_polynomial.specs.Held.{held-positive}

@@ -1,4 +1,5 @@
--- The table below a holds inverses; the entry at q mod a, which is below a, is one of them. A product is below 4,095², which fits.
+-- The table below a holds inverses; the entry at q mod a, which is below a, is one of them. A product is
+-- below 4,095², which fits.
 use Prim.Native.Nat.{ℕ, _≤_, _<_, _-_, _*_, _/_, _%_}
 use native.Mathlib.Nat.{mod-lt, div-le-self, mul-le-mul}
 use native.Mathlib.Omega.{arith}

@@ -1,4 +1,5 @@
--- The invariant: the coefficients below k are the next Q's, and y is next r − r at the place before k, with q added.
+-- The invariant: the coefficients below k are the next Q's, and y is next r − r at the place before k, with q
+-- added.
 use Prim.Native.Nat.{ℕ, _+_, _-_, _≤_, _<_}
 use native.Mathlib.Omega.{arith}
 use mathlib.Core.Path.{_≡_, sym, ap₂}
