@@ -1,6 +1,6 @@
 -- The quotient Q_1/S is no longer than Q_1, so that the product fits; each polynomial is the definition's.
 use native.Mathlib.Omega.{arith}
-use mathlib.Core.Path.{ap, _∙_}
+use mathlib.Core.Path.{refl, ap, ap₂, _∙_}
 use mathlib.Core.List.{List}
 use Prim.Native.Nat.{ℕ}
 use Rattle.spec_arithmetic.specs.Field.{ops}
@@ -56,7 +56,7 @@ returns c =
     let z = result-quo _ _ _ (h .1 .0 .0) _ _ (h .1 .1 .0) _ _ (h .0 .1) (t .quotient .ensures) in
     let y = result-mul _ _ _ (z .held) _ _ (h .1 .1 .1) _ _ (omega arith) (m .multiply .ensures) in
     let x = result-add _ _ _ (h .1 .0 .1) _ _ _ _ (y .held) (a .add .ensures) in
-    is-path (ap (λ (l : List ℕ). rem (ops f) l (poly (s .args .t6))) (x .is ∙ ap (add (ops f) (poly (s .args .t3))) (y .is ∙ ap (λ (l : List ℕ). mul (ops f) l (poly (s .args .t5))) (z .is)))) (c .remainder .ensures)
+    is-path (ap₂ (rem (ops f)) (x .is ∙ ap (add (ops f) (poly (s .args .t3))) (y .is ∙ ap (λ (l : List ℕ). mul (ops f) l (poly (s .args .t5))) (z .is))) refl) (c .remainder .ensures)
 
 pub residue-spec : {M : Type 1} → statement M
 residue-spec = tie.close (tie.spec quotient-requires multiply-requires add-requires remainder-requires returns)
