@@ -10,6 +10,12 @@ use borrow.Author.Tests.{leb-true, leb-false}
 use Rattle.spec_definitions.specs.Ticket.{Ticket, ticketOf}
 use Rattle.spec_definitions.specs.Answers.{Outcome, found, spent, refused, said, wordsOutcome}
 use Rattle.spec_definitions.specs.Listing.{ListingAnswer, listingOf, listingFrom, listingAnswer}
+use Rattle.ticket_read.specs.declared.Ticket.{Ticket as Said}
+use Rattle.ticket_read.specs.Accepted.{Accepted}
+use Rattle.walk_run.specs.Found.{Walkable}
+
+pub walkable : {w : List ℕ} {t : Said} → Accepted w t → Walkable (t .field) (t .n) (t .radicand) (t .budget)
+walkable a = record { is-field = a .is-field; admitted = a .radicand; held = a .held; even = a .half; budget = a .budget }
 
 -- what a call says and leaves in its list is the answer a
 pub record Answers (a : ListingAnswer) (x : Outcome) (out : List ℕ) : Type 0 where
@@ -41,6 +47,10 @@ kept t (refused j) l h = record { says = refl; list = refl }
 
 pub kept-refused : (t : Ticket) (j : ℕ) (l : List ℕ) → Answers (listingFrom t (refused j) l) (refused j) l
 kept-refused t j l = kept t (refused j) l (λ R m c e. let v : _≡_ {A = ℕ} 0 1 = cc in omega arith)
+
+-- the outcome goes by its meaning
+pub from-outcome : (t : Ticket) (l : List ℕ) (x y z : Outcome) {out : List ℕ} → x ≡ z → Answers (listingFrom t x l) y out → Answers (listingFrom t z l) y out
+from-outcome t l x y z {out} e a = subst (λ (o : Outcome). Answers (listingFrom t o l) y out) e a
 
 module _ (w l : List ℕ) where
   pub words-answer : (t : Ticket) (x y : Outcome) (out : List ℕ) → ticketOf w ≡ t → x ≡ wordsOutcome w → Answers (listingFrom t x l) y out → Answers (listingAnswer w l) y out

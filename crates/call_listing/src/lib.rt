@@ -1,34 +1,76 @@
-// The call `listing`: the outcome first, then the records into the lent list where it is long enough.
+// The call `listing`: the outcome first, then the records into the lent list where it is long enough. What the walk starts from is
+// prepared once, for the run and for the pass that writes.
 ghost use mathlib.Core.Path.{_≡_};
 ghost use lib.ListN.{length};
-ghost use Rattle.spec_definitions.specs.Answers.{found, said};
+ghost use Rattle.spec_definitions.specs.Ticket.{ticket as ticketFrom, genus};
+ghost use Rattle.spec_definitions.specs.Answers.{found, said, outcomeOf};
 ghost use Rattle.spec_definitions.specs.Listing.{listingFrom, listingAnswer};
 ghost use Rattle.spec_demands.specs.LeastDegree.{Least};
+ghost use Rattle.base_field.specs.Named.{IsField, name};
 ghost use Rattle.base_polynomial.specs.Whole.{poly, Held};
-ghost use Rattle.walk_run.specs.Outcome.{meaning, ticket};
-ghost use Rattle.call_regulator.specs.Found.{Found};
+ghost use Rattle.walk_state.specs.Start.{Prepared};
+ghost use Rattle.walk_run.specs.Outcome.{meaning};
+ghost use Rattle.walk_run.specs.Found.{Found, Walkable};
 ghost use Rattle.call_listing.specs.Listing.{Answers};
 use base_counters::Distance;
 use base_counters::Index;
-use call_regulator::Answer;
 use listing_records::listing::write_listing;
 use ticket_read::Ticket;
 use ticket_read::read_ticket;
+use walk_run::Answer;
 use walk_run::Outcome;
-use walk_run::run;
+use walk_run::seek;
+use walk_state::start::prepare;
 
 // The records of a walk that is found with r, m, c, where the list has room for them.
-fn list_found(t: Ticket, r: Distance, m: Index, c: u32, out: &mut [u32]) -> Outcome
-    requires { ⌜ Found (t .field .q) (t .n) (poly (t .radicand)) (t .budget) (r .0) (m .0) c ⌝ }
+fn list_found(
+    t: Ticket,
+    inverses: &[u32; 4096],
+    d: &[u32; 129],
+    twice: &[u32; 129],
+    r: Distance,
+    m: Index,
+    c: u32,
+    out: &mut [u32],
+) -> Outcome
+    requires { ⌜ IsField (t .field) ⌝ }
+    requires { ⌜ Found (name (t .field)) (t .n) (poly (t .radicand)) (t .budget) (r .0) (m .0) c ⌝ }
     requires { ⌜ Held (t .field) (t .radicand) ⌝ }
-    ensures { λ x. ⌜ Answers (listingFrom (ticket (t .field .q) (t .n) (poly (t .radicand)) (t .budget)) (found (r .0) (m .0) c) (now (out .entry))) (meaning x) (now (out .exit)) ⌝ }
+    requires { ⌜ Prepared (name (t .field)) (genus (t .n)) (poly (t .radicand)) (now inverses) (now d) (now twice) ⌝ }
+    ensures { λ x. ⌜ Answers (listingFrom (ticketFrom (name (t .field)) (t .n) (poly (t .radicand)) (t .budget)) (found (r .0) (m .0) c) (now (out .entry))) (meaning x) (now (out .exit)) ⌝ }
 {
     let words = m.0 as usize * (t.n + 4);
     if out.len() < words {
         return Outcome::Refused(13);
     }
-    write_listing(t.field, t.n, t.radicand, m.0, r.0, out);
+    write_listing(t.field, t.n, t.radicand, inverses, d, twice, m, r, out);
     Outcome::Found(r, m, c)
+}
+
+// The listing of a ticket that is not refused.
+fn listing_of(t: Ticket, out: &mut [u32]) -> Outcome
+    requires { ⌜ Walkable (t .field) (t .n) (t .radicand) (t .budget) ⌝ }
+    ensures { λ x. ⌜ Answers (listingFrom (ticketFrom (name (t .field)) (t .n) (poly (t .radicand)) (t .budget)) (outcomeOf (ticketFrom (name (t .field)) (t .n) (poly (t .radicand)) (t .budget))) (now (out .entry))) (meaning x) (now (out .exit)) ⌝ }
+{
+    let mut inverses = [0u32; 4096];
+    let mut d = [0u32; 129];
+    let mut twice = [0u32; 129];
+    let radicand = t.radicand;
+    prepare(t.field, t.n, radicand, &mut inverses, &mut d, &mut twice);
+    let o = seek(
+        t.field,
+        t.n,
+        &radicand.c,
+        radicand.size,
+        &inverses,
+        &d,
+        &twice,
+        t.budget,
+    );
+    let Outcome::Found(r, m, c) = o else {
+        return o;
+    };
+    list_found(t, &inverses, &d, &twice, r, m, c, out)
 }
 
 // The listing of a ticket of any words and any length, in a lent list of any length.
@@ -46,10 +88,6 @@ pub fn listing(ticket: &[u32], out: &mut [u32]) -> Answer
             outcome: Outcome::Refused(t.number),
         };
     }
-    let o = run(t.field, t.n, t.radicand, t.budget);
-    let Outcome::Found(r, m, c) = o else {
-        return Answer { words, outcome: o };
-    };
-    let outcome = list_found(t, r, m, c, out);
+    let outcome = listing_of(t, out);
     Answer { words, outcome }
 }

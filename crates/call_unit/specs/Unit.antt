@@ -7,30 +7,19 @@ use mathlib.Core.List.{List}
 use lib.Dec.{leb}
 use lib.ListN.{length}
 use borrow.Author.Tests.{leb-true, le-leb, lt-leb}
-use Rattle.spec_definitions.specs.Words.{values}
-use Rattle.spec_definitions.specs.Ticket.{Ticket, genus, ticketOf}
+use Rattle.spec_definitions.specs.Ticket.{Ticket, ticketOf}
 use Rattle.spec_definitions.specs.Answers.{Outcome, found, spent, refused, said, wordsOutcome}
 use Rattle.spec_definitions.specs.Units.{Lists, UnitAnswer, longEnough, unitLists, unitFrom, unitAnswer}
-use Rattle.spec_laws.specs.Admitted.{Admitted}
 use Rattle.spec_laws.specs.PairTest.{both-true}
-use Rattle.base_field.specs.Named.{IsField, name}
-use Rattle.base_polynomial.specs.Whole.{poly, Held}
 use Rattle.ticket_read.specs.declared.Ticket.{Ticket as Said}
 use Rattle.ticket_read.specs.Accepted.{Accepted}
+use Rattle.walk_run.specs.Found.{Walkable}
 use Rattle.unit_recurrence.specs.Pairs.{Room}
 use Rattle.unit_lists.specs.Lists.{lists}
 use Rattle.spec_demands.specs.LeastAnswers.{LeastWritten, t3-written}
 
--- what a ticket that is not refused gives the walk
-pub record Readable (t : Said) : Type 0 where
-  pub is-field : IsField (t .field)
-  pub admitted : Admitted (name (t .field)) (genus (t .n)) (poly (t .radicand))
-  pub held : Held (t .field) (t .radicand)
-  pub even : suc (genus (t .n)) + suc (genus (t .n)) ≡ t .n
-  pub budget : t .budget < values
-
-pub readable : {w : List ℕ} {t : Said} → Accepted w t → Readable t
-readable a = record { is-field = a .is-field; admitted = a .radicand; held = a .held; even = a .half; budget = a .budget }
+pub walkable : {w : List ℕ} {t : Said} → Accepted w t → Walkable (t .field) (t .n) (t .radicand) (t .budget)
+walkable a = record { is-field = a .is-field; admitted = a .radicand; held = a .held; even = a .half; budget = a .budget }
 
 -- what a call says and leaves in its lists is the answer a
 pub record Answers (a : UnitAnswer) (x : Outcome) (l : Lists) : Type 0 where

@@ -2,7 +2,7 @@
 // known. What the walk starts from is prepared once, for the run and for the pass that writes.
 ghost use mathlib.Core.Path.{_≡_};
 ghost use mathlib.Core.Bool.{_&&_};
-ghost use Prim.Native.Nat.{suc, _<_, _≤_};
+ghost use Prim.Native.Nat.{suc};
 ghost use lib.Dec.{leb};
 ghost use lib.ListN.{length};
 ghost use Rattle.spec_definitions.specs.Ticket.{ticket as ticketFrom, genus};
@@ -13,9 +13,9 @@ ghost use Rattle.base_field.specs.Named.{IsField, name};
 ghost use Rattle.base_polynomial.specs.Whole.{poly, Held};
 ghost use Rattle.walk_state.specs.Start.{Prepared};
 ghost use Rattle.walk_run.specs.Outcome.{meaning};
-ghost use Rattle.walk_run.specs.Found.{Found};
+ghost use Rattle.walk_run.specs.Found.{Found, Walkable};
 ghost use Rattle.unit_lists.specs.Lists.{lists};
-ghost use Rattle.call_unit.specs.Unit.{Answers, Readable};
+ghost use Rattle.call_unit.specs.Unit.{Answers};
 use base_counters::Distance;
 use base_counters::Index;
 use ticket_read::Ticket;
@@ -86,7 +86,7 @@ fn unit_found(
 
 // The unit of a ticket that is not refused.
 fn unit_of(t: Ticket, p: &mut [u32], s: &mut [u32], x: &mut [u32], y: &mut [u32]) -> Outcome
-    requires { ⌜ Readable t ⌝ }
+    requires { ⌜ Walkable (t .field) (t .n) (t .radicand) (t .budget) ⌝ }
     ensures { λ o. ⌜ Answers (unitFrom (ticketFrom (name (t .field)) (t .n) (poly (t .radicand)) (t .budget)) (outcomeOf (ticketFrom (name (t .field)) (t .n) (poly (t .radicand)) (t .budget))) (lists (now (p .entry)) (now (s .entry)) (now (x .entry)) (now (y .entry)))) (meaning o) (lists (now (p .exit)) (now (s .exit)) (now (x .exit)) (now (y .exit))) ⌝ }
 {
     let mut inverses = [0u32; 4096];

@@ -3,8 +3,8 @@ use mathlib.Core.List.{List}
 use Prim.Native.Nat.{ℕ}
 use Rattle.call_product.specs.declared.ProductAnswer.{ProductAnswer}
 use Rattle.call_giant_step.specs.declared.GiantStepAnswer.{GiantStepAnswer}
-use Rattle.foskadoin.specs.declared.ProductNumbers.{ProductNumbers}
-use Rattle.foskadoin.specs.declared.GiantStepNumbers.{GiantStepNumbers}
+use Rattle.foskadoin.specs.declared.pairs.ProductNumbers.{ProductNumbers}
+use Rattle.foskadoin.specs.declared.pairs.GiantStepNumbers.{GiantStepNumbers}
 
 abbrev pub productIn : ProductNumbers → List ℕ → List ℕ → List ℕ → ProductAnswer
 productIn r s q p = record { words = r .words; number = r .number; s = record { c = s; size = r .«s_size» }; q = record { c = q; size = r .«q_size» }; p = record { c = p; size = r .«p_size» } }

@@ -11,7 +11,19 @@ use Rattle.spec_definitions.specs.Walk.{quasiPeriod, degreeBefore, constantOf}
 use Rattle.spec_definitions.specs.Answers.{Outcome, found, spent, outcomeOf, rootOf}
 use Rattle.spec_laws.specs.Admitted.{Admitted, surd-of}
 use Rattle.spec_laws.specs.QuasiPeriod.{Quasi, quasi-some}
+use Rattle.base_field.specs.declared.Field.{Field}
+use Rattle.base_field.specs.Named.{IsField, name}
+use Rattle.base_polynomial.specs.declared.Poly.{Poly}
+use Rattle.base_polynomial.specs.Whole.{poly, Held}
 use Rattle.walk_state.specs.State.{rootD}
+
+-- what a ticket that is not refused gives a run
+pub record Walkable (f : Field) (n : ℕ) (radicand : Poly) (b : ℕ) : Type 0 where
+  pub is-field : IsField f
+  pub admitted : Admitted (name f) (genus n) (poly radicand)
+  pub held : Held f radicand
+  pub even : suc (genus n) + suc (genus n) ≡ n
+  pub budget : b < values
 
 -- the ticket's walk is found with R, m, c
 pub record Found (f : FieldName) (n : ℕ) (D : List ℕ) (b R m c : ℕ) : Type 0 where

@@ -3,7 +3,7 @@ use Prim.Native.Nat.{_+_, _*_, _≤_}
 use native.Mathlib.Nat.{mul-le-mul}
 use native.Mathlib.Omega.{arith}
 use borrow.Author.Needs.{needs}
-use Rattle.call_regulator.specs.Found.{found-index, found-degree}
+use Rattle.walk_run.specs.Found.{found-index, found-degree}
 use Rattle.call_listing.specs.Listing.{long-list, short-list}
 use Rattle.call_listing.proofs.list_found.Statement.{statement}
 use Rattle.call_listing.proofs.list_found.Tie as tie
@@ -13,11 +13,12 @@ add-words c = search needs
 
 mul-words : tie.Need-mul-words
 mul-words c =
-    let f = c .before .before .pre .0 in
+    let s = c .before .before in
+    let f = s .pre .1 .0 in
     let i = found-index f in
     let g = f .admitted .genus-most in
     let e = f .even in
-    let k : c .before .before .args .m .0 * (c .before .before .args .t .n + 4) ≤ 268435456 * 68 = mul-le-mul {n₂ = 268435456} {m₂ = 68} (omega arith) (omega arith) in
+    let k : s .args .m .0 * (s .args .t .n + 4) ≤ 268435456 * 68 = mul-le-mul {n₂ = 268435456} {m₂ = 68} (omega arith) (omega arith) in
     record { fits = omega arith }
 
 returns : tie.Need-returns
@@ -25,8 +26,9 @@ returns c = short-list _ _ _ _ _ (omega arith)
 
 write-listing-requires : tie.Need-write-listing-requires
 write-listing-requires c κs =
-    let f = c .before .before .before .before .pre .0 in
-    (record { admitted = f .admitted; even = f .even; index-fits = found-index f; regulator-is = found-degree f; words-fit = omega arith }, c .before .before .before .before .pre .1)
+    let s = c .before .before .before .before in
+    let f = s .pre .1 .0 in
+    (s .pre .0, (record { admitted = f .admitted; even = f .even; index-fits = found-index f; regulator-is = found-degree f; words-fit = omega arith }, (s .pre .1 .1 .0, s .pre .1 .1 .1)))
 
 same-length : tie.Need-same-length
 same-length c = search needs
@@ -36,4 +38,11 @@ returns-2 c = long-list _ _ _ _ _ _ (omega arith) (c .before .before .write-list
 
 pub list-found-spec : {M : Type 1} → statement M
 list-found-spec =
-    tie.close (tie.spec add-words mul-words returns write-listing-requires same-length returns-2)
+    tie.close
+    (tie.spec
+    add-words
+    mul-words
+    returns
+    write-listing-requires
+    same-length
+    returns-2)

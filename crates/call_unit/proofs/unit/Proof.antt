@@ -4,7 +4,7 @@ use native.Mathlib.Omega.{arith}
 use borrow.Author.Needs.{needs}
 use Rattle.ticket_read.specs.Accepted.{accepted, number-is}
 use Rattle.call_regulator.specs.Regulator.{refused-outcome, accepted-outcome}
-use Rattle.call_unit.specs.Unit.{readable, kept-refused, words-answer, least-written}
+use Rattle.call_unit.specs.Unit.{walkable, kept-refused, words-answer, least-written}
 use Rattle.call_unit.proofs.unit.Statement.{statement}
 use Rattle.call_unit.proofs.unit.Tie as tie
 
@@ -17,7 +17,7 @@ returns c =
     (refl, (a .says, (a .lists-are, least-written _ _ _ _ a)))
 
 unit-of-requires : tie.Need-unit-of-requires
-unit-of-requires c κs = readable (accepted _ (c .before .before .before .before .before .before .read-ticket .ensures) (omega arith))
+unit-of-requires c κs = walkable (accepted _ (c .before .before .before .before .before .before .read-ticket .ensures) (omega arith))
 
 same-length : tie.Need-same-length
 same-length c = search needs
