@@ -1,3 +1,4 @@
+pub mod Before
 pub mod Height
 pub mod Recurrence
 pub mod Start

@@ -5,19 +5,16 @@ use native.Mathlib.Omega.{arith}
 use mathlib.Core.Path.{_≡_, sym, subst}
 use mathlib.Core.List.{List}
 use lib.ListN.{length, getD}
-use Rattle.spec_arithmetic.specs.Field.{FieldName, ops}
-use Rattle.spec_arithmetic.specs.Polynomials.{trim, pad, sub, mul}
+use Rattle.spec_definitions.specs.Field.{FieldName, ops}
+use Rattle.spec_definitions.specs.Polynomials.{trim, pad}
 use Rattle.spec_definitions.specs.Walk.{Ideal}
-use Rattle.spec_bridge.specs.Trim.{size-le, length-trim}
-use Rattle.spec_bridge.specs.Arithmetic.{trim-sub, oks-sub}
-use Rattle.spec_bridge.specs.Lengths.{length-sub, length-mul}
-use Rattle.spec_bridge.specs.Residues.{model}
+use Rattle.spec_bridge.specs.Trim.{size-le}
 use Rattle.spec_bridge.specs.Degree.{monic-size}
 use Rattle.spec_fields.specs.Named.{Ok}
 use Rattle.spec_laws.specs.Admitted.{Admitted}
 use Rattle.spec_laws.specs.Pairs.{IsIdeal}
 use Rattle.base_polynomial.specs.declared.Poly.{Poly}
-use Rattle.base_polynomial.specs.Over.{poly, Held, Is, Result, result, held-positive, held-size, length-poly, at-poly}
+use Rattle.base_polynomial.specs.Over.{poly, Held, held-size, length-poly, at-poly}
 use Rattle.walk_state.specs.State.{rootD}
 use Rattle.ideal_product.specs.Operand.{heldPair, K, M}
 
@@ -65,15 +62,3 @@ module _ {f : FieldName} {g : ℕ} {radicand : Poly} {d : List ℕ} {q p : Poly}
       let c = held-size (s .held-p) in
       let e = held-size (s .held-q) in
       omega arith
-
--- D − P², as it is formed by a difference that takes a product away
-pub norm-result : {f : FieldName} {D : List ℕ} {l : ℕ} → Held f (recordOf D l) → {p : List ℕ} {k : ℕ} → Held f (recordOf p k) → k ≤ 65 → {c : List ℕ} {size : ℕ}
-    → Is f (recordOf c size) (sub (ops f) (poly (recordOf D l)) (mul (ops f) (poly (recordOf p k)) (poly (recordOf p k)))) → Result f (recordOf c size) (sub (ops f) (poly (recordOf D l)) (mul (ops f) (poly (recordOf p k)) (poly (recordOf p k))))
-norm-result {f} {D} {l} held-D {p} {k} held-p short is =
-    let pos = held-positive held-D in
-    let a = held-size held-D in
-    let s = held-D .short in
-    let b = held-size held-p in
-    let v = length-mul (model (f .q) pos) (poly (recordOf p k)) (poly (recordOf p k)) 129 (omega arith) in
-    let w = length-trim (model (f .q) pos) (mul (ops f) (poly (recordOf p k)) (poly (recordOf p k))) in
-    result is (length-sub (model (f .q) pos) (poly (recordOf D l)) (mul (ops f) (poly (recordOf p k)) (poly (recordOf p k))) 129 (omega arith) (omega arith)) (trim-sub (model (f .q) pos) _ _) (oks-sub (model (f .q) pos) _ _)

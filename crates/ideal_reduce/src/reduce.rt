@@ -15,13 +15,14 @@ ghost use Rattle.ideal_reduce.specs.Height.{Height};
 ghost use Rattle.ideal_reduce.specs.Start.{recordOf, Start};
 ghost use Rattle.ideal_reduce.specs.Turn.{Reduces};
 use crate::Reduced;
-use base_euclid::division::divide;
-use base_euclid::division::subtract_product;
 use base_field::Field;
 use base_field::inverse;
+use base_places::product::mul_places;
 use base_polynomial::Poly;
 use base_polynomial::linear::add_places;
 use base_polynomial::linear::sub_places;
+use base_polynomial::product::excess;
+use walk_step::step::quotient;
 use walk_step::step::step_by;
 
 // The larger of m and n.
@@ -72,13 +73,15 @@ fn quotient_before(
     k: usize,
     z: &mut [u32; 129],
 )
-    requires { ⌜ IsField f × (0 < m) × (k ≤ 65) ⌝ }
+    requires { ⌜ IsField f × (0 < m) × (m ≤ l) × (l ≤ 128) × (k ≤ 64) ⌝ }
     requires { ⌜ HeldAt (name f) (now radicand) l × HeldAt (name f) (now q) m × HeldAt (name f) (now p) k ⌝ }
     ensures { λ _. ⌜ now (z .exit) ≡ pad (ops f) 129 (cofactorAt (ops f) (polyAt (now (radicand .entry)) l) (heldPair (recordOf (now (q .entry)) m) (recordOf (now (p .entry)) k))) ⌝ }
 {
-    let mut a = *radicand;
-    let size = subtract_product(f, &mut a, l, p, k, p, k);
-    divide(f, &mut a, size, q, m, z);
+    let mut square = [0u32; 129];
+    mul_places(f, p, p, k, k, &mut square);
+    let top = larger(l, excess(k + k, 1));
+    let lead_inverse = inverse(f, q[m - 1]);
+    quotient(f, lead_inverse, radicand, &square, top, q, m, z);
 }
 
 // The steps from a pair with deg Q above g until the first k with deg Q_k at most g. D has l places, Q has m

@@ -8,6 +8,7 @@ use Rattle.spec_arithmetic.specs.Field.{modulo}
 use Rattle.spec_arithmetic.specs.Polynomials.{add, pad}
 use Rattle.spec_definitions.specs.Ticket.{genus}
 use Rattle.base_field.specs.Named.{name}
+use Rattle.base_polynomial.specs.Over.{length-poly}
 use Rattle.base_polynomial.specs.Record.{poly}
 use Rattle.walk_state.specs.State.{rootD}
 use Rattle.walk_state.specs.Start.{half-degree, top-is, twice-places}
@@ -47,7 +48,11 @@ quotient-before-requires c κs =
     let t = s .pre .1 in
     let w = t .p-most in
     let g = t .admitted .genus-most in
-    ((s .pre .0 .0, (let v = s .pre .0 .2 in omega arith), omega arith), (t .held-D, t .held-q, t .held-p))
+    let v = s .pre .0 .2 in
+    let e = t .q-most in
+    let a = length-poly (t .held-D) in
+    let b = t .admitted .size-D in
+    ((s .pre .0 .0, omega arith, omega arith, omega arith, omega arith), (t .held-D, t .held-q, t .held-p))
 
 sub-places-requires : tie.Need-sub-places-requires Inv-loop μ-loop
 sub-places-requires c κs =
