@@ -5,8 +5,8 @@ use native.Mathlib.Omega.{arith}
 use mathlib.Core.Path.{_≡_, sym, subst}
 use mathlib.Core.List.{List}
 use lib.ListN.{length, getD}
-use Rattle.spec_definitions.specs.Field.{FieldName, ops}
-use Rattle.spec_definitions.specs.Polynomials.{trim, pad}
+use Rattle.spec_arithmetic.specs.Field.{FieldName, ops}
+use Rattle.spec_arithmetic.specs.Polynomials.{trim, pad}
 use Rattle.spec_definitions.specs.Walk.{Ideal}
 use Rattle.spec_bridge.specs.Trim.{size-le}
 use Rattle.spec_bridge.specs.Degree.{monic-size}
