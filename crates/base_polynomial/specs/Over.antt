@@ -74,29 +74,13 @@ module _ {f : FieldName} {a b c : Poly} (held-a : Held f a) (held-b : Held f b) 
   pub result-mul : a .size + b .size ≤ 130 → Is f c (mul (ops f) (poly a) (poly b)) → Result f c (mul (ops f) (poly a) (poly b))
   result-mul h r = results.result-mul (f .q) _ _ held-a _ _ held-b _ _ h r
 
-  -- by a polynomial that is not 0
-  pub result-quo : 0 < b .size → Is f c (quo (ops f) (poly a) (poly b)) → Result f c (quo (ops f) (poly a) (poly b))
-  result-quo h r = results.result-quo (f .q) _ _ held-a _ _ held-b _ _ h r
-
-  pub size-quo : Is f c (quo (ops f) (poly a) (poly b)) → c .size ≤ a .size + 1 - b .size
-  size-quo r = results.size-quo (f .q) _ _ held-a _ _ held-b _ _ r
-
   module _ (p : Prime (f .q)) where
-    pub result-rem : Is f c (rem (ops f) (poly a) (poly b)) → Result f c (rem (ops f) (poly a) (poly b))
-    result-rem r = results.result-rem (f .q) _ _ held-a _ _ held-b _ _ p r
-
-    pub result-gcd : Is f c (gcd (ops f) (poly a) (poly b)) → Result f c (gcd (ops f) (poly a) (poly b))
-    result-gcd r = results.result-gcd (f .q) _ _ held-a _ _ held-b _ _ p r
-
     -- Bezout's factors
     pub result-factor-gcd : Is f c (bezout (ops f) (poly a) (poly b) .gcd) → Result f c (gcd (ops f) (poly a) (poly b))
     result-factor-gcd r = factors.result-factor-gcd (f .q) p _ _ held-a _ _ held-b _ _ r
 
     pub result-u : Is f c (bezout (ops f) (poly a) (poly b) .u) → Result f c (bezout (ops f) (poly a) (poly b) .u)
     result-u r = factors.result-u (f .q) p _ _ held-a _ _ held-b _ _ r
-
-    pub result-v : Is f c (bezout (ops f) (poly a) (poly b) .v) → Result f c (bezout (ops f) (poly a) (poly b) .v)
-    result-v r = factors.result-v (f .q) p _ _ held-a _ _ held-b _ _ r
 
 pub result-monic : {f : FieldName} {a c : Poly} → Held f a → Is f c (monic (ops f) (poly a)) → Result f c (monic (ops f) (poly a))
 result-monic {f} h r = results.result-monic (f .q) _ _ h _ _ r

@@ -32,9 +32,6 @@ module _ {f : FieldName} {v : List ℕ} {m : ℕ} (held-v : Held f v m) {w : Lis
       length-sub (model (f .q) pos) (poly v m) (mul (ops f) (poly w l) (poly u k)) n (omega arith) (omega arith)
 
   module _ {c : List ℕ} {size : ℕ} (is : Is f c size difference) where
-    pub size-difference : (n : ℕ) → m ≤ n → l + k ≤ suc n → size ≤ n
-    size-difference n h h′ = let e = is .size-is in let d = length-difference n h h′ in omega arith
-
     pub result-difference : l + k ≤ 130 → Result (f .q) c size difference
     result-difference h =
         let s = held-v .short in

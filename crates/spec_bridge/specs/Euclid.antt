@@ -41,16 +41,6 @@ module _ {A B : Type 0} {o : Ops A} (K : Field B) (M : Model o (K .scalars)) (I 
     rem-low = rem-below M I a b h;
   }
 
-  -- the quotient's degree is the difference of both degrees
-  pub size-quo : (a b : List A) → 0 < length (trim o b) → length (quo o a b) ≡ length (trim o a) +ₙ 1 -ₙ length (trim o b)
-  size-quo a b h = ⊎-elim some (λ k. let w = quo-length M a b in omega arith) (le-or-lt (length (trim o b)) (length (trim o a)))
-    where
-      some : length (trim o b) ≤ length (trim o a) → length (quo o a b) ≡ length (trim o a) +ₙ 1 -ₙ length (trim o b)
-      some k =
-          let t : length (trim o (quo o a b)) ≡ length (quo o a b) = ap length (trim-quo M a b) in
-          let e : length (trim o (quo o a b)) ≡ suc (length (trim o a) -ₙ 1 -ₙ (length (trim o b) -ₙ 1)) = deg-size K M (quo o a b) (quotient-deg K (series-deg K M b h) (series-deg K M a (omega arith)) (omega arith) (division-of a b h)) in
-          omega arith
-
   -- ---- divisibility: the remainder is 0
   pub divides-rem-none : (a b : List A) → Divides K (series M b) (series M a) → rem o a b ≡ []
   divides-rem-none a b d = ⊎-elim some none (le-or-lt 1 (length (trim o b)))

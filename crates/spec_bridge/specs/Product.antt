@@ -60,18 +60,6 @@ dots-bound a b m h l k (suc n) =
     let more : suc n * (m * m) ≡ n * (m * m) + m * m = suc-mul n (m * m) in
     omega arith
 
-pub rows-bound : (a b : List ℕ) (m : ℕ) → ((i : ℕ) → getD a i 0 ≤ m) → ((i : ℕ) → getD b i 0 ≤ m) → (n k : ℕ) → rows a b n k ≤ n * (m * m)
-unfolding rows
-rows-bound a b m h l zero k = omega arith
-rows-bound a b m h l (suc n) k =
-    let rest : rows a b n k ≤ n * (m * m) = rows-bound a b m h l n k in
-    let last : getD a n 0 * shifted b n k ≤ m * m = mul-le-mul (h n) (shifted-le n k) in
-    let more : suc n * (m * m) ≡ n * (m * m) + m * m = suc-mul n (m * m) in
-    omega arith
-  where
-    shifted-le : (n k : ℕ) → shifted b n k ≤ m
-    shifted-le n k = ⊎-elim (λ p. let split : n + (k - n) ≡ k = omega arith in subst (λ (j : ℕ). shifted b n j ≤ m) split (subst (λ (v : ℕ). v ≤ m) (sym (shifted-at b n (k - n))) (l (k - n)))) (λ p. subst (λ (v : ℕ). v ≤ m) (sym (shifted-low b n k p)) zero-le) (le-or-lt n k)
-
 -- ---- terms that are 0 change nothing
 dots-settled : (a b : List ℕ) (k n m : ℕ) → ((i : ℕ) → n ≤ i → getD a i 0 ≡ 0) → dots a b k (n + m) ≡ dots a b k n
 unfolding dots

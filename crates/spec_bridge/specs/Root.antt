@@ -108,10 +108,6 @@ module _ {A B : Type 0} {o : Ops A} (K : Field B) (M : Model o (K .scalars)) (I 
       last : Part (series M D) n 0 (series M (rootIn o D n n (monomial o (o .one) n)))
       last = part D n n (monomial o (o .one) n) (omega arith) (record { monic = first; near = monic-sub K (series M D) (x^n * x^n) (n +ₙ n) lead (monic-mul K x^n x^n n n first first) })
 
-  -- there is no other
-  pub root-only : (D : List A) (n : ℕ) (d : Px K) → Monic K (series M D) (n +ₙ n) → IsRoot K (series M D) d n → series M (root o D n) ≡ d
-  root-only D n d lead i = root-unique K (root-is D n lead) i
-
   -- ---- its form
   trim-turns : (D : List A) (n e : ℕ) (d : List A) → Trim M d → Trim M (rootIn o D n e d)
   unfolding rootIn

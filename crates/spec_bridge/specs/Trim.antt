@@ -170,6 +170,3 @@ module _ {A B : Type 0} {o : Ops A} {R : CRing B} (M : Model o R) where
   pub size-is : (l : List A) → size o l ≡ length (trim o l)
   unfolding size
   size-is l = refl
-
-  pub lead-trim : (l : List A) → 0 < length (trim o l) → lead o (trim o l) ≡ lead o l
-  lead-trim l h = lead-is (trim o l) ∙ ap (λ (t : List A). at o (trim o l) (length t -ₙ 1)) (trim-idem l) ∙ trim-kept l _ (omega arith) ∙ sym (lead-is l)

@@ -93,8 +93,3 @@ module _ {A B : Type 0} {o : Ops A} {K : Field B} {M : Model o (F K)} {g : ℕ} 
     -- P + d
     pub sum-most : (j : ℕ) → length (add o (p-at j) d) ≤ 2 +ₙ (g +ₙ g)
     sum-most j = let e = P-most j in let c = d-length z in let c′ = length-trim M d in length-add M (p-at j) d (2 +ₙ (g +ₙ g)) e (omega arith)
-
-    -- a and Q together, so that their product fits
-    pub partial-most : (j : ℕ) → length (a j) +ₙ length (trim o (q-at j)) ≤ 3 +ₙ (g +ₙ g)
-    unfolding partial
-    partial-most j = let e = sum-most j in let e′ = length-trim M (add o (p-at j) d) in let b = quo-length M (add o (p-at j) d) (q-at j) in let c = Q-most j in omega arith

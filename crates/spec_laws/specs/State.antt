@@ -73,11 +73,6 @@ module _ {A B : Type 0} {o : Ops A} {K : Field B} {M : Model o (F K)} {g : ℕ} 
   left-suc i = refl
 
   -- ---- no zero at the end, coefficients that stand for themselves, lengths
-  pub left-trim : (i : ℕ) → Trim M (left o D d i)
-  unfolding left
-  left-trim zero = s .trimmed
-  left-trim (suc i) = r-trim s i
-
   pub left-oks : (i : ℕ) → Oks M (left o D d i)
   unfolding left
   left-oks zero = s .reduced

@@ -90,9 +90,6 @@ module _ {A B : Type 0} {o : Ops A} {K : Field B} {M : Model o (F K)} {g : ℕ} 
       empty [] h = refl
       empty (x ∷ l) h = absurd (omega arith)
 
-  pub P-one : P 1 ≡ d
-  P-one = series-ext M _ _ (P-trim s 1) (s .trimmed) (P-oks s 1) (s .reduced) (states.P-one K (fraction s))
-
   pub Q-one : Q 1 ≡ sub o D (mul o d d)
   Q-one = series-ext M _ _ (Q-trim s 1) (trim-sub M D (mul o d d)) (Q-oks s 1) (oks-sub M D (mul o d d)) (states.Q-one K (fraction s) ∙ sym (series-sub M D (mul o d d) ∙ ap (λ (f : Px K). series M D - f) (series-mul M d d)))
 
