@@ -1,14 +1,13 @@
-// Sums, differences, multiples and the derivative.
+// Sums, differences and multiples.
 ghost use mathlib.Core.Path.{_≡_};
 ghost use Prim.Native.Nat.{ℕ, _≤_};
 ghost use mathlib.Core.List.{[]};
-ghost use Rattle.spec_arithmetic.specs.Polynomials.{add as addOf, sub as subOf, scale as scaleOf, lead as leadOf, monic as monicOf, derivative as derivativeOf};
+ghost use Rattle.spec_arithmetic.specs.Polynomials.{add as addOf, sub as subOf, scale as scaleOf, lead as leadOf, monic as monicOf};
 ghost use Rattle.base_polynomial.specs.Whole.{poly, Held, Is, Holds};
 ghost use Rattle.base_field.specs.Named.{ops, IsField, Ok};
 use crate::Poly;
 use base_field::Field;
 pub use base_places::linear::add_places;
-use base_places::linear::derivative_places;
 use base_places::linear::scale_places;
 pub use base_places::linear::sub_places;
 pub use base_places::linear::top;
@@ -88,17 +87,4 @@ pub fn monic(f: Field, a: Poly) -> Poly
 {
     let u = base_field::inverse(f, lead(f, a));
     scale(f, u, a)
-}
-
-// The derivative of a.
-pub fn derivative(f: Field, a: Poly) -> Poly
-    requires { ⌜ IsField f ⌝ }
-    requires { ⌜ Held f a ⌝ }
-    ensures { λ r. ⌜ Is f r (derivativeOf (ops f) (poly a)) ⌝ }
-{
-    let n = a.size;
-    let mut z = [0u32; 129];
-    derivative_places(f, &a.c, n, &mut z);
-    let size = top(&z, n);
-    Poly { c: z, size: size }
 }
