@@ -1,9 +1,9 @@
 -- Bezout's factors as records: they fit, by their lengths, and each turn of the recursion is a rule of the
 -- definition.
-use mathlib.Core.Path.{_≡_, sym, ap, ap₂, _∙_, subst}
+use mathlib.Core.Path.{_≡_, sym, ap, _∙_, subst}
 use mathlib.Core.Logic.{⊎-elim}
 use mathlib.Core.List.{List, [], _∷_}
-use Prim.Native.Nat.{ℕ, _+_, _<_, _≤_}
+use Prim.Native.Nat.{ℕ, _<_, _≤_}
 use native.Mathlib.Omega.{arith}
 use lib.ListN.{length}
 use Rattle.math_ring.specs.Order.{le-or-lt}
@@ -18,7 +18,7 @@ use Rattle.spec_bridge.specs.Prime.{Prime}
 use Rattle.spec_bridge.specs.Residues.{model, inverts}
 use Rattle.base_polynomial.specs.Record.{poly, Held, Is}
 use Rattle.base_polynomial.specs.Held.{held-positive}
-use Rattle.base_polynomial.specs.Result.{Result, result, held-size, result-mul, result-quo, size-quo, result-rem, result-gcd}
+use Rattle.base_polynomial.specs.Result.{Result, result, held-size, result-gcd}
 
 -- the definition's, of two records
 abbrev pub factors : ℕ → List ℕ → ℕ → List ℕ → ℕ → Bezout ℕ
@@ -96,44 +96,3 @@ module _ (q : ℕ) (p : Prime q) (a : List ℕ) (m : ℕ) (held-a : Held (prime 
     pub some-v : factors q a m b n .v ≡ sub (modulo q) (below .u) (mul (modulo q) (quo (modulo q) (poly a m) (poly b n)) (below .v))
     unfolding bezoutNext
     some-v = ap (λ (e : Bezout ℕ). e .v) next
-
--- one turn: from the records of quotient, remainder and of the factors of b and the remainder
-module _ (q : ℕ) (p : Prime q) (a : List ℕ) (m : ℕ) (held-a : Held (prime q) a m) (b : List ℕ) (n : ℕ) (held-b : Held (prime q) b n) (some : 0 < n) where
-  module _ (w : List ℕ) (w-size : ℕ) (w-is : Is (prime q) w w-size (quo (modulo q) (poly a m) (poly b n))) (r : List ℕ) (r-size : ℕ) (r-is : Is (prime q) r r-size (rem (modulo q) (poly a m) (poly b n))) where
-    remainder : Result q r r-size (rem (modulo q) (poly a m) (poly b n))
-    remainder = result-rem q a m held-a b n held-b r r-size p r-is
-
-    pub turn-gcd : factors q a m b n .gcd ≡ factors q b n r r-size .gcd
-    turn-gcd = some-gcd q p a m held-a b n held-b some (poly r r-size) (remainder .is)
-
-    pub turn-u : factors q a m b n .u ≡ factors q b n r r-size .v
-    turn-u = some-u q p a m held-a b n held-b some (poly r r-size) (remainder .is)
-
-    module _ (u : List ℕ) (u-size : ℕ) (u-is : Is (prime q) u u-size (factors q b n r r-size .u)) (v : List ℕ) (v-size : ℕ) (v-is : Is (prime q) v v-size (factors q b n r r-size .v)) where
-      -- the factors of b and the remainder
-      pub turn-last-u : Result q u u-size (factors q b n r r-size .u)
-      turn-last-u = result-u q p b n held-b r r-size (remainder .held) u u-size u-is
-
-      pub turn-last-v : Result q v v-size (factors q b n r r-size .v)
-      turn-last-v = result-v q p b n held-b r r-size (remainder .held) v v-size v-is
-
-      -- quotient and factor together are no longer than a by more than 1
-      pub turn-fits : w-size + v-size ≤ 130
-      turn-fits =
-          let x = size-quo q a m held-a b n held-b w w-size w-is in
-          let y = size-v q p b n held-b r r-size (remainder .held) v v-size some v-is in
-          let s = held-a .short in
-          let t = held-b .short in
-          omega arith
-
-      module _ (c : List ℕ) (c-size : ℕ) (c-is : Is (prime q) c c-size (mul (modulo q) (poly w w-size) (poly v v-size))) where
-        quotient : Result q w w-size (quo (modulo q) (poly a m) (poly b n))
-        quotient = result-quo q a m held-a b n held-b w w-size some w-is
-
-        pub turn-product : Result q c c-size (mul (modulo q) (poly w w-size) (poly v v-size))
-        turn-product = result-mul q w w-size (quotient .held) v v-size (turn-last-v .held) c c-size turn-fits c-is
-
-        pub turn-v : factors q a m b n .v ≡ sub (modulo q) (poly u u-size) (poly c c-size)
-        turn-v =
-            some-v q p a m held-a b n held-b some (poly r r-size) (remainder .is)
-            ∙ ap₂ (sub (modulo q)) (sym (turn-last-u .is)) (ap₂ (mul (modulo q)) (sym (quotient .is)) (sym (turn-last-v .is)) ∙ sym (turn-product .is))

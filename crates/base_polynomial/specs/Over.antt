@@ -2,10 +2,10 @@
 -- what a caller keeps of each operation's result.
 use mathlib.Core.Path.{_≡_, refl, ap, _∙_}
 use mathlib.Core.List.{List, [], _∷_}
-use Prim.Native.Nat.{ℕ, zero, suc, _+_, _-_, _<_, _≤_}
+use Prim.Native.Nat.{ℕ, zero, suc, _+_, _<_, _≤_}
 use lib.ListN.{length, getD}
 use Rattle.spec_arithmetic.specs.Field.{FieldName, ops}
-use Rattle.spec_arithmetic.specs.Polynomials.{trim, pad, add, sub, mul, quo, rem, gcd, monic, bezout}
+use Rattle.spec_arithmetic.specs.Polynomials.{trim, pad, add, sub, mul, gcd, monic, bezout}
 use Rattle.spec_bridge.specs.Prime.{Prime}
 use Rattle.spec_fields.specs.Named.{Ok}
 use Rattle.base_polynomial.specs.declared.Poly.{Poly}

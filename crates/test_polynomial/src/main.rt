@@ -68,20 +68,44 @@ fn show_division(f: Field, a: Poly, b: Poly)
     show(r);
 }
 
+// The greatest common divisor. Euclid's algorithm uses up what it is lent, so copies are lent.
+fn show_divisor(f: Field, a: Poly, b: Poly)
+    requires { ⌜ IsField f ⌝ }
+    requires { ⌜ Held f a ⌝ }
+    requires { ⌜ Held f b ⌝ }
+{
+    let mut x = a.c;
+    let mut y = b.c;
+    let mut g = [0u32; 129];
+    let size = base_euclid::gcd::gcd(f, &mut x, a.size, &mut y, b.size, &mut g);
+    show(Poly { c: g, size });
+}
+
+// The same with Bezout's factors.
+fn show_factors(f: Field, a: Poly, b: Poly)
+    requires { ⌜ IsField f ⌝ }
+    requires { ⌜ Held f a ⌝ }
+    requires { ⌜ Held f b ⌝ }
+{
+    let mut x = a.c;
+    let mut y = b.c;
+    let mut g = [0u32; 129];
+    let mut u = [0u32; 129];
+    let mut v = [0u32; 129];
+    let s = base_euclid::bezout::bezout(f, &mut x, a.size, &mut y, b.size, &mut g, &mut u, &mut v);
+    show(Poly { c: g, size: s.gcd });
+    show(Poly { c: u, size: s.u });
+    show(Poly { c: v, size: s.v });
+}
+
 // The greatest common divisor, alone and with its factors.
 fn show_gcd(f: Field, a: Poly, b: Poly)
     requires { ⌜ IsField f ⌝ }
     requires { ⌜ Held f a ⌝ }
     requires { ⌜ Held f b ⌝ }
 {
-    show(base_polynomial::gcd::gcd(f, a, b));
-    let t = base_polynomial::gcd::bezout(f, a, b);
-    let g = t.gcd;
-    let u = t.u;
-    let v = t.v;
-    show(g);
-    show(u);
-    show(v);
+    show_divisor(f, a, b);
+    show_factors(f, a, b);
 }
 
 // The same of a and b times a third polynomial.

@@ -24,7 +24,8 @@ element-copy-out-sub c = search needs
 sub-requires : tie.Need-sub-requires
 sub-requires c κs =
     let s = c .before .before .before in
-    (s .pre .0 .0, s .pre .0 .3, subst (λ (x : ℕ). x < s .args .f .q) (sym (c .before .reduce .ensures)) (mod-lt (c .before .before .terms .result) (omega arith)))
+    let product : c .before .reduce .result < s .args .f .q = subst (λ (x : ℕ). x < s .args .f .q) (sym (c .before .reduce .ensures)) (mod-lt (c .before .before .terms .result) (omega arith)) in
+    search (needs, product)
 
 returns : tie.Need-returns
 returns c =
