@@ -9,8 +9,8 @@ use borrow.Author.Needs.{needs}
 use Rattle.listing_record.proofs.record.put_number.Statement.{statement}
 use Rattle.listing_record.proofs.record.put_number.Tie as tie
 
-cast-put-word : tie.Need-cast-put-word
-cast-put-word c = search needs
+high-requires : tie.Need-high-requires
+high-requires c κs = search needs
 
 put-word-requires : tie.Need-put-word-requires
 put-word-requires c κs = search needs
@@ -21,8 +21,8 @@ add-put-word c = search needs
 add-put-word-2 : tie.Need-add-put-word-2
 add-put-word-2 c = search needs
 
-cast-put-word-2 : tie.Need-cast-put-word-2
-cast-put-word-2 c = search needs
+low-requires : tie.Need-low-requires
+low-requires c κs = search needs
 
 put-word-requires-2 : tie.Need-put-word-requires-2
 put-word-requires-2 c κs = search needs
@@ -42,11 +42,11 @@ pub put-number-spec : {M : Type 1} → statement M
 put-number-spec =
     tie.close
     (tie.spec
-    cast-put-word
+    high-requires
     put-word-requires
     add-put-word
     add-put-word-2
-    cast-put-word-2
+    low-requires
     put-word-requires-2
     same-length
     returns)
