@@ -1,5 +1,5 @@
 -- Two words, one after the other.
-use mathlib.Core.Path.{ap, _∙_}
+use mathlib.Core.Path.{ap, ap₂, _∙_}
 use mathlib.Core.List.{[], _∷_}
 use Prim.Native.Nat.{_+_}
 use native.Mathlib.Omega.{arith}
@@ -31,11 +31,12 @@ same-length : tie.Need-same-length
 same-length c = search needs
 
 returns : tie.Need-returns
-unfolding high low
 returns c =
-    let s = c .before .before .before .before .before .before .before .before .before .args in
+    let s = c .before .before .before .before .before .before .before .before .before .before .before .args in
     c .before .before .put-word2 .ensures
-    ∙ ap (λ l. stored l (s .at + 1) (word (s .kind + 1) (low (s .x)) ∷ [])) (c .before .before .before .before .before .before .put-word .ensures)
+    ∙ ap₂ (λ l v. stored l (s .at + 1) (word (s .kind + 1) v ∷ []))
+    (c .before .before .before .before .before .before .before .put-word .ensures ∙ ap (λ v. stored (s .out .now) (s .at) (word (s .kind) v ∷ [])) (c .before .before .before .before .before .before .before .before .high .ensures .0))
+    (c .before .before .before .low .ensures .0)
     ∙ stored-append (word (s .kind) (high (s .x)) ∷ []) (word (s .kind + 1) (low (s .x)) ∷ []) (s .out .now) (s .at) (s .at + 1) (omega arith)
 
 pub put-number-spec : {M : Type 1} → statement M

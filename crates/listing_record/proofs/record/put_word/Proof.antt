@@ -20,7 +20,7 @@ same-length c = search needs
 
 returns : tie.Need-returns
 returns c =
-    let s = c .before .args in
+    let s = c .before .before .args in
     sym (stored-one (s .out .now) (s .at) _) ∙ ap (λ w. stored (s .out .now) (s .at) (w ∷ [])) (c .word .ensures)
 
 pub put-word-spec : {M : Type 1} → statement M
