@@ -10,6 +10,10 @@ use lib.ListN.{length, getD, take, length-take, List·getD-eq-default}
 use lib.Seq.{getD-take}
 use Rattle.math_ring.specs.Order.{le-or-lt}
 
+-- 2^32 − 4095²: a place below this has room for a product of two coefficients
+abbrev pub room : ℕ
+room = 4278198271
+
 -- each coefficient is below b
 abbrev pub Bounded : ℕ → List ℕ → Type 0
 Bounded b l = (i : ℕ) → getD l i 0 < b

@@ -3,17 +3,17 @@
 ghost use mathlib.Core.Path.{_≡_};
 ghost use Prim.Native.Nat.{ℕ, _+_, _-_, _<_, _≤_, _%_};
 ghost use lib.ListN.{length, getD, take};
-ghost use Rattle.base_places.specs.Row.{Bounded, Ends, Row};
+ghost use Rattle.base_places.specs.Row.{room, Bounded, Ends, Row};
 ghost use Rattle.base_places.specs.Places.{Places, Within};
 ghost use Rattle.base_places.specs.Divided.{Divided};
 use crate::product::excess;
 ghost use Rattle.base_field.specs.Named.{name, IsField, Ok};
 use base_field::Field;
 
-// Adds m times y, of n places, to x, k places up. 4,278,198,271 is 2³² − 4,095².
+// Adds m times y, of n places, to x, k places up.
 fn add_row(m: u32, x: &mut [u32; 129], y: &[u32; 129], k: usize, n: usize)
     requires { ⌜ (m < 4096) × (k + n ≤ 129) × (length (now x) ≡ 129) ⌝ }
-    requires { ⌜ Bounded 4278198271 (now x) ⌝ }
+    requires { ⌜ Bounded room (now x) ⌝ }
     requires { ⌜ Bounded 4096 (now y) × Ends (now y) n ⌝ }
     ensures { λ _. ⌜ Row m (now (x .entry)) (now (y .entry)) k (now (x .exit)) ⌝ }
 {

@@ -5,6 +5,7 @@ use mathlib.Core.Path.{_≡_, ap, _∙_}
 use mathlib.Core.List.{List}
 use Rattle.spec_arithmetic.specs.Field.{FieldName, prime, ops}
 use Rattle.spec_definitions.specs.Walk.{degreeBefore}
+use Rattle.spec_definitions.specs.Ticket.{budgets}
 use Rattle.spec_laws.specs.Admitted.{Admitted}
 use Rattle.base_polynomial.specs.Record.{poly, Held}
 use Rattle.walk_state.specs.State.{rootD}
@@ -30,7 +31,7 @@ module _ {q g top : ℕ} {D table d twice : List ℕ} (h : Admitted (prime q) g 
   less = omega (arith, t .reached, left)
 
   -- what the next step asks for
-  pub advancing-going : steps < 268435456 → Going (prime q) top table twice before current rest at
+  pub advancing-going : steps < budgets → Going (prime q) top table twice before current rest at
   advancing-going l = going h e p (t .walked) (let k = less in omega arith)
 
   pub advancing-next : {remains after : List ℕ} {to : Progress} → Taken (prime q) top twice before current rest remains after at to → Advancing (prime q) g D steps current after remains to

@@ -7,7 +7,7 @@ use mathlib.Core.List.{List}
 use lib.Dec.{ltb}
 use borrow.Author.Tests.{lt-ltb, le-ltb}
 use Rattle.spec_arithmetic.specs.Field.{ops}
-use Rattle.spec_definitions.specs.Ticket.{Ticket, genus, ticketOf, refusalOf}
+use Rattle.spec_definitions.specs.Ticket.{Ticket, genus, ticketOf, refusalOf, budgets}
 use Rattle.spec_definitions.specs.Walk.{degreeBefore}
 use Rattle.spec_definitions.specs.Answers.{rootOf}
 use Rattle.base_field.specs.Named.{name}
@@ -17,7 +17,7 @@ use Rattle.ticket_read.specs.declared.Ticket.{Ticket as Said}
 use Rattle.ticket_read.specs.Accepted.{Accepted}
 
 unfoldable pub degreeAfter : List ℕ → ℕ → ℕ
-degreeAfter w steps = elim (ltb steps 268435456) [ true ↦ elim (refusalOf w) [ zero ↦ degreeBefore (ops (ticketOf w .field)) (ticketOf w .D) (rootOf (ticketOf w)) steps | suc k ↦ 0 ] | false ↦ 0 ]
+degreeAfter w steps = elim (ltb steps budgets) [ true ↦ elim (refusalOf w) [ zero ↦ degreeBefore (ops (ticketOf w .field)) (ticketOf w .D) (rootOf (ticketOf w)) steps | suc k ↦ 0 ] | false ↦ 0 ]
 
 module _ (w : List ℕ) (steps : ℕ) where
   abbrev after : ℕ → ℕ
@@ -26,22 +26,22 @@ module _ (w : List ℕ) (steps : ℕ) where
   abbrev asked : Bool → ℕ
   asked b = elim b [ true ↦ after (refusalOf w) | false ↦ 0 ]
 
-  pub many-steps : 268435456 ≤ steps → 0 ≡ degreeAfter w steps
+  pub many-steps : budgets ≤ steps → 0 ≡ degreeAfter w steps
   unfolding degreeAfter
-  many-steps h = sym (ap asked (le-ltb steps 268435456 h))
+  many-steps h = sym (ap asked (le-ltb steps budgets h))
 
-  few : steps < 268435456 → degreeAfter w steps ≡ after (refusalOf w)
+  few : steps < budgets → degreeAfter w steps ≡ after (refusalOf w)
   unfolding degreeAfter
-  few h = ap asked (lt-ltb steps 268435456 h)
+  few h = ap asked (lt-ltb steps budgets h)
 
-  pub refused-steps : steps < 268435456 → (k : ℕ) → k ≡ refusalOf w → (k ≡ 0 → ⊥) → 0 ≡ degreeAfter w steps
+  pub refused-steps : steps < budgets → (k : ℕ) → k ≡ refusalOf w → (k ≡ 0 → ⊥) → 0 ≡ degreeAfter w steps
   refused-steps h k e n = sym (few h ∙ go (refusalOf w) e)
     where
       go : (r : ℕ) → k ≡ r → after r ≡ 0
       go zero z = absurd (n z)
       go (suc j) z = refl
 
-  pub accepted-steps : steps < 268435456 → {t : Said} → Accepted w t → (d : ℕ) → d ≡ degreeBefore (ops (name (t .field))) (poly (t .radicand)) (rootD (name (t .field)) (genus (t .n)) (poly (t .radicand))) steps → d ≡ degreeAfter w steps
+  pub accepted-steps : steps < budgets → {t : Said} → Accepted w t → (d : ℕ) → d ≡ degreeBefore (ops (name (t .field))) (poly (t .radicand)) (rootD (name (t .field)) (genus (t .n)) (poly (t .radicand))) steps → d ≡ degreeAfter w steps
   unfolding rootOf
   accepted-steps h a d e = e ∙ ap (λ (t : Ticket). degreeBefore (ops (t .field)) (t .D) (rootOf t) steps) (sym (a .ticket-is)) ∙ sym (few h ∙ go (refusalOf w) (a .passes))
     where

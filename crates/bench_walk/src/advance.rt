@@ -1,7 +1,7 @@
 // A run of a given number of steps, past every constant Q: for measuring the time of a step.
 ghost use mathlib.Core.Path.{_≡_};
 ghost use Prim.Native.Nat.{_<_, _≤_};
-ghost use Rattle.spec_definitions.specs.Ticket.{genus};
+ghost use Rattle.spec_definitions.specs.Ticket.{genus, budgets};
 ghost use Rattle.spec_definitions.specs.Walk.{degreeBefore};
 ghost use Rattle.spec_laws.specs.Admitted.{Admitted};
 ghost use Rattle.base_field.specs.Named.{IsField, name, ops};
@@ -30,7 +30,7 @@ fn advance(
 ) -> Distance
     requires { ⌜ IsField f ⌝ }
     requires { ⌜ Admitted (name f) (genus n) (polyAt (now radicand) size) ⌝ }
-    requires { ⌜ HeldAt (name f) (now radicand) size × (2 ≤ n) × (steps < 268435456) ⌝ }
+    requires { ⌜ HeldAt (name f) (now radicand) size × (2 ≤ n) × (steps < budgets) ⌝ }
     requires { ⌜ Prepared (name f) (genus n) (polyAt (now radicand) size) (now inverses) (now d) (now twice) ⌝ }
     ensures { λ r. ⌜ r .0 ≡ degreeBefore (ops f) (polyAt (now (radicand .entry)) size) (rootD (name f) (genus n) (polyAt (now (radicand .entry)) size)) steps ⌝ }
 {
@@ -62,7 +62,7 @@ fn advance(
 pub fn run_on(f: Field, n: usize, radicand: Poly, steps: u64) -> Distance
     requires { ⌜ IsField f ⌝ }
     requires { ⌜ Admitted (name f) (genus n) (poly radicand) ⌝ }
-    requires { ⌜ Held f radicand × (2 ≤ n) × (steps < 268435456) ⌝ }
+    requires { ⌜ Held f radicand × (2 ≤ n) × (steps < budgets) ⌝ }
     ensures { λ r. ⌜ r .0 ≡ degreeBefore (ops f) (poly radicand) (rootD (name f) (genus n) (poly radicand)) steps ⌝ }
 {
     let mut inverses = [0u32; 4096];

@@ -6,13 +6,16 @@ ghost use Rattle.bench_walk.specs.Steps.{degreeAfter};
 use crate::advance::run_on;
 use ticket_read::read_ticket;
 
+// How many budgets there are: 2²⁸.
+const BUDGETS: u64 = 268435456;
+
 // The degree of p_{steps − 1}, or 0 where the ticket is refused or 2²⁸ steps or more are asked for. The
 // ticket's budget has no part.
 #[no_mangle]
 pub extern "C" fn bench_walk(ticket: &[u32], steps: u64) -> u64
     ensures { λ r. ⌜ r ≡ degreeAfter (now (ticket .entry)) steps ⌝ }
 {
-    if 268435456 <= steps {
+    if BUDGETS <= steps {
         return 0;
     }
     let t = read_ticket(ticket);

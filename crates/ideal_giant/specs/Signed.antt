@@ -10,12 +10,9 @@ use lib.Signed.{mag}
 use mir.Syntax.{w64}
 use mir.Val.{SFits, toZ, ofZ}
 use mir.ValLaws.{toZ-ofZ}
+pub use Rattle.spec_definitions.specs.Products.{farthest}
 
--- 2^40, the largest distance that a giant step takes
-abbrev pub farthest : ℕ
-farthest = 1099511627776
-
--- 2^41, the largest sum of two of them
+-- 2^41, the largest sum of two distances that a giant step takes
 abbrev pub twoDistances : ℕ
 twoDistances = 2199023255552
 

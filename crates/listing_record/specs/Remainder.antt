@@ -8,6 +8,7 @@ use lib.ListN.{length, getD}
 use Rattle.math_ring.specs.Residues.{FqRing}
 use Rattle.spec_arithmetic.specs.Field.{prime, modulo}
 use Rattle.spec_arithmetic.specs.Polynomials.{trim, sub, rem, monic}
+use Rattle.spec_arithmetic.specs.Words.{values}
 use Rattle.spec_bridge.specs.Arithmetic.{at-sub, trim-sub, oks-sub}
 use Rattle.spec_bridge.specs.Monic.{trim-monic, length-monic}
 use Rattle.spec_bridge.specs.Division.{trim-rem, oks-rem, rem-less}
@@ -62,5 +63,5 @@ module _ (q : ℕ) (b : List ℕ) (size : ℕ) (held : Held (prime q) b size) (c
       I = inverts q (held-positive q b size held) p
 
 -- a coefficient fits a word's value
-pub value-fits : (q : ℕ) (c : List ℕ) (size : ℕ) → q < 4096 → Held (prime q) c size → (i : ℕ) → getD c i 0 < 268435456
+pub value-fits : (q : ℕ) (c : List ℕ) (size : ℕ) → q < 4096 → Held (prime q) c size → (i : ℕ) → getD c i 0 < values
 value-fits q c size s h i = let w : getD c i 0 < q = h .reduced i in omega arith

@@ -5,6 +5,8 @@ pub mod record;
 ghost use mathlib.Core.Path.{_≡_};
 ghost use Prim.Native.Nat.{_+_, _/_, _<_, _≤_};
 ghost use lib.ListN.{length};
+ghost use Rattle.spec_arithmetic.specs.Words.{pairs};
+ghost use Rattle.spec_definitions.specs.Ticket.{budgets};
 ghost use Rattle.base_field.specs.Named.{IsField, name};
 ghost use Rattle.base_polynomial.specs.Places.{Within};
 ghost use Rattle.base_polynomial.specs.Record.{Held as HeldAt};
@@ -34,7 +36,7 @@ pub fn write_record(
     requires { ⌜ (2 ≤ n) × (n ≤ 64) × (0 < size) ⌝ }
     requires { ⌜ Within (name f) (now d) (n / 2 + 1) × Within (name f) (now rest) (n / 2 + 1) ⌝ }
     requires { ⌜ HeldAt (name f) (now current) size ⌝ }
-    requires { ⌜ (at + (n + 4) ≤ length (now out)) × (index .0 < 268435456) × (distance .0 ≤ r .0) × (r .0 < 72057594037927936) ⌝ }
+    requires { ⌜ (at + (n + 4) ≤ length (now out)) × (index .0 < budgets) × (distance .0 ≤ r .0) × (r .0 < pairs) ⌝ }
     ensures { λ _. ⌜ now (out .exit) ≡ stored (now (out .entry)) at (recordFrom (name f) n (r .0) (index .0) (distance .0) (now (d .entry)) (now (rest .entry)) (now (current .entry)) size) ⌝ }
 {
     let x = ideal_of(f, d, rest, n / 2 + 1, current, size);

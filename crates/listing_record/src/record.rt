@@ -6,33 +6,37 @@ ghost use Prim.Native.Nat.{ℕ, _+_, _<_, _≤_};
 ghost use lib.ListN.{length, getD};
 ghost use Rattle.spec_arithmetic.specs.Field.{modulo};
 ghost use Rattle.spec_arithmetic.specs.Polynomials.{pad};
-ghost use Rattle.spec_arithmetic.specs.Words.{word as wordOf, high, low};
+ghost use Rattle.spec_arithmetic.specs.Words.{word as wordOf, high as highOf, low as lowOf, pairs, values};
 ghost use Rattle.spec_definitions.specs.Listing.{recordWords};
+ghost use Rattle.spec_definitions.specs.Ticket.{budgets};
 ghost use Rattle.listing_record.specs.Stored.{stored};
 use base_counters::Distance;
 use base_counters::Index;
+use base_words::high;
+use base_words::low;
+use base_words::word;
 
-// The word of a kind with a value: 268,435,456 is 2²⁸.
+// The word of a kind with a value.
 fn put_word(out: &mut [u32], at: usize, kind: u32, value: u32)
-    requires { ⌜ (at < length (now out)) × (kind < 16) × (value < 268435456) ⌝ }
+    requires { ⌜ (at < length (now out)) × (kind < 16) × (value < values) ⌝ }
     ensures { λ _. ⌜ now (out .exit) ≡ stored (now (out .entry)) at (wordOf kind value ∷ []) ⌝ }
 {
-    out[at] = kind * 268435456 + value;
+    out[at] = word(kind, value);
 }
 
 // The high 28 bits of x as a word of a kind, then the low 28 as one of the next kind.
 fn put_number(out: &mut [u32], at: usize, kind: u32, x: u64)
-    requires { ⌜ (at + 2 ≤ length (now out)) × (kind < 15) × (x < 72057594037927936) ⌝ }
-    ensures { λ _. ⌜ now (out .exit) ≡ stored (now (out .entry)) at (wordOf kind (high x) ∷ wordOf (kind + 1) (low x) ∷ []) ⌝ }
+    requires { ⌜ (at + 2 ≤ length (now out)) × (kind < 15) × (x < pairs) ⌝ }
+    ensures { λ _. ⌜ now (out .exit) ≡ stored (now (out .entry)) at (wordOf kind (highOf x) ∷ wordOf (kind + 1) (lowOf x) ∷ []) ⌝ }
 {
-    put_word(out, at, kind, (x / 268435456) as u32);
-    put_word(out, at + 1, kind + 1, (x % 268435456) as u32);
+    put_word(out, at, kind, high(x));
+    put_word(out, at + 1, kind + 1, low(x));
 }
 
 // The first `count` coefficients of c as words of a kind.
 fn put_coefficients(out: &mut [u32], at: usize, kind: u32, c: &[u32; 129], count: usize)
     requires { ⌜ (at + count ≤ length (now out)) × (count ≤ 129) × (kind < 16) ⌝ }
-    requires { ⌜ ((i : ℕ) → getD (now c) i 0 < 268435456) ⌝ }
+    requires { ⌜ ((i : ℕ) → getD (now c) i 0 < values) ⌝ }
     ensures { λ _. ⌜ ((k : ℕ) → now (out .exit) ≡ stored (now (out .entry)) at (map (wordOf kind) (pad (modulo k) count (now (c .entry))))) ⌝ }
 {
     let mut i: usize = 0;
@@ -54,8 +58,8 @@ pub fn put_record(
     p: &[u32; 129],
 )
     requires { ⌜ (at + (n + 4) ≤ length (now out)) × (2 ≤ n) × (n ≤ 64) ⌝ }
-    requires { ⌜ (index .0 < 268435456) × (distance .0 < 72057594037927936) × (mirror .0 < 72057594037927936) ⌝ }
-    requires { ⌜ ((i : ℕ) → getD (now q) i 0 < 268435456) × ((i : ℕ) → getD (now p) i 0 < 268435456) ⌝ }
+    requires { ⌜ (index .0 < budgets) × (distance .0 < pairs) × (mirror .0 < pairs) ⌝ }
+    requires { ⌜ ((i : ℕ) → getD (now q) i 0 < values) × ((i : ℕ) → getD (now p) i 0 < values) ⌝ }
     ensures { λ _. ⌜ ((k : ℕ) → now (out .exit) ≡ stored (now (out .entry)) at (recordWords (modulo k) n (mirror .0) (record { index = index .0; distance = distance .0; ideal = record { q = now (q .entry); p = now (p .entry) } }))) ⌝ }
 {
     let h = n / 2;

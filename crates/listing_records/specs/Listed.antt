@@ -8,7 +8,7 @@ use mathlib.Core.Path.{_≡_, refl, sym, ap, ap₂, _∙_, subst}
 use mathlib.Core.List.{List, _++_}
 use lib.ListN.{length, drop}
 use Rattle.spec_arithmetic.specs.Field.{FieldName, prime, ops, modulo}
-use Rattle.spec_definitions.specs.Ticket.{genus, ticket}
+use Rattle.spec_definitions.specs.Ticket.{genus, ticket, budgets, degrees}
 use Rattle.spec_definitions.specs.Walk.{degreeBefore}
 use Rattle.spec_definitions.specs.Answers.{rootOf}
 use Rattle.spec_definitions.specs.Listing.{mirrorOf, recordWords, entryOf, recordOf, recordsFrom, listingOf}
@@ -32,7 +32,7 @@ use Rattle.listing_records.specs.Records.{records-next, length-records}
 pub record Listable (f : FieldName) (n : ℕ) (D : List ℕ) (m R : ℕ) (old : List ℕ) : Type 0 where
   pub admitted : Admitted f (genus n) D
   pub even : suc (genus n) + suc (genus n) ≡ n
-  pub index-fits : m < 268435456
+  pub index-fits : m < budgets
   pub regulator-is : R ≡ degreeBefore (ops f) D (rootD f (genus n) D) m
   pub words-fit : m * (n + 4) ≤ length old
 
@@ -59,13 +59,13 @@ module _ {q n : ℕ} {D : List ℕ} {m R : ℕ} {old : List ℕ} (a : Listable (
   top-fits = let e = top-of in let l = a .admitted .genus-most in omega arith
 
   -- 2²⁸·32 is below 2⁵⁶
-  pub regulator-fits : R ≤ 8589934592
+  pub regulator-fits : R ≤ degrees
   regulator-fits =
       let e = a .regulator-is in
       let k = degree-bound (surd-of (a .admitted)) m in
-      let x : m ≤ 268435456 = (let w = a .index-fits in omega arith) in
+      let x : m ≤ budgets = (let w = a .index-fits in omega arith) in
       let y : suc (genus n) ≤ 32 = (let l = a .admitted .genus-most in omega arith) in
-      let w : m * suc (genus n) ≤ 268435456 * 32 = mul-le-mul x y in
+      let w : m * suc (genus n) ≤ budgets * 32 = mul-le-mul x y in
       omega arith
 
   -- the records of the indices 1 to m are the listing
@@ -91,11 +91,11 @@ module _ {q n : ℕ} {D : List ℕ} {m R : ℕ} {old : List ℕ} (a : Listable (
           omega arith
 
       -- and its number fits
-      pub place-small : at .index .0 < m → place + (n + 4) ≤ 268435456 * 68
+      pub place-small : at .index .0 < m → place + (n + 4) ≤ budgets * 68
       place-small more =
-          let x : suc (at .index .0) ≤ 268435456 = (let l = a .index-fits in omega arith) in
+          let x : suc (at .index .0) ≤ budgets = (let l = a .index-fits in omega arith) in
           let y : n + 4 ≤ 68 = (let l = degree-most in omega arith) in
-          let w : suc (at .index .0) * (n + 4) ≤ 268435456 * 68 = mul-le-mul x y in
+          let w : suc (at .index .0) * (n + 4) ≤ budgets * 68 = mul-le-mul x y in
           let e : suc (at .index .0) * (n + 4) ≡ at .index .0 * (n + 4) + (n + 4) = suc-mul (at .index .0) (n + 4) in
           let z = t .place-is in
           omega arith

@@ -2,7 +2,7 @@
 use Prim.Native.Nat.{ℕ, _+_, _<_, _≤_}
 use native.Mathlib.Numerals.{add-one}
 use native.Mathlib.Omega.{arith}
-use mathlib.Core.Path.{_≡_, refl, sym, ap, _∙_}
+use mathlib.Core.Path.{_≡_, refl, sym, ap, _∙_, subst}
 use mathlib.Core.List.{List, [], _∷_, _++_, map, append-assoc, append-nil}
 use lib.ListN.{length, getD, take, drop, length-append, List·getD-map}
 use lib.Seq.{take-suc}
@@ -26,6 +26,9 @@ spaced-more a x = spaced-append a (x ∷ []) ∙ ap (λ (t : List ℕ). spaced a
 pub digits-value : (w : ℕ) → length (decimal (value w)) ≤ 9
 unfolding power value
 digits-value w = digits 8 (value w) (omega arith)
+
+pub digits-is : {x : ℕ} (w : ℕ) → x ≡ value w → length (decimal x) ≤ 9
+digits-is w e = subst (λ (y : ℕ). length (decimal y) ≤ 9) (sym e) (digits-value w)
 
 pub digits-64 : (x : ℕ) → x < 18446744073709551616 → length (decimal x) ≤ 20
 unfolding power

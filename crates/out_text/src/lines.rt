@@ -3,15 +3,14 @@ ghost use mathlib.Core.Path.{_≡_};
 ghost use mathlib.Core.List.{[], _∷_, map};
 ghost use Prim.Native.Nat.{_+_, _*_, _<_, _≤_};
 ghost use lib.ListN.{length};
-ghost use Rattle.spec_arithmetic.specs.Words.{value};
+ghost use Rattle.spec_arithmetic.specs.Words.{value as valueOf};
 ghost use Rattle.spec_definitions.specs.Answers.{said, found, spent};
 ghost use Rattle.spec_definitions.specs.Text.{ascii, decimal, spaced, line};
 ghost use Rattle.spec_definitions.specs.Program.{firstLine, recordLine};
 ghost use Rattle.out_text.specs.Lines.{joinedAt, headBytes};
 ghost use Rattle.out_text.specs.Writing.{Put, Line};
-
-// The number of values of a word.
-const VALUES: u32 = 268435456;
+use base_words::joined;
+use base_words::value;
 
 // The digits of x: those of its tenth part, and then the last one.
 fn put_decimal(out: &mut [u8], at: usize, x: u64) -> usize
@@ -54,13 +53,13 @@ fn put_numbers(out: &mut [u8], at: usize, numbers: &[u64]) -> usize
 // The value of each word after a space.
 fn put_values(out: &mut [u8], at: usize, words: &[u32]) -> usize
     requires { ⌜ at + 10 * length (now words) ≤ length (now out) ⌝ }
-    ensures { λ r. ⌜ Put (now (out .entry)) (now (out .exit)) at r (spaced (map value (now (words .entry)))) ⌝ }
+    ensures { λ r. ⌜ Put (now (out .entry)) (now (out .exit)) at r (spaced (map valueOf (now (words .entry)))) ⌝ }
     ensures { λ r. ⌜ r ≤ at + 10 * length (now (words .entry)) ⌝ }
 {
     let mut next = at;
     let mut i: usize = 0;
     while i < words.len() {
-        next = put_spaced(out, next, (words[i] % VALUES) as u64);
+        next = put_spaced(out, next, value(words[i]) as u64);
         i += 1;
     }
     next
@@ -89,11 +88,11 @@ fn put_end(out: &mut [u8], at: usize) -> usize
 }
 
 // The number in two words, high then low.
-fn joined(words: &[u32], at: usize) -> u64
+fn joined_at(words: &[u32], at: usize) -> u64
     requires { ⌜ at + 1 < length (now words) ⌝ }
     ensures { λ r. ⌜ r ≡ joinedAt (now (words .entry)) at ⌝ }
 {
-    (words[at] % VALUES) as u64 * VALUES as u64 + (words[at + 1] % VALUES) as u64
+    joined(value(words[at]), value(words[at + 1]))
 }
 
 // Index, distance and mirror of a record.
@@ -101,9 +100,9 @@ fn put_head(out: &mut [u8], words: &[u32]) -> usize
     requires { ⌜ (5 ≤ length (now words)) × (45 ≤ length (now out)) ⌝ }
     ensures { λ r. ⌜ Put (now (out .entry)) (now (out .exit)) 0 r (headBytes (now (words .entry))) ⌝ }
 {
-    let index = put_decimal(out, 0, (words[0] % VALUES) as u64);
-    let distance = put_spaced(out, index, joined(words, 1));
-    put_spaced(out, distance, joined(words, 3))
+    let index = put_decimal(out, 0, value(words[0]) as u64);
+    let distance = put_spaced(out, index, joined_at(words, 1));
+    put_spaced(out, distance, joined_at(words, 3))
 }
 
 // The line of a record of at most 68 words: index, distance, mirror, and the coefficients.

@@ -16,7 +16,7 @@ use Rattle.math_algebra.specs.Field.{Field}
 use Rattle.math_algebra.specs.Polynomial.{F, Px}
 use Rattle.spec_arithmetic.specs.Field.{FieldName, ops, reading}
 use Rattle.spec_arithmetic.specs.Polynomials.{size, deg, lead, pad, sub, scale, mul, quo, rem, monic, root}
-use Rattle.spec_arithmetic.specs.Words.{kind, value, word, high, low, joined}
+use Rattle.spec_arithmetic.specs.Words.{kind, value, word, high, low, joined, values}
 use Rattle.spec_definitions.specs.Ticket.{Ticket, genus, ticketOf}
 use Rattle.spec_definitions.specs.Walk.{pBefore, degreeBefore}
 use Rattle.spec_definitions.specs.Walk as walk
@@ -92,7 +92,7 @@ module _ (f : FieldName) (named : IsField f) (l h : List ℕ) (e : (i : ℕ) →
   lead-same = e (size (ops f) l - 1) ∙ ap (λ (k : ℕ). getD h (k - 1) 0) size-same
 
 -- the values of words of one kind
-values-words : (c : ℕ) (l : List ℕ) → ((i : ℕ) → getD l i 0 < 268435456) → map value (map (word c) l) ≡ l
+values-words : (c : ℕ) (l : List ℕ) → ((i : ℕ) → getD l i 0 < values) → map value (map (word c) l) ≡ l
 values-words c [] h = refl
 values-words c (x ∷ l) h = ap₂ (λ (a : ℕ) (t : List ℕ). a ∷ t) (value-word c x (h 0)) (values-words c l (λ i. h (suc i)))
 
@@ -212,7 +212,7 @@ module _ (t : Ticket) (h : Admitted (t .field) (genus (t .n)) (t .D)) (even : su
       ∙ ap (λ (x : List ℕ). getD x i 0) (kinds-record (t .field) (t .n) (mirrorOf R (entryOf t j)) (entryOf t j) (r .index-fits) (r .distance-fits) (r .mirror-fits) (λ i. ok-small (t .field) (is-field h) _ (r .Q-below i)) (λ i. ok-small (t .field) (is-field h) _ (r .P-below i)))
 
   -- the value of a word of the record that is known
-  value-read : (i c v : ℕ) → i < t .n + 4 → getD (recordOf t R j) i 0 ≡ word c v → v < 268435456 → value (wordAt (t .n) j l i) ≡ v
+  value-read : (i c v : ℕ) → i < t .n + 4 → getD (recordOf t R j) i 0 ≡ word c v → v < values → value (wordAt (t .n) j l i) ≡ v
   value-read i c v low e f = ap value (word-is i low ∙ e) ∙ value-word c v f
 
   index-read : value (wordAt (t .n) j l 0) ≡ suc j

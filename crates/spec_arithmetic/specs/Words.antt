@@ -8,6 +8,10 @@ use lib.Dec.{eqb}
 abbrev pub values : ℕ
 values = 268435456
 
+-- 2^56, the number of numbers of two words
+abbrev pub pairs : ℕ
+pairs = 72057594037927936
+
 -- "The top 4 bits of a word are its kind, the low 28 its value. All are unsigned."; the kind is the word's
 -- tag: it says what the value stands for
 unfoldable pub kind : ℕ → ℕ

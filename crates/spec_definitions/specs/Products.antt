@@ -69,9 +69,13 @@ pub record GiantStepAnswer : Type 0 where
   pub f : ℤ
   pub distance : ℤ
 
+-- 2^40, the largest distance that a giant step takes
+abbrev pub farthest : ℕ
+farthest = 1099511627776
+
 -- "10 (giant step only): a distance is above 2^40"
 unfoldable pub wrongDistance : ℕ → ℕ → Bool
-wrongDistance d e = ltb 1099511627776 d || ltb 1099511627776 e
+wrongDistance d e = ltb farthest d || ltb farthest e
 
 module _ (t : Ticket) where
   -- "A pair is g+1 and g coefficients below q, Q monic, deg P < deg Q, Q dividing D − P²."

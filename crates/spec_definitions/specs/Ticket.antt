@@ -1,5 +1,5 @@
 -- The job ticket: what its words say, and the ordered refusals 1 to 7 of any list of words.
-use Prim.Native.Nat.{ℕ, _+_, _-_, _/_, _%_}
+use Prim.Native.Nat.{ℕ, _+_, _*_, _-_, _/_, _%_}
 use mathlib.Core.Bool.{Bool, true, false, not, _||_}
 use mathlib.Core.List.{List, [], _∷_, _++_, map}
 use lib.Dec.{ltb, eqb}
@@ -7,7 +7,7 @@ use lib.ListN.{length, getD, take, drop, replicate}
 use Rattle.spec_arithmetic.specs.Field.{FieldName, prime, ops, fits}
 use Rattle.spec_arithmetic.specs.Polynomials.{size, gcd, derivative}
 use Rattle.spec_arithmetic.specs.Primes.{oddPrime}
-use Rattle.spec_arithmetic.specs.Words.{kind, value, same, someNot, oneOf}
+use Rattle.spec_arithmetic.specs.Words.{values, kind, value, same, someNot, oneOf}
 
 -- the ticket is the job record: which field, which D, and how many steps at most "kind 1: q; kind 2: n; kind
 -- 3, n+1 words: the coefficients of D, constant term first; kind 4: the step budget b"
@@ -16,6 +16,14 @@ pub record Ticket : Type 0 where
   pub n : ℕ
   pub D : List ℕ
   pub b : ℕ
+
+-- "kind 4: the step budget b, 0 to 268,435,455": the number of budgets, which are the values of a word
+abbrev pub budgets : ℕ
+budgets = values
+
+-- 2^33: the degree at an index below `budgets` is at most this, since each step adds at most g + 1 ≤ 32
+abbrev pub degrees : ℕ
+degrees = 32 * budgets
 
 -- the ticket of the parts
 abbrev pub ticket : FieldName → ℕ → List ℕ → ℕ → Ticket

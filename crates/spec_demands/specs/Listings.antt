@@ -15,8 +15,8 @@ use Rattle.math_surd.specs.Walk.{prior}
 use Rattle.math_surd.specs.Walk as states
 use Rattle.spec_arithmetic.specs.Field.{FieldName, ops}
 use Rattle.spec_arithmetic.specs.Polynomials.{trim, monic, rem, root}
-use Rattle.spec_arithmetic.specs.Words.{kind, high}
-use Rattle.spec_definitions.specs.Ticket.{Ticket, genus, ticketOf, refusalOf, wrongDegree}
+use Rattle.spec_arithmetic.specs.Words.{kind, high, values}
+use Rattle.spec_definitions.specs.Ticket.{Ticket, genus, ticketOf, refusalOf, wrongDegree, budgets, degrees}
 use Rattle.spec_definitions.specs.Walk.{degreeBefore}
 use Rattle.spec_definitions.specs.Walk as walk
 use Rattle.spec_definitions.specs.Answers.{found, wordsOutcome, opsOf, rootOf}
@@ -40,9 +40,9 @@ use Rattle.spec_demands.specs.Records.{kinds-record, count-listing, leng
 -- record j + 1: each number fits into its words of 28 bits, no coefficient is left out, mirror and distance
 -- make up R, and the pair is an ideal
 pub record RecordHolds (t : Ticket) (R j : ℕ) : Type 0 where
-  pub index-fits : entryOf t j .index < 268435456
-  pub distance-fits : high (entryOf t j .distance) < 268435456
-  pub mirror-fits : high (mirrorOf R (entryOf t j)) < 268435456
+  pub index-fits : entryOf t j .index < budgets
+  pub distance-fits : high (entryOf t j .distance) < values
+  pub mirror-fits : high (mirrorOf R (entryOf t j)) < values
   pub mirror-is : mirrorOf R (entryOf t j) + entryOf t j .distance ≡ R
   pub Q-whole : length (entryOf t j .ideal .q) ≤ suc (genus (t .n))
   pub P-whole : length (entryOf t j .ideal .p) ≤ genus (t .n)
@@ -111,19 +111,19 @@ module _ {f : FieldName} {g : ℕ} {D : List ℕ} (h : Admitted f g D) where
   walk-pair i = is-pair h (oks-monic M I (Q i)) (reduced-ideal K M I D (walk.walk (ops f) D d i) (state-at i))
 
   -- 2²⁸·32 is far below 2⁵⁶
-  degree-fits : (i : ℕ) → i ≤ 268435456 → degreeBefore (ops f) D d i ≤ 8589934592
+  degree-fits : (i : ℕ) → i ≤ budgets → degreeBefore (ops f) D d i ≤ degrees
   degree-fits i l =
       let k = degree-most z i in
       let y : suc g ≤ 32 = (let e = h .genus-most in omega arith) in
-      let w : i * suc g ≤ 268435456 * 32 = mul-le-mul l y in
+      let w : i * suc g ≤ budgets * 32 = mul-le-mul l y in
       omega arith
 
-high-fits : (x : ℕ) → x ≤ 8589934592 → high x < 268435456
+high-fits : (x : ℕ) → x ≤ degrees → high x < values
 unfolding high
-high-fits x l = let e : 268435456 * (x / 268435456) + x % 268435456 ≡ x = div-add-mod x 268435456 in omega arith
+high-fits x l = let e : values * (x / values) + x % values ≡ x = div-add-mod x values in omega arith
 
 -- ---- the records
-module _ (t : Ticket) (h : Admitted (t .field) (genus (t .n)) (t .D)) (R m : ℕ) (most : m < 268435456) (is : R ≡ degreeBefore (opsOf t) (t .D) (rootOf t) m) where
+module _ (t : Ticket) (h : Admitted (t .field) (genus (t .n)) (t .D)) (R m : ℕ) (most : m < budgets) (is : R ≡ degreeBefore (opsOf t) (t .D) (rootOf t) m) where
   holds : (j : ℕ) → j < m → RecordHolds t R j
   unfolding entryOf idealOf mirrorOf rootOf
   holds j l = record {
@@ -194,5 +194,5 @@ t2-listings w e R m c f = (holds (ticketOf w) h R m most (s .regulator), read-ba
     s : StopsAt (ticketOf w .field) (ticketOf w .D) (rootOf (ticketOf w)) (ticketOf w .b) R m c
     s = subst (Walks (ticketOf w)) f (t2 w e) .ends
 
-    most : m < 268435456
+    most : m < budgets
     most = let a = s .within in let b = budget-less w in omega arith

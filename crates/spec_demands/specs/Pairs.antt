@@ -17,7 +17,7 @@ use Rattle.spec_arithmetic.specs.Polynomials.{trim, size, lead, sub, mul, rem}
 use Rattle.spec_arithmetic.specs.Words.{someNot}
 use Rattle.spec_definitions.specs.Ticket.{Ticket, genus, ticketOf, refusalOf}
 use Rattle.spec_definitions.specs.Walk.{Ideal}
-use Rattle.spec_definitions.specs.Products.{ProductAnswer, GiantStepAnswer, isPair, wrongPair, wrongDistance, productDone, giantDone, productRefused, giantRefused, productAnswer, giantAnswer}
+use Rattle.spec_definitions.specs.Products.{ProductAnswer, GiantStepAnswer, isPair, wrongPair, wrongDistance, productDone, giantDone, productRefused, giantRefused, productAnswer, giantAnswer, farthest}
 use Rattle.spec_bridge.specs.Model.{Model, Oks}
 use Rattle.spec_bridge.specs.Trim.{size-is, size-le}
 use Rattle.spec_bridge.specs.Degree.{monic-size}
@@ -49,7 +49,7 @@ WrongPair t x y = (¬ GivenPair t x) ⊎ (¬ GivenPair t y)
 
 -- "10 (giant step only): a distance is above 2^40"
 abbrev pub WrongDistance : ℕ → ℕ → Type 0
-WrongDistance d e = (1099511627776 < d) ⊎ (1099511627776 < e)
+WrongDistance d e = (farthest < d) ⊎ (farthest < e)
 
 -- "polynomials, f and distances in the same answer are then zero"
 abbrev pub ProductZero : ProductAnswer → Type 0

@@ -11,8 +11,8 @@ use lib.Seq.{take-at, drop-at, drop-drop, getD-take, getD-drop}
 use borrow.Author.Tests.{lt-ltb}
 use Rattle.spec_arithmetic.specs.Field.{FieldName, Ops, ops}
 use Rattle.spec_arithmetic.specs.Polynomials.{pad}
-use Rattle.spec_arithmetic.specs.Words.{kind, value, word, high, low, joined, same}
-use Rattle.spec_definitions.specs.Ticket.{Ticket, genus}
+use Rattle.spec_arithmetic.specs.Words.{kind, value, word, high, low, joined, same, values}
+use Rattle.spec_definitions.specs.Ticket.{Ticket, genus, budgets}
 use Rattle.spec_definitions.specs.Answers.{opsOf}
 use Rattle.spec_definitions.specs.Listing.{Entry, recordWords, entryOf, recordOf, recordsFrom, listingOf}
 use Rattle.spec_definitions.specs.Lookup.{recordKinds, recordAt, distanceAt, recordCount, rightKinds, rising}
@@ -26,21 +26,21 @@ map-append f [] m = refl
 map-append f (x ∷ l) m = ap (λ (t : List ℕ). f x ∷ t) (map-append f l m)
 
 -- the kinds of coefficients that fit
-kinds-pad : (f : FieldName) (c k : ℕ) (l : List ℕ) → ((i : ℕ) → getD l i 0 < 268435456) → map kind (map (word c) (pad (ops f) k l)) ≡ replicate k c
+kinds-pad : (f : FieldName) (c k : ℕ) (l : List ℕ) → ((i : ℕ) → getD l i 0 < values) → map kind (map (word c) (pad (ops f) k l)) ≡ replicate k c
 unfolding pad
 kinds-pad f c zero l h = refl
 kinds-pad f c (suc k) [] h = ap₂ (λ (x : ℕ) (t : List ℕ). x ∷ t) (kind-word c 0 (omega arith)) (kinds-pad f c k [] (λ i. omega arith))
 kinds-pad f c (suc k) (a ∷ l) h = ap₂ (λ (x : ℕ) (t : List ℕ). x ∷ t) (kind-word c a (h 0)) (kinds-pad f c k l (λ i. h (suc i)))
 
 -- ---- one record
-pub kinds-record : (f : FieldName) (n mirror : ℕ) (e : Entry) → e .index < 268435456 → high (e .distance) < 268435456 → high mirror < 268435456 → ((i : ℕ) → getD (e .ideal .q) i 0 < 268435456) → ((i : ℕ) → getD (e .ideal .p) i 0 < 268435456) → map kind (recordWords (ops f) n mirror e) ≡ recordKinds n
+pub kinds-record : (f : FieldName) (n mirror : ℕ) (e : Entry) → e .index < budgets → high (e .distance) < values → high mirror < values → ((i : ℕ) → getD (e .ideal .q) i 0 < values) → ((i : ℕ) → getD (e .ideal .p) i 0 < values) → map kind (recordWords (ops f) n mirror e) ≡ recordKinds n
 unfolding recordWords recordKinds
 kinds-record f n mirror e i d m hq hp = λ j. kind-word 5 (e .index) i j ∷ kind-word 6 (high (e .distance)) d j ∷ kind-word 7 (low (e .distance)) (low-less (e .distance)) j ∷ kind-word 10 (high mirror) m j ∷ kind-word 11 (low mirror) (low-less mirror) j ∷ rest j
   where
     rest : map kind (map (word 8) (pad (ops f) (suc (genus n)) (e .ideal .q)) ++ map (word 9) (pad (ops f) (genus n) (e .ideal .p))) ≡ replicate (suc (genus n)) 8 ++ replicate (genus n) 9
     rest = map-append kind (map (word 8) (pad (ops f) (suc (genus n)) (e .ideal .q))) (map (word 9) (pad (ops f) (genus n) (e .ideal .p))) ∙ ap₂ (λ (x y : List ℕ). x ++ y) (kinds-pad f 8 (suc (genus n)) (e .ideal .q) hq) (kinds-pad f 9 (genus n) (e .ideal .p) hp)
 
-distance-record : (o : Ops ℕ) (n mirror : ℕ) (e : Entry) → high (e .distance) < 268435456 → joined (value (getD (recordWords o n mirror e) 1 0)) (value (getD (recordWords o n mirror e) 2 0)) ≡ e .distance
+distance-record : (o : Ops ℕ) (n mirror : ℕ) (e : Entry) → high (e .distance) < values → joined (value (getD (recordWords o n mirror e) 1 0)) (value (getD (recordWords o n mirror e) 2 0)) ≡ e .distance
 unfolding recordWords
 distance-record o n mirror e h = ap₂ joined (value-word 6 (high (e .distance)) h) (value-word 7 (low (e .distance)) (low-less (e .distance))) ∙ joined-back (e .distance)
 
@@ -88,7 +88,7 @@ module _ (t : Ticket) (R : ℕ) (even : suc (genus (t .n)) + suc (genus (t .n)) 
     unfolding recordAt
     word-listing k i h low = sym (getD-take (t .n + 4) (drop (k * (t .n + 4)) l) i 0 low ∙ getD-drop (k * (t .n + 4)) l i 0) ∙ ap (λ (r : List ℕ). getD r i 0) (record-listing k h)
 
-    pub distance-listing : (k : ℕ) → k < m → high (entryOf t k .distance) < 268435456 → distanceAt l (t .n) k ≡ entryOf t k .distance
+    pub distance-listing : (k : ℕ) → k < m → high (entryOf t k .distance) < values → distanceAt l (t .n) k ≡ entryOf t k .distance
     unfolding distanceAt recordOf
     distance-listing k h f = ap₂ (λ (x y : ℕ). joined (value x) (value y)) (word-listing k 1 h (omega arith)) (word-listing k 2 h (omega arith)) ∙ distance-record (opsOf t) (t .n) _ (entryOf t k) f
 

@@ -1,6 +1,6 @@
 -- Sentence 7 over the field of q elements: the square of a polynomial of degree 1 or more divides D exactly
--- where the gcd of D and D′ is not constant (F3 of the algebra). The square factor is carried from lists to
--- polynomials and back.
+-- where the gcd of D and D′ is not constant: the test for square factors over a perfect field, with the square
+-- factor carried from lists to polynomials and back.
 use Prim.Native.Nat.{ℕ, suc, _-_ as _-ₙ_, _≤_}
 use native.Mathlib.Omega.{arith}
 use mathlib.Core.Path.{_≡_, sym, ap, ap₂, _∙_, fun-ext, subst}

@@ -11,6 +11,7 @@ use Rattle.math_algebra.specs.Field.{Field}
 use Rattle.math_algebra.specs.Characteristic.{Perfect}
 use Rattle.math_algebra.specs.Fermat.{perfect-residues}
 use Rattle.spec_arithmetic.specs.Field.{FieldName, ops, fits, reading}
+use Rattle.spec_arithmetic.specs.Words.{values}
 use Rattle.spec_bridge.specs.Model.{Model, Inverts}
 use Rattle.spec_bridge.specs.Coefficients.{Onto}
 use Rattle.spec_bridge.specs.Prime.{Prime}
@@ -132,7 +133,7 @@ module _ (f : FieldName) (h : IsField f) where
   reading-one x e = reading-same x 1 (e ∙ sym reading-first) ∙ φ-first
 
   -- an admissible coefficient fits into a word
-  pub ok-small : (x : ℕ) → Ok f x → x < 268435456
+  pub ok-small : (x : ℕ) → Ok f x → x < values
   ok-small x k = let z = h .small in omega arith
 
 -- 0 stands for itself

@@ -17,7 +17,7 @@ use Rattle.spec_arithmetic.specs.Field.{FieldName, ops, fits}
 use Rattle.spec_arithmetic.specs.Polynomials.{trim, root}
 use Rattle.spec_arithmetic.specs.Primes.{oddPrime}
 use Rattle.spec_arithmetic.specs.Words.{value, someNot}
-use Rattle.spec_definitions.specs.Ticket.{Ticket, genus, ticketOf, wrongHead, wrongPrime, wrongDegree, wrongLayout, wrongCoefficient, wrongLead, notSquarefree, firstOf, testsOf, refusalOf}
+use Rattle.spec_definitions.specs.Ticket.{Ticket, genus, ticketOf, wrongHead, wrongPrime, wrongDegree, wrongLayout, wrongCoefficient, wrongLead, notSquarefree, firstOf, testsOf, refusalOf, budgets}
 use Rattle.spec_bridge.specs.Model.{series}
 use Rattle.spec_bridge.specs.Trim.{below-length, length-trim}
 use Rattle.spec_bridge.specs.Prime.{Prime, OddPrime, odd-prime-true, odd-prime-more}
@@ -166,6 +166,6 @@ pub admitted : (w : List ℕ) → refusalOf w ≡ 0 → Admitted (ticketOf w .fi
 admitted w e = from-tests w (ticketOf w) (field-of (ticketOf w .field) (passed w e .prime)) (passed w e) (length-of w (passed w e .layout))
 
 -- the budget of any ticket
-pub budget-less : (w : List ℕ) → ticketOf w .b < 268435456
+pub budget-less : (w : List ℕ) → ticketOf w .b < budgets
 unfolding ticketOf value
 budget-less w = mod-lt (getD w (value (getD w 1 0) + 3) 0) (omega arith)

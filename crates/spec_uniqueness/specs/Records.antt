@@ -20,7 +20,7 @@ use Rattle.math_algebra.specs.Divides.{Divides as DividesK, divides-sub, divide
 use Rattle.math_algebra.specs.Associate.{Associate, associate-sym, associate-trans, associate-monic-equal}
 use Rattle.spec_arithmetic.specs.Field.{FieldName, ops}
 use Rattle.spec_arithmetic.specs.Polynomials.{trim, size, lead, sub, scale}
-use Rattle.spec_arithmetic.specs.Words.{kind, value, joined}
+use Rattle.spec_arithmetic.specs.Words.{kind, value, joined, values}
 use Rattle.spec_definitions.specs.Ticket.{Ticket, genus, ticketOf, refusalOf}
 use Rattle.spec_definitions.specs.Walk as walk
 use Rattle.spec_definitions.specs.Answers.{found, said, opsOf, rootOf, wordsOutcome}
@@ -54,13 +54,13 @@ ListingOnly = (w old : List ℕ) (R m c : ℕ) → listingAnswer w old .says ≡
 -- a word is its kind and its value
 word-unique : (x y : ℕ) → kind x ≡ kind y → value x ≡ value y → x ≡ y
 unfolding kind value
-word-unique x y e f = sym (div-add-mod' x 268435456) ∙ ap₂ (λ (a b : ℕ). a * 268435456 + b) e f ∙ div-add-mod' y 268435456
+word-unique x y e f = sym (div-add-mod' x values) ∙ ap₂ (λ (a b : ℕ). a * values + b) e f ∙ div-add-mod' y values
 
-value-less : (x : ℕ) → value x < 268435456
+value-less : (x : ℕ) → value x < values
 unfolding value
 value-less x = mod-lt x (omega arith)
 
-joined-parts : (a b c d : ℕ) → b < 268435456 → d < 268435456 → joined a b ≡ joined c d → (a ≡ c) × (b ≡ d)
+joined-parts : (a b c d : ℕ) → b < values → d < values → joined a b ≡ joined c d → (a ≡ c) × (b ≡ d)
 unfolding joined
 joined-parts a b c d h k e = (omega arith, omega arith)
 

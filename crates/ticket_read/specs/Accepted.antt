@@ -6,7 +6,7 @@ use mathlib.Core.Path.{_≡_, sym, ap, _∙_, subst}
 use mathlib.Core.List.{List}
 use lib.ListN.{length}
 use Rattle.spec_arithmetic.specs.Field.{FieldName}
-use Rattle.spec_arithmetic.specs.Words.{values}
+pub use Rattle.spec_definitions.specs.Ticket.{budgets}
 use Rattle.spec_definitions.specs.Ticket.{Ticket, ticket, genus, ticketOf, refusalOf}
 use Rattle.spec_laws.specs.Admitted.{Admitted, is-field, admitted, passed, degree-of, budget-less}
 use Rattle.base_field.specs.Named.{name, IsField}
@@ -15,10 +15,6 @@ use Rattle.base_polynomial.specs.Whole.{poly, Held, Is}
 use Rattle.ticket_tests.specs.Radicand.{trim-lead-one}
 use Rattle.ticket_read.specs.declared.Ticket.{Ticket as Said}
 use Rattle.ticket_read.specs.Read.{readOf, Stands, unless-none}
-
--- how many budgets there are: a budget is the value of a word
-abbrev pub budgets : ℕ
-budgets = values
 
 pub record Accepted (w : List ℕ) (t : Said) : Type 0 where
   pub passes : refusalOf w ≡ 0

@@ -1,7 +1,7 @@
 // The unit p + s·√D in lent lists: p and s, with two work lists of the same size.
 ghost use mathlib.Core.Path.{_≡_};
 ghost use Prim.Native.Nat.{ℕ, _+_, _<_, _≤_};
-ghost use Rattle.spec_definitions.specs.Ticket.{genus, ticket};
+ghost use Rattle.spec_definitions.specs.Ticket.{genus, ticket, budgets};
 ghost use Rattle.spec_definitions.specs.Walk.{degreeBefore};
 ghost use Rattle.spec_definitions.specs.Units.{unitLists};
 ghost use Rattle.spec_laws.specs.Admitted.{Admitted};
@@ -36,7 +36,7 @@ fn fill(
 )
     requires { ⌜ IsField f ⌝ }
     requires { ⌜ Admitted (name f) (genus n) (polyAt (now radicand) size) ⌝ }
-    requires { ⌜ HeldAt (name f) (now radicand) size × (2 ≤ n) × (m .0 < 268435456) ⌝ }
+    requires { ⌜ HeldAt (name f) (now radicand) size × (2 ≤ n) × (m .0 < budgets) ⌝ }
     requires { ⌜ Prepared (name f) (genus n) (polyAt (now radicand) size) (now inverses) (now d) (now twice) ⌝ }
     requires { ⌜ degreeBefore (ops f) (polyAt (now radicand) size) (rootD (name f) (genus n) (polyAt (now radicand) size)) (m .0) + 1 ≡ count ⌝ }
     requires { ⌜ Room count (now p) (now s) (now x) (now y) ⌝ }
@@ -81,7 +81,7 @@ pub fn write_unit(
 )
     requires { ⌜ IsField f ⌝ }
     requires { ⌜ Admitted (name f) (genus n) (polyAt (now radicand) size) ⌝ }
-    requires { ⌜ HeldAt (name f) (now radicand) size × (2 ≤ n) × (m .0 < 268435456) ⌝ }
+    requires { ⌜ HeldAt (name f) (now radicand) size × (2 ≤ n) × (m .0 < budgets) ⌝ }
     requires { ⌜ Prepared (name f) (genus n) (polyAt (now radicand) size) (now inverses) (now d) (now twice) ⌝ }
     requires { ⌜ r .0 ≡ degreeBefore (ops f) (polyAt (now radicand) size) (rootD (name f) (genus n) (polyAt (now radicand) size)) (m .0) ⌝ }
     requires { ⌜ Room (r .0 + 1) (now p) (now s) (now x) (now y) ⌝ }

@@ -4,7 +4,7 @@ ghost use mathlib.Core.Path.{_≡_};
 ghost use mathlib.Core.List.{[], _∷_};
 ghost use Prim.Native.Nat.{_+_, _<_, _≤_};
 ghost use lib.ListN.{length, getD};
-ghost use Rattle.spec_definitions.specs.Ticket.{genus};
+ghost use Rattle.spec_definitions.specs.Ticket.{genus, budgets};
 ghost use Rattle.spec_definitions.specs.Walk.{degreeBefore};
 ghost use Rattle.spec_laws.specs.Admitted.{Admitted};
 ghost use Rattle.base_field.specs.Named.{IsField, name, ops};
@@ -124,7 +124,7 @@ pub fn steps(
 )
     requires { ⌜ IsField f ⌝ }
     requires { ⌜ Admitted (name f) (genus n) (polyAt (now radicand) size) ⌝ }
-    requires { ⌜ HeldAt (name f) (now radicand) size × (2 ≤ n) × (m .0 < 268435456) ⌝ }
+    requires { ⌜ HeldAt (name f) (now radicand) size × (2 ≤ n) × (m .0 < budgets) ⌝ }
     requires { ⌜ Prepared (name f) (genus n) (polyAt (now radicand) size) (now inverses) (now d) (now twice) ⌝ }
     requires { ⌜ degreeBefore (ops f) (polyAt (now radicand) size) (rootD (name f) (genus n) (polyAt (now radicand) size)) (m .0) + 1 ≡ count ⌝ }
     requires { ⌜ Room count (now p) (now s) (now x) (now y) ⌝ }

@@ -6,7 +6,7 @@ use mathlib.Core.Path.{_≡_, sym, ap, ap₂, _∙_, subst}
 use mathlib.Core.List.{List}
 use lib.ListN.{getD}
 use Rattle.spec_arithmetic.specs.Field.{FieldName, prime, ops}
-use Rattle.spec_definitions.specs.Ticket.{genus}
+use Rattle.spec_definitions.specs.Ticket.{genus, budgets}
 use Rattle.spec_definitions.specs.Walk.{Q, degreeBefore}
 use Rattle.spec_definitions.specs.Answers.{found, spent, outcomeOf}
 use Rattle.spec_laws.specs.Admitted.{Admitted, surd-of}
@@ -41,7 +41,7 @@ module _ {q g top : ℕ} {D table d twice : List ℕ} (h : Admitted (prime q) g 
   less = omega (arith, t .reached, left)
 
   -- what the next step asks for
-  pub seeking-going : budget < 268435456 → Going (prime q) top table twice before current rest at
+  pub seeking-going : budget < budgets → Going (prime q) top table twice before current rest at
   seeking-going l = going h e p (t .walked) (let k = less in omega arith)
 
   module _ {remains after : List ℕ} {to : Progress} (u : Taken (prime q) top twice before current rest remains after at to) where

@@ -1,7 +1,7 @@
 // The run of the walk: the loop to the first constant Q within a budget, and the outcome.
 ghost use mathlib.Core.Path.{_≡_};
 ghost use Prim.Native.Nat.{_<_, _≤_};
-ghost use Rattle.spec_definitions.specs.Ticket.{genus};
+ghost use Rattle.spec_definitions.specs.Ticket.{genus, budgets};
 ghost use Rattle.spec_definitions.specs.Answers.{spent as spentAt, outcomeOf};
 ghost use Rattle.spec_laws.specs.Admitted.{Admitted};
 ghost use Rattle.base_field.specs.Named.{IsField, Ok, name};
@@ -68,7 +68,7 @@ pub fn seek(
 ) -> Outcome
     requires { ⌜ IsField f ⌝ }
     requires { ⌜ Admitted (name f) (genus n) (polyAt (now radicand) size) ⌝ }
-    requires { ⌜ HeldAt (name f) (now radicand) size × (2 ≤ n) × (budget < 268435456) ⌝ }
+    requires { ⌜ HeldAt (name f) (now radicand) size × (2 ≤ n) × (budget < budgets) ⌝ }
     requires { ⌜ Prepared (name f) (genus n) (polyAt (now radicand) size) (now inverses) (now d) (now twice) ⌝ }
     ensures { λ r. ⌜ meaning r ≡ outcomeOf (ticket (name f) n (polyAt (now (radicand .entry)) size) budget) ⌝ }
 {
@@ -112,7 +112,7 @@ pub fn seek(
 pub fn run(f: Field, n: usize, radicand: Poly, budget: u64) -> Outcome
     requires { ⌜ IsField f ⌝ }
     requires { ⌜ Admitted (name f) (genus n) (poly radicand) ⌝ }
-    requires { ⌜ Held f radicand × (2 ≤ n) × (budget < 268435456) ⌝ }
+    requires { ⌜ Held f radicand × (2 ≤ n) × (budget < budgets) ⌝ }
     ensures { λ r. ⌜ meaning r ≡ outcomeOf (ticket (name f) n (poly radicand) budget) ⌝ }
 {
     let mut inverses = [0u32; 4096];

@@ -4,6 +4,7 @@ use mathlib.Core.Path.{_≡_}
 use mathlib.Core.List.{List}
 use lib.ListN.{getD, set}
 use Rattle.spec_arithmetic.specs.Field.{FieldName}
+use Rattle.spec_definitions.specs.Ticket.{budgets, degrees}
 use Rattle.base_polynomial.specs.Places.{zeros}
 use Rattle.walk_step.specs.Step.{Inverses, Ready, Stepped}
 use Rattle.walk_stride.specs.declared.Progress.{Progress}
@@ -16,8 +17,8 @@ pub record Going (f : FieldName) (top : ℕ) (inverses twice before current rest
   pub top-fits : top ≤ 127
   pub table : Inverses f inverses
   pub ready : Ready f top (at .size) twice before current rest
-  pub few : at .index .0 < 268435456
-  pub degree-fits : at .degree .0 ≤ 8589934592
+  pub few : at .index .0 < budgets
+  pub degree-fits : at .degree .0 ≤ degrees
 
 -- D, 1 and d in their places
 pub record Begun (radicand d before current rest : List ℕ) (at : Progress) : Type 0 where

@@ -10,6 +10,7 @@ use mathlib.Core.List.{List}
 use lib.ListN.{length, set}
 use Rattle.spec_arithmetic.specs.Field.{FieldName, prime, ops, modulo}
 use Rattle.spec_definitions.specs.Walk.{Q, degreeBefore}
+use Rattle.spec_definitions.specs.Ticket.{budgets, degrees}
 use Rattle.spec_laws.specs.Admitted.{Admitted, surd-of}
 use Rattle.spec_laws.specs.Convergents.{degree-zero, degree-suc, degree-most}
 use Rattle.spec_laws.specs.Fraction.{Q-some, Q-length}
@@ -55,17 +56,17 @@ module _ {q g top : ℕ} {D table d twice : List ℕ} (h : Admitted (prime q) g 
   pub degree-next : at .degree .0 + (suc (suc g) - at .size) ≡ degreeBefore (modulo q) D (rootD (prime q) g D) (suc (at .index .0))
   degree-next = sym (degree-suc (surd-of h) (at .index .0) ∙ ap₂ (λ (i k : ℕ). i + (suc (suc g) - k)) (sym (t .degree-is)) (sym (t .state .size-is)))
 
-  degree-fits : at .index .0 < 268435456 → at .degree .0 ≤ 8589934592
+  degree-fits : at .index .0 < budgets → at .degree .0 ≤ degrees
   degree-fits k =
       let m = degree-most (surd-of h) (at .index .0) in
       let i = t .degree-is in
-      let x : at .index .0 ≤ 268435456 = omega arith in
+      let x : at .index .0 ≤ budgets = omega arith in
       let y : suc g ≤ 32 = (let l = h .genus-most in omega arith) in
-      let w : at .index .0 * suc g ≤ 268435456 * 32 = mul-le-mul x y in
+      let w : at .index .0 * suc g ≤ budgets * 32 = mul-le-mul x y in
       omega arith
 
   -- what a step asks for
-  pub going : at .index .0 < 268435456 → Going (prime q) top table twice before current rest at
+  pub going : at .index .0 < budgets → Going (prime q) top table twice before current rest at
   going l =
       let o = h .genus-most in
       let s = size-some in

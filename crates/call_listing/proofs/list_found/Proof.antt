@@ -4,6 +4,7 @@ use Prim.Native.Nat.{_+_, _*_, _≤_}
 use native.Mathlib.Nat.{mul-le-mul}
 use native.Mathlib.Omega.{arith}
 use borrow.Author.Needs.{needs}
+use Rattle.spec_definitions.specs.Ticket.{budgets}
 use Rattle.walk_run.specs.Found.{found-index, found-degree}
 use Rattle.call_listing.specs.Listing.{long-list, short-list}
 use Rattle.call_listing.proofs.list_found.Statement.{statement}
@@ -19,7 +20,7 @@ mul-words c =
     let i = found-index f in
     let g = f .admitted .genus-most in
     let e = f .even in
-    let k : s .args .m .0 * (s .args .t .n + 4) ≤ 268435456 * 68 = mul-le-mul {n₂ = 268435456} {m₂ = 68} (omega arith) (omega arith) in
+    let k : s .args .m .0 * (s .args .t .n + 4) ≤ budgets * 68 = mul-le-mul {n₂ = budgets} {m₂ = 68} (omega arith) (omega arith) in
     record { fits = omega arith }
 
 returns : tie.Need-returns

@@ -4,6 +4,7 @@ use Prim.Native.Nat.{ℕ, _≤_, _<_, _-_, _+_, _*_}
 use native.Mathlib.Nat.{mul-le-mul}
 use native.Mathlib.Omega.{arith}
 use lib.ListN.{length, getD}
+use Rattle.base_places.specs.Row.{room}
 use Rattle.base_places.proofs.Rows.{RowTo, row-start, row-step, row-end}
 use borrow.Author.Needs.{needs}
 use Rattle.base_places.proofs.division.add_row.Statement.{statement}
@@ -24,11 +25,11 @@ term c =
     let b : getD (s .args .y .now) (c .before .before .before .loop .j) 0 ≤ 4095 = omega arith in
     mul-le-mul a b
 
-place : (c : tie.After-x2 Inv-loop μ-loop) → getD (c .before .before .before .loop .x) (c .before .before .before .before .args .k + c .before .before .before .loop .j) 0 < 4278198271
+place : (c : tie.After-x2 Inv-loop μ-loop) → getD (c .before .before .before .loop .x) (c .before .before .before .before .args .k + c .before .before .before .loop .j) 0 < room
 place c =
     let s = c .before .before .before .before in
     let l = c .before .before .before .loop in
-    subst (λ (v : ℕ). v < 4278198271) (sym (l .inv .2 .rest (l .j) (omega arith))) (s .pre .1 .0 (s .args .k + l .j))
+    subst (λ (v : ℕ). v < room) (sym (l .inv .2 .rest (l .j) (omega arith))) (s .pre .1 .0 (s .args .k + l .j))
 
 loop-holds : tie.Need-loop-holds Inv-loop μ-loop
 loop-holds c =

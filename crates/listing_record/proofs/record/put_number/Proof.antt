@@ -1,5 +1,5 @@
 -- Two words, one after the other.
-use mathlib.Core.Path.{ap, _∙_}
+use mathlib.Core.Path.{ap, ap₂, _∙_}
 use mathlib.Core.List.{[], _∷_}
 use Prim.Native.Nat.{_+_}
 use native.Mathlib.Omega.{arith}
@@ -9,8 +9,8 @@ use borrow.Author.Needs.{needs}
 use Rattle.listing_record.proofs.record.put_number.Statement.{statement}
 use Rattle.listing_record.proofs.record.put_number.Tie as tie
 
-cast-put-word : tie.Need-cast-put-word
-cast-put-word c = search needs
+high-requires : tie.Need-high-requires
+high-requires c κs = search needs
 
 put-word-requires : tie.Need-put-word-requires
 put-word-requires c κs = search needs
@@ -21,8 +21,8 @@ add-put-word c = search needs
 add-put-word-2 : tie.Need-add-put-word-2
 add-put-word-2 c = search needs
 
-cast-put-word-2 : tie.Need-cast-put-word-2
-cast-put-word-2 c = search needs
+low-requires : tie.Need-low-requires
+low-requires c κs = search needs
 
 put-word-requires-2 : tie.Need-put-word-requires-2
 put-word-requires-2 c κs = search needs
@@ -31,22 +31,23 @@ same-length : tie.Need-same-length
 same-length c = search needs
 
 returns : tie.Need-returns
-unfolding high low
 returns c =
-    let s = c .before .before .before .before .before .before .before .before .before .args in
+    let s = c .before .before .before .before .before .before .before .before .before .before .before .args in
     c .before .before .put-word2 .ensures
-    ∙ ap (λ l. stored l (s .at + 1) (word (s .kind + 1) (low (s .x)) ∷ [])) (c .before .before .before .before .before .before .put-word .ensures)
+    ∙ ap₂ (λ l v. stored l (s .at + 1) (word (s .kind + 1) v ∷ []))
+    (c .before .before .before .before .before .before .before .put-word .ensures ∙ ap (λ v. stored (s .out .now) (s .at) (word (s .kind) v ∷ [])) (c .before .before .before .before .before .before .before .before .high .ensures .0))
+    (c .before .before .before .low .ensures .0)
     ∙ stored-append (word (s .kind) (high (s .x)) ∷ []) (word (s .kind + 1) (low (s .x)) ∷ []) (s .out .now) (s .at) (s .at + 1) (omega arith)
 
 pub put-number-spec : {M : Type 1} → statement M
 put-number-spec =
     tie.close
     (tie.spec
-    cast-put-word
+    high-requires
     put-word-requires
     add-put-word
     add-put-word-2
-    cast-put-word-2
+    low-requires
     put-word-requires-2
     same-length
     returns)
