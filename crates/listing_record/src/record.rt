@@ -29,8 +29,10 @@ fn put_number(out: &mut [u32], at: usize, kind: u32, x: u64)
     requires { ⌜ (at + 2 ≤ length (now out)) × (kind < 15) × (x < pairs) ⌝ }
     ensures { λ _. ⌜ now (out .exit) ≡ stored (now (out .entry)) at (wordOf kind (highOf x) ∷ wordOf (kind + 1) (lowOf x) ∷ []) ⌝ }
 {
-    put_word(out, at, kind, high(x));
-    put_word(out, at + 1, kind + 1, low(x));
+    let h = high(x);
+    let l = low(x);
+    put_word(out, at, kind, h);
+    put_word(out, at + 1, kind + 1, l);
 }
 
 // The first `count` coefficients of c as words of a kind.

@@ -12,6 +12,9 @@ use Rattle.listing_record.proofs.record.put_number.Tie as tie
 high-requires : tie.Need-high-requires
 high-requires c κs = search needs
 
+low-requires : tie.Need-low-requires
+low-requires c κs = search needs
+
 put-word-requires : tie.Need-put-word-requires
 put-word-requires c κs = search needs
 
@@ -20,9 +23,6 @@ add-put-word c = search needs
 
 add-put-word-2 : tie.Need-add-put-word-2
 add-put-word-2 c = search needs
-
-low-requires : tie.Need-low-requires
-low-requires c κs = search needs
 
 put-word-requires-2 : tie.Need-put-word-requires-2
 put-word-requires-2 c κs = search needs
@@ -35,8 +35,8 @@ returns c =
     let s = c .before .before .before .before .before .before .before .before .before .before .before .args in
     c .before .before .put-word2 .ensures
     ∙ ap₂ (λ l v. stored l (s .at + 1) (word (s .kind + 1) v ∷ []))
-    (c .before .before .before .before .before .before .before .put-word .ensures ∙ ap (λ v. stored (s .out .now) (s .at) (word (s .kind) v ∷ [])) (c .before .before .before .before .before .before .before .before .high .ensures .0))
-    (c .before .before .before .low .ensures .0)
+    (c .before .before .before .before .before .before .put-word .ensures ∙ ap (λ v. stored (s .out .now) (s .at) (word (s .kind) v ∷ [])) (c .before .before .before .before .before .before .before .before .before .high .ensures .0))
+    (c .before .before .before .before .before .before .before .before .low .ensures .0)
     ∙ stored-append (word (s .kind) (high (s .x)) ∷ []) (word (s .kind + 1) (low (s .x)) ∷ []) (s .out .now) (s .at) (s .at + 1) (omega arith)
 
 pub put-number-spec : {M : Type 1} → statement M
@@ -44,10 +44,10 @@ put-number-spec =
     tie.close
     (tie.spec
     high-requires
+    low-requires
     put-word-requires
     add-put-word
     add-put-word-2
-    low-requires
     put-word-requires-2
     same-length
     returns)
