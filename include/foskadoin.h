@@ -132,7 +132,7 @@ struct foskadoin_giant_step_numbers foskadoin_giant_step(const uint32_t *ticket,
    memcpy and memset alone. So calls may run at the same time in several threads, as long as no list that one
    of them writes is passed to another.
 
-   Stack. The stored vectors (n up to 64) reach 223,000 bytes. Three functions are recursive: the greatest
+   Stack. The stored vectors (n up to 64) reach 54,000 bytes. Three functions are recursive: the greatest
    common divisor of D and its derivative (a level for each division, at most n), that of two Q with its
    factors (likewise, at most n/2), and the inverse modulo q (at most 21 levels). A smaller stack is not
    noticed: the call may then end in a fault of memory.
