@@ -1,9 +1,2 @@
-pub mod Passed
-pub mod Down
-pub mod Quotient
-pub mod Difference
-pub mod Divided
-pub mod Monic
-pub mod Turn
-pub mod Two
 pub mod Constant
+pub mod Turn

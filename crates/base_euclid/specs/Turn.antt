@@ -15,7 +15,7 @@ use Rattle.base_polynomial.specs.Result.{Result, held-size, result-rem}
 use Rattle.base_polynomial.specs.Gcd.{gcd-none, gcd-some}
 use Rattle.base_polynomial.specs.Bezout.{factors, result-u, result-v, size-v, none-gcd, none-u, none-v, some-gcd, some-u, some-v}
 use Rattle.base_euclid.specs.Constant.{constant-gcd, constant-factor-gcd, constant-u, constant-v}
-use Rattle.base_euclid.specs.Divided.{quo-places, quo-factor}
+use Rattle.base_division.specs.Divided.{quo-places, quo-factor}
 
 -- the last turn, where b is 0
 module _ (q : ℕ) (p : Prime q) {a : List ℕ} {m : ℕ} (held-a : Held (prime q) a m) {b : List ℕ} {n : ℕ} (held-b : Held (prime q) b n) (none : n ≡ 0) (c : List ℕ) (k : ℕ) where

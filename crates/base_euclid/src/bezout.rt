@@ -4,14 +4,14 @@ ghost use mathlib.Core.List.{[], _∷_};
 ghost use Rattle.spec_arithmetic.specs.Polynomials.{trim, lead as leadOf, monic as monicOf, bezout as bezoutOf};
 ghost use Rattle.base_places.specs.Record.{poly, Held, Is};
 ghost use Rattle.base_field.specs.Named.{name, ops, IsField, Ok};
-use crate::division::divide_cleared;
-use crate::division::remainder;
-use crate::division::subtract_product;
-use crate::gcd::lead_inverse;
-use crate::gcd::monic_by;
+use base_division::difference::subtract_product;
+use base_division::division::divide_cleared;
+use base_division::division::remainder;
 use base_field::Field;
 use base_places::linear::top;
 use base_places::product::excess;
+use base_polynomial::arrays::lead_inverse;
+use base_polynomial::arrays::monic_by;
 
 // The sizes of a greatest common divisor and of its factors.
 pub struct Sizes {

@@ -1,5 +1,3 @@
-// Euclid's algorithm on arrays of 129 coefficients by reference: division in place, the greatest common
-// divisor, Bezout's factors.
+// Euclid's algorithm on arrays of 129 coefficients by reference: the greatest common divisor, Bezout's factors.
 pub mod bezout;
-pub mod division;
 pub mod gcd;

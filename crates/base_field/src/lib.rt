@@ -1,6 +1,4 @@
-// The field of q elements on coefficients below q, and which q are allowed.
-pub mod primes;
-
+// The field of q elements on coefficients below q.
 ghost use mathlib.Core.Path.{_≡_};
 ghost use Prim.Native.Nat.{_/_, _%_, _<_};
 ghost use Rattle.base_field.specs.Named.{ops, IsField, Ok, largest};

@@ -1,9 +1,11 @@
 pub mod Places
 pub mod Zeros
 pub mod Row
+pub mod Down
+pub mod TwoRows
+pub mod Quotient
 pub mod Dots
 pub mod Terms
-pub mod Divided
 pub mod Record
 pub mod Pad
 pub mod Held

@@ -1,18 +1,13 @@
--- What is known of 129 places before they make a record: a bound of the coefficients, zeros from a place on,
--- a multiple added.
+-- What is known of 129 places before they make a record: a bound of the coefficients, zeros from a place on.
 use mathlib.Core.Path.{_≡_, sym, _∙_}
 use mathlib.Core.List.{List}
 use mathlib.Core.Logic.{⊎-elim}
-use Prim.Native.Nat.{ℕ, _+_, _*_, _<_, _≤_}
+use Prim.Native.Nat.{ℕ, _<_, _≤_}
 use native.Mathlib.Nat.{min-le-left}
 use native.Mathlib.Omega.{arith}
 use lib.ListN.{length, getD, take, length-take, List·getD-eq-default}
 use lib.Seq.{getD-take}
 use Rattle.math_ring.specs.Order.{le-or-lt}
-
--- 2^32 − 4095²: a place below this has room for a product of two coefficients
-abbrev pub room : ℕ
-room = 4278198271
 
 -- each coefficient is below b
 abbrev pub Bounded : ℕ → List ℕ → Type 0
@@ -25,9 +20,3 @@ Ends l n = (i : ℕ) → n ≤ i → getD l i 0 ≡ 0
 -- the coefficients before the zeros are all
 pub at-take : (l : List ℕ) (n : ℕ) → Ends l n → (i : ℕ) → getD (take n l) i 0 ≡ getD l i 0
 at-take l n e i = ⊎-elim (λ h. List·getD-eq-default (take n l) 0 (let w : length (take n l) ≤ n = simp length-take (min-le-left n (length l)) in omega arith) ∙ sym (e i h)) (λ h. getD-take n l i 0 h) (le-or-lt n i)
-
--- y is x and m times b, k places up; nothing is reduced
-pub record Row (m : ℕ) (x b : List ℕ) (k : ℕ) (y : List ℕ) : Type 0 where
-  pub long : length y ≡ 129
-  pub low : (i : ℕ) → i < k → getD y i 0 ≡ getD x i 0
-  pub high : (i : ℕ) → getD y (k + i) 0 ≡ getD x (k + i) 0 + m * getD b i 0

@@ -7,6 +7,13 @@ ghost use Rattle.base_places.specs.Places.{Places, Within, Top};
 ghost use Rattle.base_field.specs.Named.{name, ops, IsField, Ok};
 use base_field::Field;
 
+// The larger of m and n.
+pub fn larger(m: usize, n: usize) -> usize
+    ensures { λ r. ⌜ (m ≤ r) × (n ≤ r) × ((k : ℕ) → m ≤ k → n ≤ k → r ≤ k) ⌝ }
+{
+    if m < n { n } else { m }
+}
+
 // The size: the places from `from` on are 0.
 pub fn top(c: &[u32; 129], from: usize) -> usize
     requires { ⌜ from ≤ 129 ⌝ }
@@ -74,10 +81,9 @@ pub fn derivative_places(f: Field, x: &[u32; 129], n: usize, z: &mut [u32; 129])
     ensures { λ _. ⌜ Places (now (z .exit)) (λ i. ops f .mul (i + 1) (getD (now (x .entry)) (i + 1) 0)) ⌝ }
 {
     *z = [0u32; 129];
-    let q = f.q;
     let mut i: usize = 0;
     while i + 1 < n {
-        z[i] = (i + 1) as u32 * x[i + 1] % q;
+        z[i] = base_field::reduce(f, (i + 1) as u32 * x[i + 1]);
         i += 1;
     }
 }

@@ -3,6 +3,7 @@ ghost use mathlib.Core.Path.{_≡_};
 ghost use Prim.Native.Nat.{_+_, _-_, _<_, _≤_};
 ghost use lib.ListN.{getD};
 ghost use Rattle.spec_arithmetic.specs.Polynomials.{mul as mulOf};
+ghost use Rattle.spec_bridge.specs.Product.{shifted};
 ghost use Rattle.base_places.specs.Places.{Places, Within};
 ghost use Rattle.base_places.specs.Terms.{Terms};
 ghost use Rattle.base_field.specs.Named.{name, ops, IsField};
@@ -13,6 +14,14 @@ pub fn excess(a: usize, b: usize) -> usize
     ensures { λ r. ⌜ r ≡ a - b ⌝ }
 {
     if b <= a { a - b } else { 0 }
+}
+
+// The place before k, 0 where there is none.
+pub fn below(b: &[u32; 129], k: usize) -> u32
+    requires { ⌜ k < 129 ⌝ }
+    ensures { λ r. ⌜ r ≡ shifted (now (b .entry)) 1 k ⌝ }
+{
+    if 0 < k { b[k - 1] } else { 0 }
 }
 
 // The coefficient at k of x, of m places, times y, of n places, as a sum that is not reduced. 129·4,095² is
@@ -40,7 +49,7 @@ pub fn dot(f: Field, x: &[u32; 129], y: &[u32; 129], k: usize, m: usize, n: usiz
     requires { ⌜ Within (name f) (now y) n ⌝ }
     ensures { λ r. ⌜ r ≡ getD (mulOf (ops f) (now (x .entry)) (now (y .entry))) k 0 ⌝ }
 {
-    terms(f, x, y, k, m, n) % f.q
+    base_field::reduce(f, terms(f, x, y, k, m, n))
 }
 
 // z becomes x, of m places, times y, of n places.

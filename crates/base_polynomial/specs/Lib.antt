@@ -4,9 +4,9 @@ pub mod Held
 pub mod Places
 pub mod Row
 pub mod Linear
+pub mod Monic
 pub mod Result
 pub mod Product
-pub mod Division
 pub mod Gcd
 pub mod Bezout
 pub mod Whole

@@ -1,5 +1,5 @@
 // Polynomials over the field of q elements, as a record of 129 coefficients with its size.
-pub mod division;
+pub mod arrays;
 pub mod linear;
 pub mod product;
 

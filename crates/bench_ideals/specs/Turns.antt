@@ -2,15 +2,15 @@
 use Prim.Native.Nat.{ℕ, zero, suc, _+_, _<_}
 use native.Mathlib.Omega.{arith}
 use mathlib.Core.Path.{_≡_, refl, sym, ap, _∙_}
-use mathlib.Core.Bool.{Bool, true, false}
+use mathlib.Core.Bool.{true, false}
 use mathlib.Core.List.{List}
 use lib.ListN.{length}
 use Rattle.spec_definitions.specs.Ticket.{Ticket, ticketOf, refusalOf}
 use Rattle.spec_definitions.specs.Walk.{Ideal}
 use Rattle.spec_definitions.specs.Answers.{opsOf}
-use Rattle.spec_definitions.specs.Products.{Product, ProductAnswer, GiantStepAnswer, productOf, wrongPair, wrongDistance, productDone, giantDone, productRefused, giantRefused, productAnswer, giantAnswer}
-use Rattle.call_product.specs.Products.{product-done}
-use Rattle.call_giant_step.specs.GiantSteps.{giant-near, near-done}
+use Rattle.spec_definitions.specs.Products.{ProductAnswer, GiantStepAnswer, productOf, wrongPair, wrongDistance, productDone, giantDone, productRefused, giantRefused, productAnswer, giantAnswer}
+use Rattle.call_product.specs.Products.{productTested, product-passed, tested-wrong as wrong-product, tested-done, done-same}
+use Rattle.call_giant_step.specs.GiantSteps.{giantTested, giant-passed, tested-wrong as wrong-giant, tested-near, near-same, near-done}
 
 -- s after any turn, 0 before the first
 unfoldable pub made : ℕ → ℕ → ℕ
@@ -22,6 +22,13 @@ productTurns w x y times = made times (length (productAnswer w x y .p))
 
 unfoldable pub giantTurns : List ℕ → Ideal ℕ → Ideal ℕ → ℕ → ℕ
 giantTurns w x y times = made times (length (giantAnswer w x 0 y 0 .p))
+
+-- the same for a ticket that is not refused
+unfoldable pub productTurnsOf : Ticket → Ideal ℕ → Ideal ℕ → ℕ → ℕ
+productTurnsOf t x y times = made times (length (productTested t x y .p))
+
+unfoldable pub giantTurnsOf : Ticket → Ideal ℕ → Ideal ℕ → ℕ → ℕ
+giantTurnsOf t x y times = made times (length (giantTested t x 0 y 0 .p))
 
 pub made-none : (s : ℕ) → 0 ≡ made 0 s
 unfolding made
@@ -47,21 +54,47 @@ pub productDone-p : (t : Ticket) (x y : Ideal ℕ) → productDone t x y .p ≡ 
 unfolding productDone
 productDone-p t x y = refl
 
+-- a refusal's P is zero
+refused-product : (k times : ℕ) {a : ProductAnswer} → a ≡ productRefused k → 0 ≡ made times (length (a .p))
+unfolding productRefused
+refused-product k times e = sym (ap (λ (r : ProductAnswer). made times (length (r .p))) e ∙ made-zero times)
+
+refused-giant : (k times : ℕ) {a : GiantStepAnswer} → a ≡ giantRefused k → 0 ≡ made times (length (a .p))
+unfolding giantRefused
+refused-giant k times e = sym (ap (λ (r : GiantStepAnswer). made times (length (r .p))) e ∙ made-zero times)
+
 module _ (w : List ℕ) (x y : Ideal ℕ) (times : ℕ) where
-  -- a refusal's P is zero
   pub product-none : (k : ℕ) → productAnswer w x y ≡ productRefused k → 0 ≡ productTurns w x y times
-  unfolding productTurns productRefused
-  product-none k e = sym (ap (λ (a : ProductAnswer). made times (length (a .p))) e ∙ made-zero times)
+  unfolding productTurns
+  product-none k e = refused-product k times e
 
   pub giant-none : (k : ℕ) → giantAnswer w x 0 y 0 ≡ giantRefused k → 0 ≡ giantTurns w x y times
-  unfolding giantTurns giantRefused
-  giant-none k e = sym (ap (λ (a : GiantStepAnswer). made times (length (a .p))) e ∙ made-zero times)
+  unfolding giantTurns
+  giant-none k e = refused-giant k times e
 
-  module _ (t : Ticket) (r : refusalOf w ≡ 0) (is : ticketOf w ≡ t) (h : wrongPair t x y ≡ false) (x′ y′ : Ideal ℕ) (same : productOf (opsOf t) (t .D) x y ≡ productOf (opsOf t) (t .D) x′ y′) where
-    pub product-turns : {n : ℕ} → n ≡ made times (length (productDone t x′ y′ .p)) → n ≡ productTurns w x y times
-    unfolding productTurns productDone
-    product-turns e = e ∙ sym (ap (λ (a : ProductAnswer). made times (length (a .p))) (product-done w x y t r is h) ∙ ap (λ (p : Product ℕ). made times (length (p .ideal .p))) same)
+  module _ (t : Ticket) (r : refusalOf w ≡ 0) (is : ticketOf w ≡ t) where
+    pub product-turns : {n : ℕ} → n ≡ productTurnsOf t x y times → n ≡ productTurns w x y times
+    unfolding productTurns productTurnsOf
+    product-turns e = e ∙ sym (ap (λ (a : ProductAnswer). made times (length (a .p))) (product-passed w x y t r is))
 
-    pub giant-turns : {n : ℕ} → n ≡ made times (length (giantDone t x′ 0 y′ 0 .p)) → n ≡ giantTurns w x y times
-    unfolding giantTurns wrongDistance
-    giant-turns e = e ∙ sym (ap (λ (a : GiantStepAnswer). made times (length (a .p))) (giant-near w x 0 y 0 t r is h x′ y′ same ∙ near-done t x′ 0 y′ 0 refl))
+    pub giant-turns : {n : ℕ} → n ≡ giantTurnsOf t x y times → n ≡ giantTurns w x y times
+    unfolding giantTurns giantTurnsOf
+    giant-turns e = e ∙ sym (ap (λ (a : GiantStepAnswer). made times (length (a .p))) (giant-passed w x 0 y 0 t r is))
+
+module _ (t : Ticket) (x y : Ideal ℕ) (times : ℕ) where
+  pub product-wrong : wrongPair t x y ≡ true → 0 ≡ productTurnsOf t x y times
+  unfolding productTurnsOf
+  product-wrong h = refused-product 9 times (wrong-product t x y h)
+
+  pub giant-wrong : wrongPair t x y ≡ true → 0 ≡ giantTurnsOf t x y times
+  unfolding giantTurnsOf
+  giant-wrong h = refused-giant 9 times (wrong-giant t x 0 y 0 h)
+
+  module _ (h : wrongPair t x y ≡ false) (x′ y′ : Ideal ℕ) (same : productOf (opsOf t) (t .D) x′ y′ ≡ productOf (opsOf t) (t .D) x y) where
+    pub product-right : {n : ℕ} → n ≡ made times (length (productDone t x′ y′ .p)) → n ≡ productTurnsOf t x y times
+    unfolding productTurnsOf
+    product-right e = e ∙ sym (ap (λ (a : ProductAnswer). made times (length (a .p))) (tested-done t x y h ∙ sym (done-same t x′ y′ x y same)))
+
+    pub giant-right : {n : ℕ} → n ≡ made times (length (giantDone t x′ 0 y′ 0 .p)) → n ≡ giantTurnsOf t x y times
+    unfolding giantTurnsOf wrongDistance
+    giant-right e = e ∙ sym (ap (λ (a : GiantStepAnswer). made times (length (a .p))) (tested-near t x 0 y 0 h ∙ sym (near-same t x′ 0 y′ 0 x y same) ∙ near-done t x′ 0 y′ 0 refl))

@@ -54,45 +54,9 @@ both-near d e h = go (ltb farthest d) (ltb farthest e) refl refl h
     go false true i j k = absurd (let z : _≡_ {A = ℕ} 0 1 = cc in omega arith)
     go true b i j k = absurd (let z : _≡_ {A = ℕ} 0 1 = cc in omega arith)
 
-module _ (w : List ℕ) (x : Ideal ℕ) (d : ℕ) (y : Ideal ℕ) (e : ℕ) where
-  abbrev giantBy : ℕ → Bool → Bool → GiantStepAnswer
-  giantBy r b c =
-      elim r [
-        | zero ↦ elim b [ true ↦ giantRefused 9 | false ↦ elim c [ true ↦ giantRefused 10 | false ↦ giantDone (ticketOf w) x d y e ] ]
-        | suc k ↦ giantRefused (suc k)
-      ]
-
-  pub giant-refused : (k : ℕ) → k ≡ refusalOf w → (k ≡ 0 → ⊥) → giantAnswer w x d y e ≡ giantRefused k
-  unfolding giantAnswer
-  giant-refused k z h = go (refusalOf w) z
-    where
-      go : (r : ℕ) → k ≡ r → giantBy r (wrongPair (ticketOf w) x y) (wrongDistance d e) ≡ giantRefused k
-      go zero z = absurd (h z)
-      go (suc j) z = ap giantRefused (sym z)
-
-  past : (r : ℕ) (b c : Bool) → r ≡ 0 → giantBy r b c ≡ giantBy 0 b c
-  past zero b c z = refl
-  past (suc j) b c z = absurd (omega arith)
-
-  module _ (t : Ticket) (r : refusalOf w ≡ 0) (is : ticketOf w ≡ t) where
-    pub giant-wrong : wrongPair t x y ≡ true → giantAnswer w x d y e ≡ giantRefused 9
-    unfolding giantAnswer
-    giant-wrong h = past (refusalOf w) (wrongPair (ticketOf w) x y) (wrongDistance d e) r ∙ ap (λ (b : Bool). giantBy 0 b (wrongDistance d e)) (ap (λ (s : Ticket). wrongPair s x y) is ∙ h)
-
-    module _ (h : wrongPair t x y ≡ false) where
-      pairs : giantAnswer w x d y e ≡ giantBy 0 false (wrongDistance d e)
-      unfolding giantAnswer
-      pairs = past (refusalOf w) (wrongPair (ticketOf w) x y) (wrongDistance d e) r ∙ ap (λ (b : Bool). giantBy 0 b (wrongDistance d e)) (ap (λ (s : Ticket). wrongPair s x y) is ∙ h)
-
-      pub giant-far : wrongDistance d e ≡ true → giantAnswer w x d y e ≡ giantRefused 10
-      giant-far k = pairs ∙ ap (giantBy 0 false) k
-
-      pub giant-done : wrongDistance d e ≡ false → giantAnswer w x d y e ≡ giantDone t x d y e
-      giant-done k = pairs ∙ ap (giantBy 0 false) k ∙ ap (λ (s : Ticket). giantDone s x d y e) is
-
 -- ---- the same product, from pairs with the same polynomials
 module _ (t : Ticket) (x y x′ y′ : Ideal ℕ) (same : productOf (opsOf t) (t .D) x y ≡ productOf (opsOf t) (t .D) x′ y′) where
-  pub giant-same : (d e : ℕ) → giantDone t x d y e ≡ giantDone t x′ d y′ e
+  giant-same : (d e : ℕ) → giantDone t x d y e ≡ giantDone t x′ d y′ e
   unfolding giantDone
   giant-same d e = ap (λ (r : Product ℕ). record {
     number = 0;
@@ -114,20 +78,53 @@ pub near-done : (t : Ticket) (x : Ideal ℕ) (d : ℕ) (y : Ideal ℕ) (e : ℕ)
 unfolding giantNear
 near-done t x d y e h = ap (λ (b : Bool). elim b [ true ↦ giantRefused 10 | false ↦ giantDone t x d y e ]) h
 
-pub giant-near : (w : List ℕ) (x : Ideal ℕ) (d : ℕ) (y : Ideal ℕ) (e : ℕ) (t : Ticket) → refusalOf w ≡ 0 → ticketOf w ≡ t → wrongPair t x y ≡ false → (x′ y′ : Ideal ℕ) → productOf (opsOf t) (t .D) x y ≡ productOf (opsOf t) (t .D) x′ y′ → giantAnswer w x d y e ≡ giantNear t x′ d y′ e
-giant-near w x d y e t r is h x′ y′ same = go (wrongDistance d e) refl
-  where
-    go : (b : Bool) → wrongDistance d e ≡ b → giantAnswer w x d y e ≡ giantNear t x′ d y′ e
-    go true k = giant-far w x d y e t r is h k ∙ sym (near-far t x′ d y′ e k)
-    go false k = giant-done w x d y e t r is h k ∙ giant-same t x y x′ y′ same d e ∙ sym (near-done t x′ d y′ e k)
+pub near-same : (t : Ticket) (x : Ideal ℕ) (d : ℕ) (y : Ideal ℕ) (e : ℕ) (x′ y′ : Ideal ℕ) → productOf (opsOf t) (t .D) x y ≡ productOf (opsOf t) (t .D) x′ y′ → giantNear t x d y e ≡ giantNear t x′ d y′ e
+unfolding giantNear
+near-same t x d y e x′ y′ same = ap (λ (a : GiantStepAnswer). elim (wrongDistance d e) [ true ↦ giantRefused 10 | false ↦ a ]) (giant-same t x y x′ y′ same d e)
+
+-- the answer for a ticket that is not refused
+unfoldable pub giantTested : Ticket → Ideal ℕ → ℕ → Ideal ℕ → ℕ → GiantStepAnswer
+giantTested t x d y e = elim (wrongPair t x y) [ true ↦ giantRefused 9 | false ↦ giantNear t x d y e ]
+
+pub tested-wrong : (t : Ticket) (x : Ideal ℕ) (d : ℕ) (y : Ideal ℕ) (e : ℕ) → wrongPair t x y ≡ true → giantTested t x d y e ≡ giantRefused 9
+unfolding giantTested
+tested-wrong t x d y e h = ap (λ (b : Bool). elim b [ true ↦ giantRefused 9 | false ↦ giantNear t x d y e ]) h
+
+pub tested-near : (t : Ticket) (x : Ideal ℕ) (d : ℕ) (y : Ideal ℕ) (e : ℕ) → wrongPair t x y ≡ false → giantTested t x d y e ≡ giantNear t x d y e
+unfolding giantTested
+tested-near t x d y e h = ap (λ (b : Bool). elim b [ true ↦ giantRefused 9 | false ↦ giantNear t x d y e ]) h
+
+-- ---- the answers
+module _ (w : List ℕ) (x : Ideal ℕ) (d : ℕ) (y : Ideal ℕ) (e : ℕ) where
+  abbrev giantBy : ℕ → GiantStepAnswer
+  giantBy r = elim r [ zero ↦ giantTested (ticketOf w) x d y e | suc k ↦ giantRefused (suc k) ]
+
+  pub giant-refused : (k : ℕ) → k ≡ refusalOf w → (k ≡ 0 → ⊥) → giantAnswer w x d y e ≡ giantRefused k
+  unfolding giantAnswer giantTested giantNear
+  giant-refused k z h = go (refusalOf w) z
+    where
+      go : (r : ℕ) → k ≡ r → giantBy r ≡ giantRefused k
+      go zero z = absurd (h z)
+      go (suc j) z = ap giantRefused (sym z)
+
+  passed : (r : ℕ) → r ≡ 0 → giantBy r ≡ giantTested (ticketOf w) x d y e
+  passed zero z = refl
+  passed (suc j) z = absurd (omega arith)
+
+  pub giant-passed : (t : Ticket) → refusalOf w ≡ 0 → ticketOf w ≡ t → giantAnswer w x d y e ≡ giantTested t x d y e
+  unfolding giantAnswer giantTested giantNear
+  giant-passed t r z = passed (refusalOf w) r ∙ ap (λ (s : Ticket). giantTested s x d y e) z
 
 number-zero : (t : Ticket) (x : Ideal ℕ) (d : ℕ) (y : Ideal ℕ) (e : ℕ) → 0 ≡ giantDone t x d y e .number
 unfolding giantDone
 number-zero t x d y e = refl
 
-pub giant-done-says : {f : FieldName} {n : ℕ} {D : List ℕ} (b : ℕ) {x : Ideal ℕ} {d : ℕ} {y : Ideal ℕ} {e : ℕ} {r : Giant} → wrongDistance d e ≡ false → Stepped f n D x d y e r → {words : ℕ} {u v : ℤ} → u ≡ r .f → v ≡ r .distance
-    → GiantStepSays (record { words = words; number = 0; q = r .q; p = r .p; f = u; distance = v }) (giantNear (ticket f n D b) x d y e)
-giant-done-says {f} {n} {D} b {x} {d} {y} {e} h s i j = says-path (near-done (ticket f n D b) x d y e h) (done s i j)
-  where
-    done : {r : Giant} → Stepped f n D x d y e r → {words : ℕ} {u v : ℤ} → u ≡ r .f → v ≡ r .distance → GiantStepSays (record { words = words; number = 0; q = r .q; p = r .p; f = u; distance = v }) (giantDone (ticket f n D b) x d y e)
-    done s i j = record { number-is = number-zero (ticket f n D b) x d y e; q-is = holds (s .q-is b); p-is = holds (s .p-is b); f-is = i ∙ s .f-is b; distance-is = j ∙ s .distance-is b }
+pub giant-done-says : {f : FieldName} {n : ℕ} {D : List ℕ} (b : ℕ) {x : Ideal ℕ} {d : ℕ} {y : Ideal ℕ} {e : ℕ} {q p : List ℕ} {r : Giant} → wrongDistance d e ≡ false → Stepped f n D x d y e q p r → {words : ℕ} {u v : ℤ} → u ≡ r .f → v ≡ r .distance
+    → GiantStepSays (record { words = words; number = 0; q = record { c = q; size = r .q }; p = record { c = p; size = r .p }; f = u; distance = v }) (giantNear (ticket f n D b) x d y e)
+giant-done-says {f} {n} {D} b {x} {d} {y} {e} {q} {p} {r} h s i j = says-path (near-done (ticket f n D b) x d y e h) (record {
+  number-is = number-zero (ticket f n D b) x d y e;
+  q-is = holds {a = record { c = q; size = r .q }} (s .q-is b);
+  p-is = holds {a = record { c = p; size = r .p }} (s .p-is b);
+  f-is = i ∙ s .f-is b;
+  distance-is = j ∙ s .distance-is b;
+})

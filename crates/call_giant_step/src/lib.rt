@@ -1,24 +1,24 @@
 // The call `giant_step`: two pairs of any words with their distances, tested, then multiplied and reduced.
 ghost use mathlib.Core.Path.{_≡_};
-ghost use Prim.Native.Nat.{_≤_};
+ghost use Prim.Native.Nat.{ℕ, _≤_};
 ghost use lib.ListN.{length};
 ghost use Rattle.spec_definitions.specs.Ticket.{ticket, genus};
 ghost use Rattle.spec_definitions.specs.Products.{giantRefused, giantAnswer, wrongDistance};
 ghost use Rattle.spec_laws.specs.Admitted.{Admitted};
 ghost use Rattle.base_field.specs.Named.{name, IsField};
-ghost use Rattle.base_polynomial.specs.Whole.{poly, Held};
-ghost use Rattle.ideal_product.specs.Operand.{heldPair, Operand};
+ghost use Rattle.base_polynomial.specs.Record.{poly, Held};
+ghost use Rattle.ideal_operand.specs.Operand.{heldPair, Operand};
 ghost use Rattle.ideal_pair.specs.Pair.{pairOf};
-ghost use Rattle.call_giant_step.specs.GiantSteps.{GiantStepSays, giantNear};
+ghost use Rattle.call_giant_step.specs.GiantSteps.{GiantStepSays, giantNear, giantTested};
 use base_counters::Distance;
+use base_field::Field;
 use base_polynomial::Poly;
 use base_polynomial::linear::zero;
 use ideal_giant::step::giant;
 use ideal_pair::Pair;
 use ideal_pair::operand::both;
 use ideal_pair::operand::pair;
-use ideal_reduce::root::root_of;
-use ticket_read::Ticket;
+use ideal_reduce::root_of;
 use ticket_read::read_ticket;
 
 // The largest distance that a giant step takes: 2⁴⁰.
@@ -61,29 +61,93 @@ fn far(d1: Distance, d2: Distance) -> bool
     d2.0 > FARTHEST
 }
 
-// The giant step of two ideals that passed their tests.
-fn stepped(words: u64, t: Ticket, x: Pair, d1: Distance, y: Pair, d2: Distance) -> GiantStepAnswer
-    requires { ⌜ IsField (t .field) × Admitted (name (t .field)) (genus (t .n)) (poly (t .radicand)) × Held (t .field) (t .radicand) × (2 ≤ t .n) ⌝ }
-    requires { ⌜ Operand (name (t .field)) (genus (t .n)) (poly (t .radicand)) (x .q) (x .p) ⌝ }
-    requires { ⌜ Operand (name (t .field)) (genus (t .n)) (poly (t .radicand)) (y .q) (y .p) ⌝ }
+// The giant step of two ideals that passed their tests. D is the radicand, of degree n, with l places; x has the
+// sizes of Q_1 and P_1, y those of Q_2 and P_2.
+fn stepped(
+    words: u64,
+    f: Field,
+    n: usize,
+    radicand: &[u32; 129],
+    l: usize,
+    q1: &[u32; 129],
+    p1: &[u32; 129],
+    x: Pair,
+    d1: Distance,
+    q2: &[u32; 129],
+    p2: &[u32; 129],
+    y: Pair,
+    d2: Distance,
+) -> GiantStepAnswer
+    requires { ⌜ IsField f × Admitted (name f) (genus n) (poly (now radicand) l) × Held (name f) (now radicand) l × (2 ≤ n) ⌝ }
+    requires { ⌜ Operand (name f) (genus n) (poly (now radicand) l) (now q1) (x .q) (now p1) (x .p) ⌝ }
+    requires { ⌜ Operand (name f) (genus n) (poly (now radicand) l) (now q2) (y .q) (now p2) (y .p) ⌝ }
     ensures { λ r. ⌜ r .words ≡ words ⌝ }
-    ensures { λ r. ⌜ GiantStepSays r (giantNear (ticket (name (t .field)) (t .n) (poly (t .radicand)) (t .budget)) (heldPair (x .q) (x .p)) (d1 .0) (heldPair (y .q) (y .p)) (d2 .0)) ⌝ }
+    ensures { λ r. ⌜ ((b : ℕ) → GiantStepSays r (giantNear (ticket (name f) n (poly (now (radicand .entry)) l) b) (heldPair (now (q1 .entry)) (x .q) (now (p1 .entry)) (x .p)) (d1 .0) (heldPair (now (q2 .entry)) (y .q) (now (p2 .entry)) (y .p)) (d2 .0))) ⌝ }
 {
     if far(d1, d2) {
         return refused(words, 10);
     }
-    let d = root_of(t.field, t.n, t.radicand);
-    let r = giant(t.field, t.n, t.radicand, d, x.q, x.p, d1, y.q, y.p, d2);
-    let q = r.q;
-    let p = r.p;
+    let mut d = [0u32; 129];
+    root_of(f, n, radicand, l, &mut d);
+    let mut q = [0u32; 129];
+    let mut p = [0u32; 129];
+    let r = giant(
+        f,
+        n,
+        radicand,
+        l,
+        &d,
+        q1,
+        x.q,
+        p1,
+        x.p,
+        d1,
+        q2,
+        y.q,
+        p2,
+        y.p,
+        d2,
+        &mut q,
+        &mut p,
+    );
     GiantStepAnswer {
         words,
         number: 0,
-        q,
-        p,
+        q: Poly { c: q, size: r.q },
+        p: Poly { c: p, size: r.p },
         f: r.f,
         distance: r.distance,
     }
+}
+
+// The giant step of two pairs of any words, tested. D is the radicand, of degree n, with l places.
+fn tested(
+    words: u64,
+    f: Field,
+    n: usize,
+    radicand: &[u32; 129],
+    l: usize,
+    q1: &[u32],
+    p1: &[u32],
+    d1: Distance,
+    q2: &[u32],
+    p2: &[u32],
+    d2: Distance,
+) -> GiantStepAnswer
+    requires { ⌜ IsField f × Admitted (name f) (genus n) (poly (now radicand) l) × Held (name f) (now radicand) l × (2 ≤ n) ⌝ }
+    ensures { λ r. ⌜ r .words ≡ words ⌝ }
+    ensures { λ r. ⌜ ((b : ℕ) → GiantStepSays r (giantTested (ticket (name f) n (poly (now (radicand .entry)) l) b) (pairOf (now (q1 .entry)) (now (p1 .entry))) (d1 .0) (pairOf (now (q2 .entry)) (now (p2 .entry))) (d2 .0))) ⌝ }
+{
+    let mut a = [0u32; 129];
+    let mut b = [0u32; 129];
+    let x = pair(f, n, radicand, l, q1, p1, &mut a, &mut b);
+    let mut c = [0u32; 129];
+    let mut e = [0u32; 129];
+    let y = pair(f, n, radicand, l, q2, p2, &mut c, &mut e);
+    if !both(x.ok, y.ok) {
+        return refused(words, 9);
+    }
+    stepped(words, f, n, radicand, l, &a, &b, x, d1, &c, &e, y, d2)
 }
 
 // The giant step of two ideals for a ticket of any words and any length; the pairs are lists of any words and
@@ -105,10 +169,17 @@ pub fn giant_step(
     if t.number != 0 {
         return refused(words, t.number);
     }
-    let x = pair(t.field, t.n, t.radicand, q1, p1);
-    let y = pair(t.field, t.n, t.radicand, q2, p2);
-    if !both(x.ok, y.ok) {
-        return refused(words, 9);
-    }
-    stepped(words, t, x, d1, y, d2)
+    tested(
+        words,
+        t.field,
+        t.n,
+        &t.radicand.c,
+        t.radicand.size,
+        q1,
+        p1,
+        d1,
+        q2,
+        p2,
+        d2,
+    )
 }

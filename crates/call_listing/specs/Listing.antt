@@ -1,42 +1,12 @@
 -- The answer of the call `listing`, case by case of the outcome.
-use Prim.Native.Nat.{ℕ, _+_, _*_, _≤_, _<_}
+use Prim.Native.Nat.{ℕ}
 use native.Mathlib.Omega.{arith}
 use mathlib.Core.Path.{_≡_, refl, sym, subst}
-use mathlib.Core.Bool.{Bool, true, false}
-use mathlib.Core.List.{List, _++_}
-use lib.Dec.{leb}
-use lib.ListN.{length, drop}
-use borrow.Author.Tests.{leb-true, leb-false}
+use mathlib.Core.List.{List}
 use Rattle.spec_definitions.specs.Ticket.{Ticket, ticketOf}
-use Rattle.spec_definitions.specs.Answers.{Outcome, found, spent, refused, said, wordsOutcome}
-use Rattle.spec_definitions.specs.Listing.{ListingAnswer, listingOf, listingFrom, listingAnswer}
-use Rattle.ticket_read.specs.declared.Ticket.{Ticket as Said}
-use Rattle.ticket_read.specs.Accepted.{Accepted}
-use Rattle.walk_run.specs.Found.{Walkable}
-
-pub walkable : {w : List ℕ} {t : Said} → Accepted w t → Walkable (t .field) (t .n) (t .radicand) (t .budget)
-walkable a = record { is-field = a .is-field; admitted = a .radicand; held = a .held; even = a .half; budget = a .budget }
-
--- what a call says and leaves in its list is the answer a
-pub record Answers (a : ListingAnswer) (x : Outcome) (out : List ℕ) : Type 0 where
-  pub says : said x ≡ a .says
-  pub list : out ≡ a .list
-
--- what holds of the answer with room for every record and of the answer without holds of what is found
-pub room-cases : (C : ListingAnswer → Type 0) (t : Ticket) (R m c : ℕ) (l : List ℕ) → (m * (t .n + 4) ≤ length l → C (record { says = said (found R m c); list = listingOf t R m ++ drop (m * (t .n + 4)) l })) → (length l < m * (t .n + 4) → C (record { says = said (refused 13); list = l })) → C (listingFrom t (found R m c) l)
-unfolding listingFrom
-room-cases C t R m c l long short = go (leb (m * (t .n + 4)) (length l)) refl
-  where
-    go : (x : Bool) → leb (m * (t .n + 4)) (length l) ≡ x → C (elim x [ true ↦ record { says = said (found R m c); list = listingOf t R m ++ drop (m * (t .n + 4)) l } | false ↦ record { says = said (refused 13); list = l } ])
-    go true k = long (leb-true (m * (t .n + 4)) (length l) k)
-    go false k = short (leb-false (m * (t .n + 4)) (length l) k)
-
-module _ (t : Ticket) (R m c : ℕ) (l : List ℕ) where
-  pub long-list : (out : List ℕ) → m * (t .n + 4) ≤ length l → out ≡ listingOf t R m ++ drop (m * (t .n + 4)) l → Answers (listingFrom t (found R m c) l) (found R m c) out
-  long-list out h e = room-cases (λ a. Answers a (found R m c) out) t R m c l (λ k. record { says = refl; list = e }) (λ k. absurd (omega arith))
-
-  pub short-list : length l < m * (t .n + 4) → Answers (listingFrom t (found R m c) l) (refused 13) l
-  short-list h = room-cases (λ a. Answers a (refused 13) l) t R m c l (λ k. absurd (omega arith)) (λ k. record { says = refl; list = refl })
+use Rattle.spec_definitions.specs.Answers.{Outcome, found, spent, refused, wordsOutcome}
+use Rattle.spec_definitions.specs.Listing.{listingFrom, listingAnswer}
+use Rattle.listing_found.specs.Answers.{Answers}
 
 -- an outcome that is not found is the answer, and the list keeps every word
 pub kept : (t : Ticket) (x : Outcome) (l : List ℕ) → ((R m c : ℕ) → x ≡ found R m c → ⊥) → Answers (listingFrom t x l) x l

@@ -2,50 +2,22 @@
 // the walk starts from is prepared once, for the run and for the pass that writes.
 ghost use mathlib.Core.Path.{_≡_};
 ghost use lib.ListN.{length};
-ghost use Rattle.spec_definitions.specs.Ticket.{ticket as ticketFrom, genus};
-ghost use Rattle.spec_definitions.specs.Answers.{found, said, outcomeOf};
+ghost use Rattle.spec_definitions.specs.Ticket.{ticket as ticketFrom};
+ghost use Rattle.spec_definitions.specs.Answers.{said, outcomeOf};
 ghost use Rattle.spec_definitions.specs.Listing.{listingFrom, listingAnswer};
 ghost use Rattle.spec_demands.specs.LeastDegree.{Least};
-ghost use Rattle.base_field.specs.Named.{IsField, name};
-ghost use Rattle.base_polynomial.specs.Whole.{poly, Held};
-ghost use Rattle.walk_state.specs.Start.{Prepared};
-ghost use Rattle.walk_run.specs.Outcome.{meaning};
-ghost use Rattle.walk_run.specs.Found.{Found, Walkable};
-ghost use Rattle.call_listing.specs.Listing.{Answers};
-use base_counters::Distance;
-use base_counters::Index;
-use listing_records::listing::write_listing;
+ghost use Rattle.base_field.specs.Named.{name};
+ghost use Rattle.base_polynomial.specs.Whole.{poly};
+ghost use Rattle.walk_outcome.specs.Outcome.{meaning};
+ghost use Rattle.walk_run.specs.Found.{Walkable};
+ghost use Rattle.listing_found.specs.Answers.{Answers};
+use listing_found::list_found;
 use ticket_read::Ticket;
 use ticket_read::read_ticket;
-use walk_run::Answer;
-use walk_run::Outcome;
-use walk_run::seek;
+use walk_outcome::Answer;
+use walk_outcome::Outcome;
+use walk_seek::seek;
 use walk_state::start::prepare;
-
-// The records of a walk that is found with r, m, c, where the list has room for them.
-fn list_found(
-    t: Ticket,
-    inverses: &[u32; 4096],
-    d: &[u32; 129],
-    twice: &[u32; 129],
-    r: Distance,
-    m: Index,
-    c: u32,
-    out: &mut [u32],
-) -> Outcome
-    requires { ⌜ IsField (t .field) ⌝ }
-    requires { ⌜ Found (name (t .field)) (t .n) (poly (t .radicand)) (t .budget) (r .0) (m .0) c ⌝ }
-    requires { ⌜ Held (t .field) (t .radicand) ⌝ }
-    requires { ⌜ Prepared (name (t .field)) (genus (t .n)) (poly (t .radicand)) (now inverses) (now d) (now twice) ⌝ }
-    ensures { λ x. ⌜ Answers (listingFrom (ticketFrom (name (t .field)) (t .n) (poly (t .radicand)) (t .budget)) (found (r .0) (m .0) c) (now (out .entry))) (meaning x) (now (out .exit)) ⌝ }
-{
-    let words = m.0 as usize * (t.n + 4);
-    if out.len() < words {
-        return Outcome::Refused(13);
-    }
-    write_listing(t.field, t.n, t.radicand, inverses, d, twice, m, r, out);
-    Outcome::Found(r, m, c)
-}
 
 // The listing of a ticket that is not refused.
 fn listing_of(t: Ticket, out: &mut [u32]) -> Outcome

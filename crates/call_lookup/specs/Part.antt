@@ -8,7 +8,7 @@ use mathlib.Core.List.{List}
 use lib.ListN.{length, take, drop, length-take, length-drop}
 use Rattle.spec_definitions.specs.Lookup.{wrongListing, recordCount, lastWithin, lookupOf, placeOf}
 use Rattle.call_lookup.specs.Refusal.{refused-place, refused-words, found-place, found-words, listing-records}
-use Rattle.call_lookup.specs.Search.{last-fits}
+use Rattle.listing_distances.specs.Search.{last-fits}
 
 module _ (l : List ℕ) (n y : ℕ) where
   pub refused-length : wrongListing l n ≡ true → length (lookupOf l n y) ≡ 0

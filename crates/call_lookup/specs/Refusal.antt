@@ -10,9 +10,9 @@ use lib.ListN.{length, take, drop}
 use borrow.Author.Tests.{eq-eqb, ne-eqb, eqb-true, eqb-false, not-false}
 use Rattle.spec_definitions.specs.Ticket.{wrongDegree}
 use Rattle.spec_definitions.specs.Lookup.{wrongListing, rightKinds, rising, recordCount, distanceAt, recordAt, lastWithin, lookupOf, placeOf}
-use Rattle.call_lookup.specs.Kinds.{or-false}
-use Rattle.call_lookup.specs.Records.{Records}
-use Rattle.call_lookup.specs.Passes.{distanceFrom, distance-start}
+use Rattle.listing_whole.specs.Degrees.{or-false}
+use Rattle.listing_whole.specs.Records.{Records}
+use Rattle.listing_distances.specs.Rising.{distanceFrom, distance-start}
 
 -- an answer of a call that gives the negation of a test
 pub not-not : {a : Bool} (b : Bool) → a ≡ not b → (a ≡ false → b ≡ true) × (a ≡ true → b ≡ false)

@@ -7,11 +7,12 @@ use mathlib.Core.List.{List, []}
 use Rattle.spec_arithmetic.specs.Field.{FieldName}
 use Rattle.spec_definitions.specs.Ticket.{Ticket, ticket, ticketOf, refusalOf}
 use Rattle.spec_definitions.specs.Walk.{Ideal}
-use Rattle.spec_definitions.specs.Products.{ProductAnswer, wrongPair, productDone, productRefused, productAnswer}
+use Rattle.spec_definitions.specs.Answers.{opsOf}
+use Rattle.spec_definitions.specs.Products.{Product, ProductAnswer, productOf, wrongPair, productDone, productRefused, productAnswer}
 use Rattle.base_polynomial.specs.declared.Poly.{Poly}
 use Rattle.base_polynomial.specs.Over.{Holds, holds}
-use Rattle.ideal_product.specs.declared.Product.{Product}
-use Rattle.ideal_product.specs.Product.{Multiplied}
+use Rattle.ideal_operand.specs.declared.ProductSizes.{ProductSizes}
+use Rattle.ideal_operand.specs.Product.{Multiplied}
 pub use Rattle.ideal_pair.specs.Pair.{pairOf}
 use Rattle.call_product.specs.declared.ProductAnswer.{ProductAnswer as Given}
 
@@ -31,31 +32,46 @@ unfolding productRefused
 product-zeros h = record { number-is = refl; s-is = h; q-is = h; p-is = h }
 
 -- S, Q and P of the product
-pub product-done-says : {f : FieldName} (n : ℕ) {D : List ℕ} (b : ℕ) {x y : Ideal ℕ} {m : Product} → Multiplied f D x y m → {words : ℕ} → ProductSays (record { words = words; number = 0; s = m .s; q = m .q; p = m .p }) (productDone (ticket f n D b) x y)
+pub product-done-says : {f : FieldName} (n : ℕ) {D : List ℕ} (b : ℕ) {x y : Ideal ℕ} {s q p : List ℕ} {z : ProductSizes} → Multiplied f D x y s q p z → {words : ℕ}
+    → ProductSays (record { words = words; number = 0; s = record { c = s; size = z .s }; q = record { c = q; size = z .q }; p = record { c = p; size = z .p } }) (productDone (ticket f n D b) x y)
 unfolding productDone
-product-done-says n b m = record { number-is = refl; s-is = holds (m .s-is); q-is = holds (m .q-is); p-is = holds (m .p-is) }
+product-done-says n b {s = s} {q} {p} {z} m = record { number-is = refl; s-is = holds {a = record { c = s; size = z .s }} (m .s-is); q-is = holds {a = record { c = q; size = z .q }} (m .q-is); p-is = holds {a = record { c = p; size = z .p }} (m .p-is) }
+
+-- the answer for a ticket that is not refused
+unfoldable pub productTested : Ticket → Ideal ℕ → Ideal ℕ → ProductAnswer
+productTested t x y = elim (wrongPair t x y) [ true ↦ productRefused 9 | false ↦ productDone t x y ]
+
+-- a pair is wrong
+pub tested-wrong : (t : Ticket) (x y : Ideal ℕ) → wrongPair t x y ≡ true → productTested t x y ≡ productRefused 9
+unfolding productTested
+tested-wrong t x y h = ap (λ (b : Bool). elim b [ true ↦ productRefused 9 | false ↦ productDone t x y ]) h
+
+pub tested-done : (t : Ticket) (x y : Ideal ℕ) → wrongPair t x y ≡ false → productTested t x y ≡ productDone t x y
+unfolding productTested
+tested-done t x y h = ap (λ (b : Bool). elim b [ true ↦ productRefused 9 | false ↦ productDone t x y ]) h
+
+-- the same for pairs with the same product
+pub done-same : (t : Ticket) (x y x′ y′ : Ideal ℕ) → productOf (opsOf t) (t .D) x y ≡ productOf (opsOf t) (t .D) x′ y′ → productDone t x y ≡ productDone t x′ y′
+unfolding productDone
+done-same t x y x′ y′ e = ap (λ (r : Product ℕ). record { number = 0; s = r .s; q = r .ideal .q; p = r .ideal .p }) e
 
 -- ---- the answers
 module _ (w : List ℕ) (x y : Ideal ℕ) where
-  abbrev productBy : ℕ → Bool → ProductAnswer
-  productBy r b = elim r [ zero ↦ elim b [ true ↦ productRefused 9 | false ↦ productDone (ticketOf w) x y ] | suc k ↦ productRefused (suc k) ]
+  abbrev productBy : ℕ → ProductAnswer
+  productBy r = elim r [ zero ↦ productTested (ticketOf w) x y | suc k ↦ productRefused (suc k) ]
 
   pub product-refused : (k : ℕ) → k ≡ refusalOf w → (k ≡ 0 → ⊥) → productAnswer w x y ≡ productRefused k
-  unfolding productAnswer
+  unfolding productAnswer productTested
   product-refused k e h = go (refusalOf w) e
     where
-      go : (r : ℕ) → k ≡ r → productBy r (wrongPair (ticketOf w) x y) ≡ productRefused k
+      go : (r : ℕ) → k ≡ r → productBy r ≡ productRefused k
       go zero z = absurd (h z)
       go (suc j) z = ap productRefused (sym z)
 
-  passed : (r : ℕ) (b : Bool) → r ≡ 0 → productBy r b ≡ productBy 0 b
-  passed zero b e = refl
-  passed (suc j) b e = absurd (omega arith)
+  passed : (r : ℕ) → r ≡ 0 → productBy r ≡ productTested (ticketOf w) x y
+  passed zero e = refl
+  passed (suc j) e = absurd (omega arith)
 
-  pub product-wrong : (t : Ticket) → refusalOf w ≡ 0 → ticketOf w ≡ t → wrongPair t x y ≡ true → productAnswer w x y ≡ productRefused 9
-  unfolding productAnswer
-  product-wrong t r e h = passed (refusalOf w) (wrongPair (ticketOf w) x y) r ∙ ap (productBy 0) (ap (λ (s : Ticket). wrongPair s x y) e ∙ h)
-
-  pub product-done : (t : Ticket) → refusalOf w ≡ 0 → ticketOf w ≡ t → wrongPair t x y ≡ false → productAnswer w x y ≡ productDone t x y
-  unfolding productAnswer
-  product-done t r e h = passed (refusalOf w) (wrongPair (ticketOf w) x y) r ∙ ap (productBy 0) (ap (λ (s : Ticket). wrongPair s x y) e ∙ h) ∙ ap (λ (s : Ticket). productDone s x y) e
+  pub product-passed : (t : Ticket) → refusalOf w ≡ 0 → ticketOf w ≡ t → productAnswer w x y ≡ productTested t x y
+  unfolding productAnswer productTested
+  product-passed t r e = passed (refusalOf w) r ∙ ap (λ (s : Ticket). productTested s x y) e

@@ -11,6 +11,11 @@ use Rattle.base_polynomial.specs.Over.{poly}
 use Rattle.spec_demands.specs.LeastDegree.{Least, t3}
 use Rattle.ticket_read.specs.declared.Ticket.{Ticket as Said}
 use Rattle.ticket_read.specs.Accepted.{Accepted}
+use Rattle.walk_run.specs.Found.{Walkable}
+
+-- what a ticket that is not refused gives a run
+pub walkable : {w : List ℕ} {t : Said} → Accepted w t → Walkable (t .field) (t .n) (t .radicand) (t .budget)
+walkable a = record { is-field = a .is-field; admitted = a .radicand; held = a .held; even = a .half; budget = a .budget }
 
 module _ (w : List ℕ) where
   pub refused-outcome : (k : ℕ) → k ≡ refusalOf w → (k ≡ 0 → ⊥) → refused k ≡ wordsOutcome w

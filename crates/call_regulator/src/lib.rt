@@ -3,10 +3,10 @@ ghost use mathlib.Core.Path.{_≡_};
 ghost use lib.ListN.{length};
 ghost use Rattle.spec_definitions.specs.Answers.{said, regulatorOf};
 ghost use Rattle.spec_demands.specs.LeastDegree.{Least};
-ghost use Rattle.walk_run.specs.Outcome.{meaning};
+ghost use Rattle.walk_outcome.specs.Outcome.{meaning};
 use ticket_read::read_ticket;
-pub use walk_run::Answer;
-use walk_run::Outcome;
+pub use walk_outcome::Answer;
+use walk_outcome::Outcome;
 use walk_run::run;
 
 // The outcome of a ticket: its first refusal, or what its walk finds within its budget.

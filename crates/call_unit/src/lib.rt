@@ -2,88 +2,24 @@
 // Nothing is written before R is known. What the walk starts from is prepared once, for the run and for the
 // pass that writes.
 ghost use mathlib.Core.Path.{_≡_};
-ghost use mathlib.Core.Bool.{_&&_};
-ghost use Prim.Native.Nat.{suc};
-ghost use lib.Dec.{leb};
 ghost use lib.ListN.{length};
-ghost use Rattle.spec_definitions.specs.Ticket.{ticket as ticketFrom, genus};
-ghost use Rattle.spec_definitions.specs.Answers.{found, said, outcomeOf};
+ghost use Rattle.spec_definitions.specs.Ticket.{ticket as ticketFrom};
+ghost use Rattle.spec_definitions.specs.Answers.{said, outcomeOf};
 ghost use Rattle.spec_definitions.specs.Units.{unitFrom, unitAnswer};
 ghost use Rattle.spec_demands.specs.LeastAnswers.{LeastWritten};
-ghost use Rattle.base_field.specs.Named.{IsField, name};
-ghost use Rattle.base_polynomial.specs.Whole.{poly, Held};
-ghost use Rattle.walk_state.specs.Start.{Prepared};
-ghost use Rattle.walk_run.specs.Outcome.{meaning};
-ghost use Rattle.walk_run.specs.Found.{Found, Walkable};
-ghost use Rattle.unit_lists.specs.Lists.{lists};
-ghost use Rattle.call_unit.specs.Unit.{Answers};
-use base_counters::Distance;
-use base_counters::Index;
+ghost use Rattle.base_field.specs.Named.{name};
+ghost use Rattle.base_polynomial.specs.Whole.{poly};
+ghost use Rattle.walk_outcome.specs.Outcome.{meaning};
+ghost use Rattle.walk_run.specs.Found.{Walkable};
+ghost use Rattle.unit_room.specs.Room.{lists};
+ghost use Rattle.unit_found.specs.Answers.{Answers};
 use ticket_read::Ticket;
 use ticket_read::read_ticket;
-use unit_lists::unit::write_unit;
-use walk_run::Answer;
-use walk_run::Outcome;
-use walk_run::seek;
+use unit_found::unit_found;
+use walk_outcome::Answer;
+use walk_outcome::Outcome;
+use walk_seek::seek;
 use walk_state::start::prepare;
-
-// Each of four lists of these lengths has places 0 to r.
-fn room(r: Distance, p: usize, s: usize, x: usize, y: usize) -> bool
-    ensures { λ b. ⌜ b ≡ (leb (suc (r .0)) p && leb (suc (r .0)) s && leb (suc (r .0)) x && leb (suc (r .0)) y) ⌝ }
-{
-    if p as u64 <= r.0 {
-        return false;
-    }
-    if s as u64 <= r.0 {
-        return false;
-    }
-    if x as u64 <= r.0 {
-        return false;
-    }
-    r.0 < y as u64
-}
-
-// The unit of a walk that is found with r, m, c, where the lists have room for it.
-fn unit_found(
-    t: Ticket,
-    inverses: &[u32; 4096],
-    d: &[u32; 129],
-    twice: &[u32; 129],
-    r: Distance,
-    m: Index,
-    c: u32,
-    p: &mut [u32],
-    s: &mut [u32],
-    x: &mut [u32],
-    y: &mut [u32],
-) -> Outcome
-    requires { ⌜ IsField (t .field) ⌝ }
-    requires { ⌜ Found (name (t .field)) (t .n) (poly (t .radicand)) (t .budget) (r .0) (m .0) c ⌝ }
-    requires { ⌜ Held (t .field) (t .radicand) ⌝ }
-    requires { ⌜ Prepared (name (t .field)) (genus (t .n)) (poly (t .radicand)) (now inverses) (now d) (now twice) ⌝ }
-    ensures { λ o. ⌜ Answers (unitFrom (ticketFrom (name (t .field)) (t .n) (poly (t .radicand)) (t .budget)) (found (r .0) (m .0) c) (lists (now (p .entry)) (now (s .entry)) (now (x .entry)) (now (y .entry)))) (meaning o) (lists (now (p .exit)) (now (s .exit)) (now (x .exit)) (now (y .exit))) ⌝ }
-{
-    if !room(r, p.len(), s.len(), x.len(), y.len()) {
-        return Outcome::Refused(12);
-    }
-    let radicand = t.radicand;
-    write_unit(
-        t.field,
-        t.n,
-        &radicand.c,
-        radicand.size,
-        inverses,
-        d,
-        twice,
-        m,
-        r,
-        p,
-        s,
-        x,
-        y,
-    );
-    Outcome::Found(r, m, c)
-}
 
 // The unit of a ticket that is not refused.
 fn unit_of(t: Ticket, p: &mut [u32], s: &mut [u32], x: &mut [u32], y: &mut [u32]) -> Outcome

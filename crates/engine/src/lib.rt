@@ -6,7 +6,7 @@ pub use base_polynomial::Poly;
 pub use call_lookup::lookup;
 pub use call_regulator::Answer;
 pub use call_regulator::regulator;
-pub use walk_run::Outcome;
+pub use walk_outcome::Outcome;
 
 pub mod unit {
     pub use call_unit::unit;

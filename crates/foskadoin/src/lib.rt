@@ -4,68 +4,22 @@ pub mod pairs;
 
 ghost use mathlib.Core.Path.{_≡_};
 ghost use lib.ListN.{length};
-ghost use Rattle.spec_definitions.specs.Answers.{said, regulatorOf};
+ghost use Rattle.spec_definitions.specs.Answers.{regulatorOf};
 ghost use Rattle.spec_definitions.specs.Listing.{listingAnswer};
 ghost use Rattle.spec_definitions.specs.Lookup.{lookupOf, placeOf};
 ghost use Rattle.spec_definitions.specs.Units.{unitAnswer};
-ghost use Rattle.unit_lists.specs.Lists.{lists};
-ghost use Rattle.foskadoin.specs.Numbers.{Plain};
-ghost use Rattle.foskadoin.specs.Least.{LeastPlain, LeastInLists};
-ghost use Rattle.walk_run.specs.Outcome.{meaning};
+ghost use Rattle.unit_room.specs.Room.{lists};
+ghost use Rattle.out_numbers.specs.Numbers.{Plain};
+ghost use Rattle.out_numbers.specs.Least.{LeastPlain, LeastInLists};
 use base_counters::Distance;
 use call_lookup::place;
 use engine::listing::listing;
 use engine::regulator;
 use engine::unit::unit;
-use walk_run::Outcome;
-
-// The number of words handed in, the paper's number of the outcome and its values: found 0, R, m, c; spent
-// 11, k, e, 0; refused j, 0, 0, 0.
-#[repr(C)]
-pub struct Numbers {
-    pub words: u64,
-    pub number: u64,
-    pub first: u64,
-    pub second: u64,
-    pub third: u64,
-}
-
-// A part of a list: how many words stand before it, and how many it has.
-#[repr(C)]
-pub struct Part {
-    pub offset: u64,
-    pub length: u64,
-}
-
-// An outcome as numbers.
-fn as_numbers(words: u64, o: Outcome) -> Numbers
-    ensures words { λ r. ⌜ r .words ≡ words ⌝ }
-    ensures says { λ r. ⌜ Plain (said (meaning o)) (r .number) (r .first) (r .second) (r .third) ⌝ }
-{
-    match o {
-        Outcome::Found(r, m, c) => Numbers {
-            words,
-            number: 0,
-            first: r.0,
-            second: m.0,
-            third: c as u64,
-        },
-        Outcome::Spent(k, e) => Numbers {
-            words,
-            number: 11,
-            first: k.0,
-            second: e.0,
-            third: 0,
-        },
-        Outcome::Refused(j) => Numbers {
-            words,
-            number: j as u64,
-            first: 0,
-            second: 0,
-            third: 0,
-        },
-    }
-}
+use out_numbers::Numbers;
+use out_numbers::Part;
+use out_numbers::as_numbers;
+use out_numbers::as_part;
 
 // The regulator of a ticket.
 #[no_mangle]
@@ -75,8 +29,7 @@ pub extern "C" fn foskadoin_regulator(ticket: &[u32]) -> Numbers
     ensures least { λ r. ⌜ LeastPlain (now (ticket .entry)) (r .number) (r .first) (r .second) (r .third) ⌝ }
 {
     let a = regulator(ticket);
-    let outcome = a.outcome;
-    as_numbers(a.words, outcome)
+    as_numbers(a)
 }
 
 // The unit of a ticket, in four lent lists.
@@ -94,8 +47,7 @@ pub extern "C" fn foskadoin_unit(
     ensures least { λ r. ⌜ LeastInLists (now (ticket .entry)) (lists (now (p .exit)) (now (s .exit)) (now (x .exit)) (now (y .exit))) (r .number) (r .first) (r .second) (r .third) ⌝ }
 {
     let a = unit(ticket, p, s, x, y);
-    let outcome = a.outcome;
-    as_numbers(a.words, outcome)
+    as_numbers(a)
 }
 
 // The listing of a ticket, in a lent list.
@@ -107,8 +59,7 @@ pub extern "C" fn foskadoin_listing(ticket: &[u32], out: &mut [u32]) -> Numbers
     ensures least { λ r. ⌜ LeastPlain (now (ticket .entry)) (r .number) (r .first) (r .second) (r .third) ⌝ }
 {
     let a = listing(ticket, out);
-    let outcome = a.outcome;
-    as_numbers(a.words, outcome)
+    as_numbers(a)
 }
 
 // Where in the list the record with the largest distance at most y stands: refusal 8 is the empty part at the
@@ -119,8 +70,5 @@ pub extern "C" fn foskadoin_lookup(list: &[u32], n: u64, y: u64) -> Part
     ensures length { λ r. ⌜ r .length ≡ length (lookupOf (now (list .entry)) n y) ⌝ }
 {
     let part = place(list, n, Distance(y));
-    Part {
-        offset: part.offset as u64,
-        length: part.length as u64,
-    }
+    as_part(part)
 }

@@ -5,32 +5,14 @@ ghost use lib.ListN.{length};
 ghost use Rattle.spec_definitions.specs.Products.{productAnswer, giantAnswer};
 ghost use Rattle.call_product.specs.Products.{ProductSays, pairOf};
 ghost use Rattle.call_giant_step.specs.GiantSteps.{GiantStepSays};
-ghost use Rattle.foskadoin.specs.Lent.{productIn, giantStepIn};
+ghost use Rattle.out_polynomials.specs.Lent.{productIn, giantStepIn};
 use base_counters::Distance;
 use engine::giant_step::giant_step;
 use engine::product::product;
-
-// The number of words handed in, the number of a refusal or 0, and the sizes of S, Q and P: the degree + 1,
-// or 0 for the zero polynomial.
-#[repr(C)]
-pub struct ProductNumbers {
-    pub words: u64,
-    pub number: u64,
-    pub s_size: u64,
-    pub q_size: u64,
-    pub p_size: u64,
-}
-
-// The number of words handed in, the number of a refusal or 0, the sizes of Q and P, f and the distance.
-#[repr(C)]
-pub struct GiantStepNumbers {
-    pub words: u64,
-    pub number: u64,
-    pub q_size: u64,
-    pub p_size: u64,
-    pub f: i64,
-    pub distance: i64,
-}
+use out_polynomials::GiantStepNumbers;
+use out_polynomials::ProductNumbers;
+use out_polynomials::put_giant_step;
+use out_polynomials::put_product;
 
 // The product of two ideals.
 #[no_mangle]
@@ -48,22 +30,7 @@ pub extern "C" fn foskadoin_product(
     ensures says { λ r. ⌜ ProductSays (productIn r (now (s .exit)) (now (q .exit)) (now (p .exit))) (productAnswer (now (ticket .entry)) (pairOf (now (q1 .entry)) (now (p1 .entry))) (pairOf (now (q2 .entry)) (now (p2 .entry)))) ⌝ }
 {
     let a = product(ticket, q1, p1, q2, p2);
-    let x = a.s;
-    let y = a.q;
-    let z = a.p;
-    let places_s = x.c;
-    *s = places_s;
-    let places_q = y.c;
-    *q = places_q;
-    let places_p = z.c;
-    *p = places_p;
-    ProductNumbers {
-        words: a.words,
-        number: a.number as u64,
-        s_size: x.size as u64,
-        q_size: y.size as u64,
-        p_size: z.size as u64,
-    }
+    put_product(a, s, q, p)
 }
 
 // The giant step of two ideals with their distances.
@@ -83,18 +50,5 @@ pub extern "C" fn foskadoin_giant_step(
     ensures says { λ r. ⌜ GiantStepSays (giantStepIn r (now (q .exit)) (now (p .exit))) (giantAnswer (now (ticket .entry)) (pairOf (now (q1 .entry)) (now (p1 .entry))) d1 (pairOf (now (q2 .entry)) (now (p2 .entry))) d2) ⌝ }
 {
     let a = giant_step(ticket, q1, p1, Distance(d1), q2, p2, Distance(d2));
-    let y = a.q;
-    let z = a.p;
-    let places_q = y.c;
-    *q = places_q;
-    let places_p = z.c;
-    *p = places_p;
-    GiantStepNumbers {
-        words: a.words,
-        number: a.number as u64,
-        q_size: y.size as u64,
-        p_size: z.size as u64,
-        f: a.f,
-        distance: a.distance,
-    }
+    put_giant_step(a, q, p)
 }

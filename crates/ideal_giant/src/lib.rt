@@ -2,12 +2,10 @@
 // to.
 pub mod step;
 
-use base_polynomial::Poly;
-
-// A reduced ideal, f and the distance.
+// The sizes of Q and P of the reduced ideal, f and the distance.
 pub struct Giant {
-    pub q: Poly,
-    pub p: Poly,
+    pub q: usize,
+    pub p: usize,
     pub f: i64,
     pub distance: i64,
 }

@@ -25,9 +25,12 @@ use Rattle.spec_fields.specs.Named.{Ok, ok-zero}
 use Rattle.spec_laws.specs.Admitted.{Admitted, is-field, below-of}
 use Rattle.spec_laws.specs.Pairs.{normAt}
 use Rattle.spec_laws.specs.PairTest.{both-true, pair-passes}
-use Rattle.base_polynomial.specs.declared.Poly.{Poly}
-use Rattle.base_polynomial.specs.Over.{poly, Held, Is, Result, result, held-positive, held-size}
-use Rattle.ideal_product.specs.Operand.{heldPair, Operand, M, I}
+use Rattle.base_polynomial.specs.Record.{poly, Held, Is}
+use Rattle.base_polynomial.specs.Held.{held-positive}
+use Rattle.base_polynomial.specs.Result.{Result, result, held-size}
+use Rattle.base_polynomial.specs.Linear.{is-zero}
+use Rattle.base_polynomial.specs.Places.{zeros}
+use Rattle.ideal_operand.specs.Operand.{heldPair, Operand, M, I}
 use Rattle.ideal_pair.specs.declared.Pair.{Pair}
 
 -- a pair as it is handed in
@@ -48,11 +51,17 @@ abbrev pub kept : Bool → List ℕ → List ℕ
 kept true l = l
 kept false l = []
 
--- r is what the words u and v are read as
-pub record Paired (f : FieldName) (n : ℕ) (D u v : List ℕ) (r : Pair) : Type 0 where
+-- q and p, of r's sizes, are what the words u and v are read as
+pub record Paired (f : FieldName) (n : ℕ) (D u v q p : List ℕ) (r : Pair) : Type 0 where
   pub ok-is : (b : ℕ) → r .ok ≡ isPair (ticket f n D b) (pairOf u v)
-  pub q-is : Is f (r .q) (kept (r .ok) (trim (ops f) u))
-  pub p-is : Is f (r .p) (kept (r .ok) (trim (ops f) v))
+  pub q-is : Is f q (r .q) (kept (r .ok) (trim (ops f) u))
+  pub p-is : Is f p (r .p) (kept (r .ok) (trim (ops f) v))
+
+-- the pair of a refusal
+pub record Cleared (q p : List ℕ) (r : Pair) : Type 0 where
+  pub answer : r ≡ record { ok = false; q = 0; p = 0 }
+  pub q-is : q ≡ zeros
+  pub p-is : p ≡ zeros
 
 parts : (w s t r : Bool) → (w && s && t && r) ≡ (w && (s && t && r))
 parts true s t r = refl
@@ -97,32 +106,35 @@ fits-of e =
     record { q-length = eqb-true _ _ (c .0); p-length = eqb-true _ _ (c .1); q-below = not-true _ (b .1); p-below = not-true _ (a .1) }
 
 -- ---- the polynomials
-module _ {f : FieldName} (D : List ℕ) {q : Poly} (hq : Held f q) {p : Poly} (hp : Held f p) where
-  size-of : {a : Poly} → Held f a → size (ops f) (poly a) ≡ a .size
+module _ {f : FieldName} (D : List ℕ) {q : List ℕ} {m : ℕ} (hq : Held f q m) {p : List ℕ} {k : ℕ} (hp : Held f p k) where
+  size-of : {a : List ℕ} {i : ℕ} → Held f a i → size (ops f) (poly a i) ≡ i
   unfolding size
-  size-of h = held-size h
+  size-of {a} {i} h = held-size (f .q) a i h
 
-  pub ideal-first : (lead (ops f) (poly q) ≡ 1 → ⊥) → false ≡ isIdeal f D (heldPair q p)
+  pub ideal-first : (lead (ops f) (poly q m) ≡ 1 → ⊥) → false ≡ isIdeal f D (heldPair q m p k)
   unfolding isIdeal
-  ideal-first h = sym (ap (λ (t : Bool). t && ltb (size (ops f) (poly p)) (size (ops f) (poly q)) && eqb (size (ops f) (rem (ops f) (normAt (ops f) D (heldPair q p)) (poly q))) 0) (ne-eqb _ 1 h))
+  ideal-first h = sym (ap (λ (t : Bool). t && ltb (size (ops f) (poly p k)) (size (ops f) (poly q m)) && eqb (size (ops f) (rem (ops f) (normAt (ops f) D (heldPair q m p k)) (poly q m))) 0) (ne-eqb _ 1 h))
 
-  pub ideal-second : lead (ops f) (poly q) ≡ 1 → q .size ≤ p .size → false ≡ isIdeal f D (heldPair q p)
+  pub ideal-second : lead (ops f) (poly q m) ≡ 1 → m ≤ k → false ≡ isIdeal f D (heldPair q m p k)
   unfolding isIdeal
-  ideal-second h l = sym (ap₂ (λ (s t : Bool). s && t && eqb (size (ops f) (rem (ops f) (normAt (ops f) D (heldPair q p)) (poly q))) 0) (eq-eqb _ 1 h) (le-ltb (size (ops f) (poly p)) (size (ops f) (poly q)) (let a = size-of hq in let b = size-of hp in omega arith)))
+  ideal-second h l = sym (ap₂ (λ (s t : Bool). s && t && eqb (size (ops f) (rem (ops f) (normAt (ops f) D (heldPair q m p k)) (poly q m))) 0) (eq-eqb _ 1 h) (le-ltb (size (ops f) (poly p k)) (size (ops f) (poly q m)) (let a = size-of hq in let b = size-of hp in omega arith)))
 
-  pub ideal-last : lead (ops f) (poly q) ≡ 1 → p .size < q .size → {r : ℕ} → r ≡ length (rem (ops f) (normAt (ops f) D (heldPair q p)) (poly q)) → eqb r 0 ≡ isIdeal f D (heldPair q p)
+  pub ideal-last : lead (ops f) (poly q m) ≡ 1 → k < m → {r : ℕ} → r ≡ length (rem (ops f) (normAt (ops f) D (heldPair q m p k)) (poly q m)) → eqb r 0 ≡ isIdeal f D (heldPair q m p k)
   unfolding isIdeal
   ideal-last h l w =
       ap (λ (i : ℕ). eqb i 0) (w ∙ sym (size-is W _ ∙ ap length (trim-rem W _ _)))
-      ∙ sym (ap₂ (λ (s t : Bool). s && t && eqb (size (ops f) (rem (ops f) (normAt (ops f) D (heldPair q p)) (poly q))) 0) (eq-eqb _ 1 h) (lt-ltb (size (ops f) (poly p)) (size (ops f) (poly q)) (let a = size-of hq in let b = size-of hp in omega arith)))
+      ∙ sym (ap₂ (λ (s t : Bool). s && t && eqb (size (ops f) (rem (ops f) (normAt (ops f) D (heldPair q m p k)) (poly q m))) 0) (eq-eqb _ 1 h) (lt-ltb (size (ops f) (poly p k)) (size (ops f) (poly q m)) (let a = size-of hq in let b = size-of hp in omega arith)))
     where
-      W : Model (ops f) (FqRing (f .q) (held-positive hq))
-      W = model (f .q) (held-positive hq)
+      W : Model (ops f) (FqRing (f .q) (held-positive (f .q) q m hq))
+      W = model (f .q) (held-positive (f .q) q m hq)
 
 -- ---- together
 module _ (n : ℕ) {f : FieldName} {D : List ℕ} (h : Admitted f (genus n) D) (u v : List ℕ) where
-  pub refused-words : {z : Poly} → Is f z [] → false ≡ wordsFit f (genus n) u v → Paired f n D u v (record { ok = false; q = z; p = z })
-  refused-words z e = record { ok-is = λ b. sym (pair-parts f n D u v b ∙ ap (λ (t : Bool). t && isIdeal f D (pairOf u v)) (sym e)); q-is = z; p-is = z }
+  cleared : {q p : List ℕ} {r : Pair} → Cleared q p r → ((b : ℕ) → false ≡ isPair (ticket f n D b) (pairOf u v)) → Paired f n D u v q p r
+  cleared {q} {p} {r} z e = subst (Paired f n D u v q p) (sym (z .answer)) (record { ok-is = e; q-is = subst (λ (c : List ℕ). Is f c 0 []) (sym (z .q-is)) (is-zero f); p-is = subst (λ (c : List ℕ). Is f c 0 []) (sym (z .p-is)) (is-zero f) })
+
+  pub refused-words : {q p : List ℕ} {r : Pair} → Cleared q p r → false ≡ wordsFit f (genus n) u v → Paired f n D u v q p r
+  refused-words z e = cleared z (λ b. sym (pair-parts f n D u v b ∙ ap (λ (t : Bool). t && isIdeal f D (pairOf u v)) (sym e)))
 
   module _ (t : true ≡ wordsFit f (genus n) u v) where
     fit : Fits f (genus n) u v
@@ -148,33 +160,33 @@ module _ (n : ℕ) {f : FieldName} {D : List ℕ} (h : Admitted f (genus n) D) (
     unfolding isIdeal
     ideal-trim = ap₂ _&&_ (ap₂ _&&_ (ap (λ (i : ℕ). eqb i 1) (lead-trim u u-oks)) (ap₂ ltb (size-trim v) (size-trim u))) (ap (λ (l : List ℕ). eqb (size (ops f) l) 0) rem-trimmed)
 
-    module _ {q : Poly} (q-is : Is f q (trim (ops f) u)) {p : Poly} (p-is : Is f p (trim (ops f) v)) where
-      pub q-result : Result f q (trim (ops f) u)
-      q-result = result q-is (let a = length-trim (M h) u in let l = fit .q-length in let k = h .genus-most in omega arith) (trim-idem (M h) u) (oks-trim (M h) u u-oks)
+    module _ {q : List ℕ} {m : ℕ} (q-is : Is f q m (trim (ops f) u)) {p : List ℕ} {k : ℕ} (p-is : Is f p k (trim (ops f) v)) where
+      pub q-result : Result (f .q) q m (trim (ops f) u)
+      q-result = result (f .q) q m _ q-is (let a = length-trim (M h) u in let l = fit .q-length in let k = h .genus-most in omega arith) (trim-idem (M h) u) (oks-trim (M h) u u-oks)
 
-      pub p-result : Result f p (trim (ops f) v)
-      p-result = result p-is (let a = length-trim (M h) v in let l = fit .p-length in let k = h .genus-most in omega arith) (trim-idem (M h) v) (oks-trim (M h) v v-oks)
+      pub p-result : Result (f .q) p k (trim (ops f) v)
+      p-result = result (f .q) p k _ p-is (let a = length-trim (M h) v in let l = fit .p-length in let g = h .genus-most in omega arith) (trim-idem (M h) v) (oks-trim (M h) v v-oks)
 
-      pub p-size : p .size ≤ 65
-      p-size = let a = length-trim (M h) v in let l = fit .p-length in let z = p-is .size-is in let k = h .genus-most in omega arith
+      pub p-size : k ≤ 65
+      p-size = let a = length-trim (M h) v in let l = fit .p-length in let z = p-is .size-is in let g = h .genus-most in omega arith
 
-      tested : isIdeal f D (heldPair q p) ≡ isIdeal f D (pairOf u v)
+      tested : isIdeal f D (heldPair q m p k) ≡ isIdeal f D (pairOf u v)
       tested = ap₂ (λ (a b : List ℕ). isIdeal f D (pairOf a b)) (q-result .is) (p-result .is) ∙ ideal-trim
 
-      ok-of : (s : Bool) → s ≡ isIdeal f D (heldPair q p) → (b : ℕ) → s ≡ isPair (ticket f n D b) (pairOf u v)
+      ok-of : (s : Bool) → s ≡ isIdeal f D (heldPair q m p k) → (b : ℕ) → s ≡ isPair (ticket f n D b) (pairOf u v)
       ok-of s w b = w ∙ tested ∙ ap (λ (r : Bool). r && isIdeal f D (pairOf u v)) t ∙ sym (pair-parts f n D u v b)
 
-      pub refused-ideal : {z : Poly} → Is f z [] → false ≡ isIdeal f D (heldPair q p) → Paired f n D u v (record { ok = false; q = z; p = z })
-      refused-ideal z w = record { ok-is = ok-of false w; q-is = z; p-is = z }
+      pub refused-ideal : {q′ p′ : List ℕ} {r : Pair} → Cleared q′ p′ r → false ≡ isIdeal f D (heldPair q m p k) → Paired f n D u v q′ p′ r
+      refused-ideal z w = cleared z (ok-of false w)
 
-      pub accepted-pair : true ≡ isIdeal f D (heldPair q p) → Paired f n D u v (record { ok = true; q = q; p = p })
+      pub accepted-pair : true ≡ isIdeal f D (heldPair q m p k) → Paired f n D u v q p (record { ok = true; q = m; p = k })
       accepted-pair w = record { ok-is = ok-of true w; q-is = q-is; p-is = p-is }
 
 -- a pair that passed is an operand of the product
-unfoldable pub paired-operand : {f : FieldName} {n : ℕ} {D u v : List ℕ} {r : Pair} → Paired f n D u v r → r .ok ≡ true → Operand f (genus n) D (r .q) (r .p)
-paired-operand {f} {n} {D} {u} {v} {r} t e = record {
+unfoldable pub paired-operand : {f : FieldName} {n : ℕ} {D u v q p : List ℕ} {r : Pair} → Paired f n D u v q p r → r .ok ≡ true → Operand f (genus n) D q (r .q) p (r .p)
+paired-operand {f} {n} {D} {u} {v} {q} {p} {r} t e = record {
   pair = pairOf u v;
   passes = pair-passes (ticket f n D 0) (pairOf u v) (sym (t .ok-is 0) ∙ e);
-  q-is = subst (λ (b : Bool). Is f (r .q) (kept b (trim (ops f) u))) e (t .q-is);
-  p-is = subst (λ (b : Bool). Is f (r .p) (kept b (trim (ops f) v))) e (t .p-is);
+  q-is = subst (λ (b : Bool). Is f q (r .q) (kept b (trim (ops f) u))) e (t .q-is);
+  p-is = subst (λ (b : Bool). Is f p (r .p) (kept b (trim (ops f) v))) e (t .p-is);
 }

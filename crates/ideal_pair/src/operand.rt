@@ -5,25 +5,21 @@ ghost use mathlib.Core.Bool.{false, _&&_};
 ghost use Prim.Native.Nat.{_<_, _≤_};
 ghost use lib.ListN.{length};
 ghost use Rattle.spec_arithmetic.specs.Field.{FieldName, ops, fits};
-ghost use Rattle.spec_arithmetic.specs.Polynomials.{trim, rem as remOf};
+ghost use Rattle.spec_arithmetic.specs.Polynomials.{trim, lead as leadOf, rem as remOf};
 ghost use Rattle.spec_arithmetic.specs.Words.{someNot};
 ghost use Rattle.spec_definitions.specs.Ticket.{genus};
 ghost use Rattle.spec_fields.specs.Named.{Ok};
 ghost use Rattle.spec_laws.specs.Admitted.{Admitted};
 ghost use Rattle.spec_laws.specs.Pairs.{normAt};
 ghost use Rattle.base_field.specs.Named.{name, IsField};
-ghost use Rattle.base_polynomial.specs.Over as over;
-ghost use Rattle.base_polynomial.specs.Whole.{poly, Held};
-ghost use Rattle.ideal_product.specs.Operand.{heldPair};
-ghost use Rattle.ideal_pair.specs.Pair.{wordsFit, isIdeal, Paired};
+ghost use Rattle.base_polynomial.specs.Record.{poly, Held, Is};
+ghost use Rattle.ideal_operand.specs.Operand.{heldPair};
+ghost use Rattle.ideal_pair.specs.Pair.{wordsFit, isIdeal, Paired, Cleared};
 use crate::Pair;
-use base_euclid::division::remainder;
-use base_euclid::division::subtract_product;
+use base_division::difference::subtract_product;
+use base_division::division::remainder;
 use base_field::Field;
-use base_polynomial::Poly;
-use base_polynomial::linear::lead;
 use base_polynomial::linear::top;
-use base_polynomial::linear::zero;
 
 // Some word is q or more.
 fn some_from(f: Field, words: &[u32]) -> bool
@@ -59,79 +55,114 @@ fn words_fit(f: Field, n: usize, q: &[u32], p: &[u32]) -> bool
     !t
 }
 
-// The polynomial whose coefficients are the words.
-fn load(words: &[u32]) -> Poly
+// c becomes the polynomial whose coefficients are the words; its size.
+fn load(words: &[u32], c: &mut [u32; 129]) -> usize
     requires { ⌜ length (now words) ≤ 129 ⌝ }
-    ensures { λ r. ⌜ ((f : FieldName) → Ok f 0 → someNot (fits f) (now (words .entry)) ≡ false → over.Is f r (trim (ops f) (now (words .entry)))) ⌝ }
+    ensures { λ r. ⌜ ((f : FieldName) → Ok f 0 → someNot (fits f) (now (words .entry)) ≡ false → Is f (now (c .exit)) r (trim (ops f) (now (words .entry)))) ⌝ }
 {
-    let mut c = [0u32; 129];
+    *c = [0u32; 129];
     let n = words.len();
     let mut i: usize = 0;
     while i < n {
         c[i] = words[i];
         i += 1;
     }
-    let size = top(&c, n);
-    Poly { c: c, size: size }
+    top(c, n)
 }
 
-// The size of the remainder of D − P² by Q, which is not 0. D is the radicand.
-fn norm_remainder(f: Field, radicand: Poly, q: Poly, p: Poly) -> usize
-    requires { ⌜ IsField f × (p .size ≤ 65) × (0 < q .size) ⌝ }
-    requires { ⌜ Held f radicand × Held f q × Held f p ⌝ }
-    ensures { λ r. ⌜ r ≡ length (remOf (ops (name f)) (normAt (ops (name f)) (poly radicand) (heldPair q p)) (poly q)) ⌝ }
+// The leading coefficient of q, of m places; 0 for the zero polynomial.
+fn lead(f: Field, q: &[u32; 129], m: usize) -> u32
+    requires { ⌜ Held (name f) (now q) m ⌝ }
+    ensures { λ r. ⌜ r ≡ leadOf (ops (name f)) (poly (now (q .entry)) m) ⌝ }
 {
-    let mut a = radicand.c;
-    let x = p.c;
-    let n = subtract_product(f, &mut a, radicand.size, &x, p.size, &x, p.size);
-    remainder(f, &mut a, n, &q.c, q.size)
+    if m == 0 { 0 } else { q[m - 1] }
 }
 
-// Q is monic, P has a smaller degree, and Q divides D − P². D is the radicand.
-fn is_ideal(f: Field, radicand: Poly, q: Poly, p: Poly) -> bool
-    requires { ⌜ IsField f × (p .size ≤ 65) ⌝ }
-    requires { ⌜ Held f radicand × Held f q × Held f p ⌝ }
-    ensures { λ r. ⌜ r ≡ isIdeal (name f) (poly radicand) (heldPair q p) ⌝ }
+// The size of the remainder of D − P² by Q, which is not 0. D is the radicand, of l places; Q has m places and P
+// has k.
+fn norm_remainder(
+    f: Field,
+    radicand: &[u32; 129],
+    l: usize,
+    q: &[u32; 129],
+    m: usize,
+    p: &[u32; 129],
+    k: usize,
+) -> usize
+    requires { ⌜ IsField f × (k ≤ 65) × (0 < m) ⌝ }
+    requires { ⌜ Held (name f) (now radicand) l × Held (name f) (now q) m × Held (name f) (now p) k ⌝ }
+    ensures { λ r. ⌜ r ≡ length (remOf (ops (name f)) (normAt (ops (name f)) (poly (now (radicand .entry)) l) (heldPair (now (q .entry)) m (now (p .entry)) k)) (poly (now (q .entry)) m)) ⌝ }
 {
-    let l = lead(f, q);
-    if l != 1 {
+    let mut a = *radicand;
+    let n = subtract_product(f, &mut a, l, p, k, p, k);
+    remainder(f, &mut a, n, q, m)
+}
+
+// Q is monic, P has a smaller degree, and Q divides D − P². D is the radicand, of l places; Q has m places and P
+// has k.
+fn is_ideal(
+    f: Field,
+    radicand: &[u32; 129],
+    l: usize,
+    q: &[u32; 129],
+    m: usize,
+    p: &[u32; 129],
+    k: usize,
+) -> bool
+    requires { ⌜ IsField f × (k ≤ 65) ⌝ }
+    requires { ⌜ Held (name f) (now radicand) l × Held (name f) (now q) m × Held (name f) (now p) k ⌝ }
+    ensures { λ r. ⌜ r ≡ isIdeal (name f) (poly (now (radicand .entry)) l) (heldPair (now (q .entry)) m (now (p .entry)) k) ⌝ }
+{
+    if lead(f, q, m) != 1 {
         return false;
     }
-    if q.size <= p.size {
+    if m <= k {
         return false;
     }
-    let rest = norm_remainder(f, radicand, q, p);
+    let rest = norm_remainder(f, radicand, l, q, m, p, k);
     rest == 0
 }
 
-// The pair of the words, where it passes the test of refusal 9; else it is not `ok`, and its polynomials are
-// 0. D is the radicand, of degree n.
-pub fn pair(f: Field, n: usize, radicand: Poly, q: &[u32], p: &[u32]) -> Pair
-    requires { ⌜ IsField f × Admitted (name f) (genus n) (poly radicand) × Held f radicand × (2 ≤ n) ⌝ }
-    ensures { λ r. ⌜ Paired (name f) n (poly radicand) (now (q .entry)) (now (p .entry)) r ⌝ }
+// q and p become 0.
+fn refused(q: &mut [u32; 129], p: &mut [u32; 129]) -> Pair
+    ensures { λ r. ⌜ Cleared (now (q .exit)) (now (p .exit)) r ⌝ }
 {
-    if !words_fit(f, n, q, p) {
-        let z = zero();
-        return Pair {
-            ok: false,
-            q: z,
-            p: z,
-        };
+    *q = [0u32; 129];
+    *p = [0u32; 129];
+    Pair {
+        ok: false,
+        q: 0,
+        p: 0,
     }
-    let a = load(q);
-    let b = load(p);
-    if !is_ideal(f, radicand, a, b) {
-        let z = zero();
-        return Pair {
-            ok: false,
-            q: z,
-            p: z,
-        };
+}
+
+// q and p become the pair of the words u and v, where it passes the test of refusal 9; else it is not `ok`, and
+// they become 0. D is the radicand, of degree n, with l places.
+pub fn pair(
+    f: Field,
+    n: usize,
+    radicand: &[u32; 129],
+    l: usize,
+    u: &[u32],
+    v: &[u32],
+    q: &mut [u32; 129],
+    p: &mut [u32; 129],
+) -> Pair
+    requires { ⌜ IsField f × Admitted (name f) (genus n) (poly (now radicand) l) × Held (name f) (now radicand) l × (2 ≤ n) ⌝ }
+    ensures { λ r. ⌜ Paired (name f) n (poly (now (radicand .entry)) l) (now (u .entry)) (now (v .entry)) (now (q .exit)) (now (p .exit)) r ⌝ }
+{
+    if !words_fit(f, n, u, v) {
+        return refused(q, p);
+    }
+    let m = load(u, q);
+    let k = load(v, p);
+    if !is_ideal(f, radicand, l, q, m, p, k) {
+        return refused(q, p);
     }
     Pair {
         ok: true,
-        q: a,
-        p: b,
+        q: m,
+        p: k,
     }
 }
 

@@ -1,6 +1,6 @@
 -- The product of two ideals where Q_1 and Q_2 have no common factor: S is 1, Q is Q_1·Q_2, and P is
 -- P_1 − Q_1·(U·(P_1 − P_2) mod Q_2), with Bezout's U of Q_1 and Q_2.
-use Prim.Native.Nat.{ℕ, suc, _+_ as _+ₙ_, _≤_, _<_}
+use Prim.Native.Nat.{ℕ, suc, _+_ as _+ₙ_, _≤_}
 use native.Mathlib.Omega.{arith}
 use mathlib.Core.Path.{_≡_, sym, ap, ap₂, _∙_, subst}
 use mathlib.Core.List.{List, [], _∷_}

@@ -1,5 +1,2 @@
-pub mod Before
-pub mod Height
-pub mod Recurrence
 pub mod Start
-pub mod Turn
+pub mod Next

@@ -1,38 +1,20 @@
--- One record as words, from the arrays of the walk: it has n + 4 words, and Q and P in 129 places give the
--- same.
-use Prim.Native.Nat.{ℕ, suc, _+_, _-_, _/_, _≤_}
+-- One record as words, from the arrays of the walk: Q and P in 129 places give the same words.
+use Prim.Native.Nat.{ℕ, suc, _-_, _/_, _≤_}
 use native.Mathlib.Omega.{arith}
 use mathlib.Core.Path.{_≡_, ap, ap₂, _∙_}
 use mathlib.Core.List.{List, _∷_, _++_, map}
-use lib.ListN.{length, length-append, length-map}
 use Rattle.spec_arithmetic.specs.Field.{Ops, FieldName, prime, ops, modulo}
 use Rattle.spec_arithmetic.specs.Polynomials.{pad, sub, rem, monic}
 use Rattle.spec_arithmetic.specs.Words.{word, high, low}
 use Rattle.spec_definitions.specs.Ticket.{genus}
 use Rattle.spec_definitions.specs.Listing.{Entry, idealOf, recordWords}
 use Rattle.base_polynomial.specs.Record.{poly}
-use Rattle.base_polynomial.specs.Pad.{length-pad, pad-pad}
+use Rattle.base_polynomial.specs.Pad.{pad-pad}
 use Rattle.listing_record.specs.Stored.{stored}
 
 -- the words of a record from arrays: Q, the first `size` places of `current`, and P = d − rest
 unfoldable pub recordFrom : FieldName → ℕ → ℕ → ℕ → ℕ → List ℕ → List ℕ → List ℕ → ℕ → List ℕ
 recordFrom f n R index distance d rest current size = recordWords (ops f) n (R - distance) (record { index = index; distance = distance; ideal = idealOf (ops f) (record { q = poly current size; p = sub (ops f) d rest }) })
-
-pub length-record : (o : Ops ℕ) (n mirror : ℕ) (e : Entry) → suc (genus n) + suc (genus n) ≡ n → length (recordWords o n mirror e) ≡ n + 4
-unfolding recordWords
-length-record o n mirror e even = let s = length-append x y in let k = length-x in let l = length-y in omega arith
-  where
-    x : List ℕ
-    x = map (word 8) (pad o (suc (genus n)) (e .ideal .q))
-
-    y : List ℕ
-    y = map (word 9) (pad o (genus n) (e .ideal .p))
-
-    length-x : length x ≡ suc (genus n)
-    length-x = length-map (pad o (suc (genus n)) (e .ideal .q)) (word 8) ∙ length-pad o (suc (genus n)) (e .ideal .q)
-
-    length-y : length y ≡ genus n
-    length-y = length-map (pad o (genus n) (e .ideal .p)) (word 9) ∙ length-pad o (genus n) (e .ideal .p)
 
 -- Q and P in 129 places give the same words
 record-pad : (o : Ops ℕ) (n mirror : ℕ) (e : Entry) (x y : List ℕ) → n ≤ 64 → x ≡ pad o 129 (e .ideal .q) → y ≡ pad o 129 (e .ideal .p) → recordWords o n mirror (record { index = e .index; distance = e .distance; ideal = record { q = x; p = y } }) ≡ recordWords o n mirror e

@@ -42,6 +42,9 @@ module _ (q : ℕ) (b : List ℕ) (size : ℕ) (held : Held (prime q) b size) (c
   pub monic-size : Prime q → k ≡ size
   monic-size p = is .size-is ∙ length-monic (model q (held-positive q b size held)) (inverts q (held-positive q b size held) p) (poly b size) ∙ held-size q b size held
 
+  pub monic-kept : Prime q → Is (prime q) c size (monic (modulo q) (poly b size))
+  monic-kept p = subst (λ (n : ℕ). Is (prime q) c n (monic (modulo q) (poly b size))) (monic-size p) is
+
   pub remainder-is : (z : List ℕ) (n : ℕ) (l r : List ℕ) (m : ℕ) → Result q z n l → Is (prime q) r m (rem (modulo q) (poly z n) (poly c k)) → Is (prime q) r m (rem (modulo q) l (monic (modulo q) (poly b size)))
   remainder-is z n l r m e h = subst (Is (prime q) r m) (ap₂ (rem (modulo q)) (e .is) (monic-result .is)) h
 

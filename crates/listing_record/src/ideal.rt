@@ -3,21 +3,15 @@ ghost use Prim.Native.Nat.{_<_, _≤_};
 ghost use Rattle.spec_arithmetic.specs.Polynomials.{sub as subOf, rem as remOf, monic as monicOf};
 ghost use Rattle.base_field.specs.Named.{IsField, name, ops};
 ghost use Rattle.base_polynomial.specs.Places.{Within};
-ghost use Rattle.base_polynomial.specs.Record.{poly as polyAt, Held as HeldAt};
-ghost use Rattle.base_polynomial.specs.Whole.{Is};
+ghost use Rattle.base_polynomial.specs.Record.{poly, Held, Is};
+use base_division::division::remainder;
 use base_field::Field;
-use base_polynomial::Poly;
-use base_polynomial::division::div_by;
-use base_polynomial::linear::monic;
+use base_polynomial::arrays::lead_inverse;
+use base_polynomial::arrays::monic_by;
 use base_polynomial::linear::sub_places;
 
-// Q, monic, and P of a smaller degree.
-pub struct Ideal {
-    pub q: Poly,
-    pub p: Poly,
-}
-
-// Of Q, the first `size` places of `current`, and P = d − rest, where d and rest have `top` places.
+// Of Q, the first `size` places of `current`, and P = d − rest, where d and rest have `top` places: q becomes the
+// monic Q, which keeps the size, and p becomes P modulo q. Returns the size of p.
 pub fn ideal_of(
     f: Field,
     d: &[u32; 129],
@@ -25,24 +19,19 @@ pub fn ideal_of(
     top: usize,
     current: &[u32; 129],
     size: usize,
-) -> Ideal
+    q: &mut [u32; 129],
+    p: &mut [u32; 129],
+) -> usize
     requires { ⌜ IsField f ⌝ }
     requires { ⌜ (top ≤ 129) × (0 < size) ⌝ }
     requires { ⌜ Within (name f) (now d) top × Within (name f) (now rest) top ⌝ }
-    requires { ⌜ HeldAt (name f) (now current) size ⌝ }
-    ensures { λ x. ⌜ Is f (x .q) (monicOf (ops f) (polyAt (now (current .entry)) size)) ⌝ }
-    ensures { λ x. ⌜ Is f (x .p) (remOf (ops f) (subOf (ops f) (now (d .entry)) (now (rest .entry))) (monicOf (ops f) (polyAt (now (current .entry)) size))) ⌝ }
+    requires { ⌜ Held (name f) (now current) size ⌝ }
+    ensures { λ _. ⌜ Is (name f) (now (q .exit)) size (monicOf (ops f) (poly (now (current .entry)) size)) ⌝ }
+    ensures { λ k. ⌜ Is (name f) (now (p .exit)) k (remOf (ops f) (subOf (ops f) (now (d .entry)) (now (rest .entry))) (monicOf (ops f) (poly (now (current .entry)) size))) ⌝ }
 {
-    let mut z = [0u32; 129];
-    sub_places(f, d, rest, top, &mut z);
-    let k = base_polynomial::linear::top(&z, top);
-    let x = Poly {
-        c: *current,
-        size: size,
-    };
-    let q = monic(f, x);
-    let y = Poly { c: z, size: k };
-    let s = div_by(f, y, q);
-    let p = s.rem;
-    Ideal { q: q, p: p }
+    sub_places(f, d, rest, top, p);
+    let k = base_polynomial::linear::top(p, top);
+    let w = lead_inverse(f, current, size);
+    let n = monic_by(f, w, current, size, q);
+    remainder(f, p, k, q, n)
 }

@@ -9,7 +9,7 @@ ghost use Rattle.spec_arithmetic.specs.Words.{pairs};
 ghost use Rattle.spec_definitions.specs.Ticket.{budgets};
 ghost use Rattle.base_field.specs.Named.{IsField, name};
 ghost use Rattle.base_polynomial.specs.Places.{Within};
-ghost use Rattle.base_polynomial.specs.Record.{Held as HeldAt};
+ghost use Rattle.base_polynomial.specs.Record.{Held};
 ghost use Rattle.listing_record.specs.Stored.{stored};
 ghost use Rattle.listing_record.specs.Entry.{recordFrom};
 use crate::ideal::ideal_of;
@@ -35,13 +35,13 @@ pub fn write_record(
     requires { ⌜ IsField f ⌝ }
     requires { ⌜ (2 ≤ n) × (n ≤ 64) × (0 < size) ⌝ }
     requires { ⌜ Within (name f) (now d) (n / 2 + 1) × Within (name f) (now rest) (n / 2 + 1) ⌝ }
-    requires { ⌜ HeldAt (name f) (now current) size ⌝ }
+    requires { ⌜ Held (name f) (now current) size ⌝ }
     requires { ⌜ (at + (n + 4) ≤ length (now out)) × (index .0 < budgets) × (distance .0 ≤ r .0) × (r .0 < pairs) ⌝ }
     ensures { λ _. ⌜ now (out .exit) ≡ stored (now (out .entry)) at (recordFrom (name f) n (r .0) (index .0) (distance .0) (now (d .entry)) (now (rest .entry)) (now (current .entry)) size) ⌝ }
 {
-    let x = ideal_of(f, d, rest, n / 2 + 1, current, size);
-    let q = x.q;
-    let p = x.p;
+    let mut q = [0u32; 129];
+    let mut p = [0u32; 129];
+    ideal_of(f, d, rest, n / 2 + 1, current, size, &mut q, &mut p);
     let mirror = Distance(r.0 - distance.0);
-    put_record(out, at, n, index, distance, mirror, &q.c, &p.c);
+    put_record(out, at, n, index, distance, mirror, &q, &p);
 }

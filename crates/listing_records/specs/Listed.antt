@@ -15,6 +15,7 @@ use Rattle.spec_definitions.specs.Listing.{mirrorOf, recordWords, entryOf, reco
 use Rattle.spec_laws.specs.Admitted.{Admitted, surd-of}
 use Rattle.spec_laws.specs.Walk.{d-length}
 use Rattle.spec_laws.specs.Convergents.{degree-rise, degree-most as degree-bound}
+use Rattle.spec_laws.specs.RecordLength.{length-records}
 use Rattle.base_polynomial.specs.Record.{poly, Held}
 use Rattle.base_polynomial.specs.Places.{Within}
 use Rattle.walk_state.specs.State.{rootD, pad-within}
@@ -26,7 +27,7 @@ use Rattle.walk_stride.specs.Stride.{turn-walked}
 use Rattle.listing_record.specs.Stored.{stored, stored-none, stored-append, stored-first, length-stored}
 use Rattle.listing_records.specs.Ideal.{left-within, ideal-is}
 use Rattle.listing_record.specs.Entry.{recordFrom}
-use Rattle.listing_records.specs.Records.{records-next, length-records}
+use Rattle.listing_records.specs.Records.{records-next}
 
 -- what is asked for the records of the indices 1 to m in the list `old`: R is the degree of p_{m−1}
 pub record Listable (f : FieldName) (n : ℕ) (D : List ℕ) (m R : ℕ) (old : List ℕ) : Type 0 where

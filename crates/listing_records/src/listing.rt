@@ -7,20 +7,18 @@ ghost use Rattle.spec_definitions.specs.Ticket.{genus, ticket};
 ghost use Rattle.spec_definitions.specs.Listing.{listingOf};
 ghost use Rattle.base_field.specs.Named.{IsField, name};
 ghost use Rattle.base_polynomial.specs.Record.{poly as polyAt, Held as HeldAt};
-ghost use Rattle.base_polynomial.specs.Whole.{poly, Held};
 ghost use Rattle.walk_state.specs.Start.{Prepared};
 ghost use Rattle.listing_records.specs.Listed.{Listable};
 use base_counters::Distance;
 use base_counters::Index;
 use base_field::Field;
-use base_polynomial::Poly;
-use listing_record::write_record;
+use listing_progress::record_at;
 use walk_stride::begin;
 use walk_stride::turn;
 
-// The records of the indices 1 to m, where r is the degree of p_{m−1}; D is the first `size` places of
-// `radicand`.
-fn write_records(
+// The listing of √D: its m records, where m is the quasi-period and r the regulator. D is the first `size`
+// places of `radicand`, of degree n; what the walk starts from is prepared.
+pub fn write_records(
     f: Field,
     n: usize,
     radicand: &[u32; 129],
@@ -45,19 +43,7 @@ fn write_records(
     let mut at = begin(radicand, d, &mut before, &mut current, &mut rest);
     let mut place: usize = 0;
     while at.index.0 < m.0 {
-        write_record(
-            f,
-            n,
-            d,
-            &rest,
-            &current,
-            at.size,
-            Index(at.index.0 + 1),
-            Distance(at.degree.0),
-            r,
-            out,
-            place,
-        );
+        record_at(f, n, d, &rest, &current, at, r, out, place);
         place += n + 4;
         at = turn(
             f,
@@ -70,27 +56,4 @@ fn write_records(
             at,
         );
     }
-}
-
-// The listing of √D: its m records, where m is the quasi-period and r the regulator. D is the radicand, of
-// degree n; what the walk starts from is prepared.
-pub fn write_listing(
-    f: Field,
-    n: usize,
-    radicand: Poly,
-    inverses: &[u32; 4096],
-    d: &[u32; 129],
-    twice: &[u32; 129],
-    m: Index,
-    r: Distance,
-    out: &mut [u32],
-)
-    requires { ⌜ IsField f ⌝ }
-    requires { ⌜ Listable (name f) n (poly radicand) (m .0) (r .0) (now out) ⌝ }
-    requires { ⌜ Held f radicand ⌝ }
-    requires { ⌜ Prepared (name f) (genus n) (poly radicand) (now inverses) (now d) (now twice) ⌝ }
-    ensures { λ _. ⌜ ((b : ℕ) → now (out .exit) ≡ listingOf (ticket (name f) n (poly radicand) b) (r .0) (m .0) ++ drop (m .0 * (n + 4)) (now (out .entry))) ⌝ }
-{
-    let size = radicand.size;
-    write_records(f, n, &radicand.c, size, inverses, d, twice, m, r, out);
 }

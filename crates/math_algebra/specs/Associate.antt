@@ -1,4 +1,5 @@
--- Associates: polynomials that differ by a constant factor other than 0, f = c g. They have the same degree, the same multiples and the same divisors.
+-- Associates: polynomials that differ by a constant factor other than 0, f = c g. They have the same degree,
+-- the same multiples and the same divisors.
 use Prim.Native.Nat.{ℕ}
 use mathlib.Core.Path.{_≡_, sym, ap, _∙_, subst}
 use mathlib.Core.List.{[], _∷_}

@@ -1,5 +1,6 @@
--- Characteristic p: p is 0 in the ring, and the numbers from 1 to p - 1 cancel. It passes from a field to the series over it.
--- `Perfect`: a field of characteristic p with p-th roots, which only the test for square factors needs.
+-- Characteristic p: p is 0 in the ring, and the numbers from 1 to p - 1 cancel. It passes from a field to the
+-- series over it. `Perfect`: a field of characteristic p with p-th roots, which only the test for square
+-- factors needs.
 use Prim.Native.Nat.{ℕ, zero, suc, _≤_, _<_}
 use native.Mathlib.Omega.{arith}
 use mathlib.Core.Path.{_≡_, refl, sym, ap, _∙_, fun-ext}

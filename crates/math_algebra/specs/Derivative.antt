@@ -1,4 +1,5 @@
--- The derivative of a series, coefficient by coefficient. The product rule rests on the operator f ↦ x f′, which multiplies the coefficient at i by i.
+-- The derivative of a series, coefficient by coefficient. The product rule rests on the operator f ↦ x f′,
+-- which multiplies the coefficient at i by i.
 use Prim.Native.Nat.{ℕ, zero, suc, suc-le-suc}
 use mathlib.Core.Path.{_≡_, refl, ap, ap₂, _∙_, fun-ext}
 use mathlib.Core.List.{[], _∷_}
@@ -9,7 +10,7 @@ use Rattle.math_ring.specs.Degree.{Below}
 use Rattle.math_algebra.specs.Multiple.{natural}
 
 module _ {A : Type 0} (F : CRing A) where
-  open CRing F using (add as _+_, mul as _*_, zer as 𝟘, one as 𝟙, add-zer, mul-add)
+  open CRing F using (add as _+_, mul as _*_, zer as 𝟘, one as 𝟙)
 
   infixl 6 _+_
   infixl 7 _*_

@@ -1,5 +1,6 @@
--- Divisibility of polynomials over a field. `Divides f g`: f times a polynomial is g. Sums and multiples; degrees of divisors; a multiple below its divisor's degree is 0.
--- Everything on degrees comes from the degree of a product.
+-- Divisibility of polynomials over a field. `Divides f g`: f times a polynomial is g. Sums and multiples;
+-- degrees of divisors; a multiple below its divisor's degree is 0. Everything on degrees comes from the
+-- degree of a product.
 use Prim.Native.Nat.{ℕ, _+_ as _+ₙ_, _-_ as _-ₙ_, _≤_, _<_}
 use native.Mathlib.Omega.{arith}
 use mathlib.Core.Path.{_≡_, refl, sym, _∙_, subst}

@@ -1,5 +1,6 @@
--- Division with remainder over a field: f = q g + r with r under the degree of g. It exists, it is one, and its remainder only depends on f modulo g.
--- Existence is division by a unit leading coefficient; uniqueness is the bound of a quotient.
+-- Division with remainder over a field: f = q g + r with r under the degree of g. It exists, it is one, and
+-- its remainder only depends on f modulo g. Existence is division by a unit leading coefficient; uniqueness
+-- is the bound of a quotient.
 use Prim.Native.Nat.{ℕ, _+_ as _+ₙ_, _-_ as _-ₙ_, _≤_}
 use native.Mathlib.Omega.{arith}
 use mathlib.Core.Path.{_≡_, sym}

@@ -1,4 +1,5 @@
--- Fermat's theorem for the numbers mod a prime q, and that a field of them is perfect: each is a multiple of 1, and q is 0.
+-- Fermat's theorem for the numbers mod a prime q, and that a field of them is perfect: each is a multiple of
+-- 1, and q is 0.
 use Prim.Native.Nat.{ℕ, zero, suc, _%_, _<_}
 use native.Mathlib.Nat.{mod-self, mod-eq-of-lt, mod-add-mod, add-mod-mod}
 use native.Mathlib.Numerals.{add-one}

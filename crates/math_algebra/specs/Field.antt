@@ -13,9 +13,8 @@ pub record Field (A : Type 0) : Type 0 where
   pub two-not-zero : scalars .add (scalars .one) (scalars .one) ≡ scalars .zer → ⊥
 
 module _ {A : Type 0} (K : Field A) where
-  open CRing (K .scalars) using (add as _+_, mul as _*_, neg as -_, zer as 𝟘, one as 𝟙)
+  open CRing (K .scalars) using (mul as _*_, neg as -_, zer as 𝟘)
 
-  infixl 6 _+_
   infixl 7 _*_
   infix 8 -_
   -- there are no divisors of 0

@@ -1,4 +1,5 @@
--- Series that end, so polynomials, with no degree named: closed under the ring's operations. A factor with a degree cancels.
+-- Series that end, so polynomials, with no degree named: closed under the ring's operations. A factor with a
+-- degree cancels.
 use Prim.Native.Nat.{ℕ, suc, _+_ as _+ₙ_}
 use native.Mathlib.Omega.{arith}
 use mathlib.Core.Path.{_≡_, subst}

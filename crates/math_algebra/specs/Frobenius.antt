@@ -1,5 +1,5 @@
--- In characteristic p the p-th power is additive: by the absorption law p divides the middle coefficients of the binomial theorem.
--- Hence Fermat's theorem, the p-th power of a multiple of 1 is itself.
+-- In characteristic p the p-th power is additive: by the absorption law p divides the middle coefficients of
+-- the binomial theorem. Hence Fermat's theorem, the p-th power of a multiple of 1 is itself.
 use Prim.Native.Nat.{ℕ, zero, suc, _<_}
 use native.Mathlib.Omega.{arith}
 use mathlib.Core.Path.{_≡_, refl, ap, ap₂, _∙_}
@@ -12,7 +12,7 @@ use Rattle.math_algebra.specs.Binomial.{choose, choose-self, choose-abso
 use Rattle.math_algebra.specs.Characteristic.{Characteristic}
 
 module _ {A : Type 0} (R : CRing A) where
-  open CRing R using (add as _+_, mul as _*_, zer as 𝟘, one as 𝟙, add-zer)
+  open CRing R using (add as _+_, mul as _*_, zer as 𝟘, one as 𝟙)
 
   infixl 6 _+_
   infixl 7 _*_

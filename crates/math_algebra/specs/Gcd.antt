@@ -1,5 +1,6 @@
--- Greatest common divisors of polynomials over a field. `IsGcd A B G`: G divides A and B, is a combination of them (Bezout), and is 0 or monic.
--- It exists for all A and B, the zero polynomial among them, by Euclid's recursion: the bound of the second polynomial falls. Every common divisor divides it.
+-- Greatest common divisors of polynomials over a field. `IsGcd A B G`: G divides A and B, is a combination of
+-- them (Bezout), and is 0 or monic. It exists for all A and B, the zero polynomial among them, by Euclid's
+-- recursion: the bound of the second polynomial falls. Every common divisor divides it.
 use Prim.Native.Nat.{ℕ, zero, suc, _+_ as _+ₙ_, _<_}
 use native.Mathlib.Omega.{arith}
 use mathlib.Core.Path.{_≡_, refl, sym, subst}
@@ -89,7 +90,8 @@ module _ {A : Type 0} (K : Field A) where
   }
 
   -- ---- existence
-  -- Euclid's recursion: what holds of every (a, 0), and of (a, b) where it holds of b and the remainder of a by b, holds of every pair
+  -- Euclid's recursion: what holds of every (a, 0), and of (a, b) where it holds of b and the remainder of a
+  -- by b, holds of every pair
   pub euclid : (P : Px K → Px K → Type 0)
       → ((a : Px K) (m : ℕ) → a ≺ m → P a 𝟘)
       → ((a b : Px K) (m d : ℕ) → a ≺ m → Deg K b d → (s : Division K a b m d) → P b (s .rem) → P a b)

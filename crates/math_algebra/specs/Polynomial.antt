@@ -1,5 +1,6 @@
--- Polynomials over a field, as series that are 0 from some place on: `f ≺ n`, of degree under n; `Deg f n`, of degree n; `Monic f n`, with 1 for its leading coefficient.
--- Sums, products, dominance and the bound of a quotient, which rests on leading coefficients having inverses.
+-- Polynomials over a field, as series that are 0 from some place on: `f ≺ n`, of degree under n; `Deg f n`,
+-- of degree n; `Monic f n`, with 1 for its leading coefficient. Sums, products, dominance and the bound of a
+-- quotient, which rests on leading coefficients having inverses.
 use Prim.Native.Nat.{ℕ, zero, suc, _+_ as _+ₙ_, _-_ as _-ₙ_, _≤_, _<_, zero-le}
 use native.Mathlib.Nat.{eq-or-lt-of-le}
 use native.Mathlib.Omega.{arith}

@@ -1,5 +1,6 @@
--- Over a perfect field of characteristic p a polynomial whose derivative is 0 is the p-th power of a polynomial.
--- The coefficients of f^p are known one by one: the p-th power of that of f at i stands at i p, and the others are 0.
+-- Over a perfect field of characteristic p a polynomial whose derivative is 0 is the p-th power of a
+-- polynomial. The coefficients of f^p are known one by one: the p-th power of that of f at i stands at i p,
+-- and the others are 0.
 use Prim.Native.Nat.{ℕ, zero, suc, _+_ as _+ₙ_, _*_ as _*ₙ_, _/_, _%_, _<_}
 use native.Mathlib.Nat.{suc-mul, zero-mul, zero-add as zero-addₙ, add-zero as add-zeroₙ, mod-lt, div-add-mod', mul-lt-mul-of-pos-right}
 use native.Mathlib.Omega.{arith}

@@ -1,5 +1,6 @@
--- Prime numbers as characteristics: where a prime q is 0 in a ring, the numbers from 1 to q - 1 cancel, by Euclid's descent from j to q mod j.
--- So a field whose elements are the multiples of 1 is perfect: each element is its own q-th root, by Fermat's theorem.
+-- Prime numbers as characteristics: where a prime q is 0 in a ring, the numbers from 1 to q - 1 cancel, by
+-- Euclid's descent from j to q mod j. So a field whose elements are the multiples of 1 is perfect: each
+-- element is its own q-th root, by Fermat's theorem.
 use Prim.Native.Nat.{ℕ, zero, suc, _/_, _%_, _≤_, _<_}
 use native.Mathlib.Nat.{mod-lt, div-add-mod', eq-zero-or-pos}
 use native.Mathlib.Omega.{arith}

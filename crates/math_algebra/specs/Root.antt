@@ -1,6 +1,7 @@
--- The root d of D: for D monic of degree 2n, the monic d of degree n with D - d² under degree n. There is one only. Each of its coefficients, from
--- the top down, is half of what is left of D at its place (`root-step`), which is how it is computed.
-use Prim.Native.Nat.{ℕ, zero, suc, _+_ as _+ₙ_, _<_}
+-- The root d of D: for D monic of degree 2n, the monic d of degree n with D - d² under degree n. There is one
+-- only. Each of its coefficients, from the top down, is half of what is left of D at its place (`root-step`),
+-- which is how it is computed.
+use Prim.Native.Nat.{ℕ, suc, _+_ as _+ₙ_, _<_}
 use native.Mathlib.Omega.{arith}
 use mathlib.Core.Path.{_≡_, refl, sym, ap, ap₂, _∙_}
 use mathlib.Core.List.{[], _∷_}
@@ -12,7 +13,7 @@ use Rattle.math_algebra.specs.Field.{Field}
 use Rattle.math_algebra.specs.Polynomial.{F, Px, _≺_ as Low, Deg, Monic, low-up, low-add, low-sub, low-mul, low-none, low-path, low-down, low-quotient}
 
 module _ {A : Type 0} (K : Field A) where
-  open CRing (Series (F K)) using (add as _+_, mul as _*_, neg as -_, zer as 𝟘, one as 𝟙)
+  open CRing (Series (F K)) using (add as _+_, mul as _*_, neg as -_)
 
   infixl 6 _+_ _-_
   infixl 7 _*_

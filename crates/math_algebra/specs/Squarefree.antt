@@ -1,5 +1,6 @@
--- The test for square factors over a perfect field: the square of some h of degree at least 1 divides D exactly where the gcd of D and D′ has a degree at least 1.
--- D′ may be 0. One way is the product rule; the other takes the gcd of G and D / G, and where that is constant G is a p-th power.
+-- The test for square factors over a perfect field: the square of some h of degree at least 1 divides D
+-- exactly where the gcd of D and D′ has a degree at least 1. D′ may be 0. One way is the product rule; the
+-- other takes the gcd of G and D / G, and where that is constant G is a p-th power.
 use Prim.Native.Nat.{ℕ, zero, suc, _+_ as _+ₙ_, _*_ as _*ₙ_, _≤_, _<_}
 use native.Mathlib.Nat.{suc-mul, zero-mul, eq-zero-or-pos}
 use native.Mathlib.Omega.{arith}

@@ -1,5 +1,5 @@
--- How many members of a list pass a test, and how many have each line number. A test and its opposite make up the whole list, and so do the
--- counts of all lines.
+-- How many members of a list pass a test, and how many have each line number. A test and its opposite make up
+-- the whole list, and so do the counts of all lines.
 use Prim.Native.Nat.{ℕ, zero, suc, _+_, _≤_, _<_}
 use native.Mathlib.Nat.{eq-or-lt-of-le, zero-add}
 use native.Mathlib.Omega.{arith}

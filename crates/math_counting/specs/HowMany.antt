@@ -1,5 +1,5 @@
--- `HowMany P k`: k things have the property P, with no test in it: a duplicate-free list of length k has them all and no others.
--- There is one such k, and things that correspond one to one are equally many.
+-- `HowMany P k`: k things have the property P, with no test in it: a duplicate-free list of length k has them
+-- all and no others. There is one such k, and things that correspond one to one are equally many.
 use Prim.Native.Nat.{ℕ}
 use native.Mathlib.Omega.{arith}
 use mathlib.Core.Path.{_≡_, refl, sym, _∙_}

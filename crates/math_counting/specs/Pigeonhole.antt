@@ -1,5 +1,6 @@
--- Duplicate-free lists and one-to-one correspondences. The pigeonhole principle: where each member of a duplicate-free list has a partner in
--- another list, and no two have the same, the list is not longer than the other.
+-- Duplicate-free lists and one-to-one correspondences. The pigeonhole principle: where each member of a
+-- duplicate-free list has a partner in another list, and no two have the same, the list is not longer than
+-- the other.
 use Prim.Native.Nat.{suc, _≤_, zero-le}
 use native.Mathlib.Omega.{arith}
 use mathlib.Core.Path.{_≡_, refl, sym, ap, subst, _∙_}

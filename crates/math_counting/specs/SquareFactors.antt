@@ -1,6 +1,7 @@
--- The theorem a reader opens: over a perfect field the monic polynomials of degree n − 1 and the monic polynomials of degree n with a square
--- factor correspond one to one, n ≥ 2. The polynomial t = c + x·s·h², s squarefree, has the partner D = s·(c + x·h)².
--- So there are as many of these as of those, q^(n−1) over a field of q elements.
+-- The theorem a reader opens: over a perfect field the monic polynomials of degree n − 1 and the monic
+-- polynomials of degree n with a square factor correspond one to one, n ≥ 2. The polynomial t = c + x·s·h², s
+-- squarefree, has the partner D = s·(c + x·h)². So there are as many of these as of those, q^(n−1) over a
+-- field of q elements.
 use Prim.Native.Nat.{ℕ, zero, suc, _+_ as _+ₙ_, _-_ as _-ₙ_, _≤_, suc-le-suc}
 use native.Mathlib.Nat.{eq-zero-or-pos}
 use native.Mathlib.Omega.{arith}

@@ -1,7 +1,7 @@
 -- Over a perfect field every monic polynomial is s·h² with h monic and s monic and squarefree, in one way.
--- There is one: a square factor goes out, and what is left has a lower degree.
--- There is only one: let s·h² = s̃·h̃² and e = gcd(h, h̃), h = e·a and h̃ = e·b. Then s·a² = s̃·b² with a and b coprime, so that a² divides s̃
--- and a = 1; b = 1 likewise.
+-- There is one: a square factor goes out, and what is left has a lower degree. There is only one: let s·h² =
+-- s̃·h̃² and e = gcd(h, h̃), h = e·a and h̃ = e·b. Then s·a² = s̃·b² with a and b coprime, so that a² divides
+-- s̃ and a = 1; b = 1 likewise.
 use Prim.Native.Nat.{ℕ, zero, suc, _+_ as _+ₙ_, _-_ as _-ₙ_, _≤_, _<_}
 use native.Mathlib.Omega.{arith}
 use mathlib.Core.Path.{_≡_, sym, ap, _∙_}

@@ -1,7 +1,8 @@
--- The last ideal of the endless walk at or below a distance y, by halving: from the last one for y div 2, a giant step with itself and then single
--- steps, at most 4 g + 1 of them, lead to the last one for y: `FromHalf`, proved by `from-half`. So every y has one last ideal at or below it:
--- `Below`, proved by `below`, by induction on y. Carried by f ≤ 0, so that the giant step does not pass y, and by the strict rise of the distance, so
--- that single steps reach the last.
+-- The last ideal of the endless walk at or below a distance y, by halving: from the last one for y div 2, a
+-- giant step with itself and then single steps, at most 4 g + 1 of them, lead to the last one for y:
+-- `FromHalf`, proved by `from-half`. So every y has one last ideal at or below it: `Below`, proved by
+-- `below`, by induction on y. Carried by f ≤ 0, so that the giant step does not pass y, and by the strict
+-- rise of the distance, so that single steps reach the last.
 use Prim.Native.Nat.{ℕ, zero, suc, _+_ as _+ₙ_, _-_ as _-ₙ_, _*_ as _*ₙ_, _/_, _%_, _≤_, _<_}
 use native.Mathlib.Nat.{zero-add, suc-add, mod-lt, div-add-mod}
 use native.Mathlib.Omega.{arith}
@@ -30,8 +31,8 @@ module _ {A : Type 0} (K : Field A) {g : ℕ} {D : Px K} {o : Root K g D} (w : W
     pub each : (i : ℕ) → i < steps → distance K w (suc (i +ₙ l)) ≤ y
     pub few : distance K w l +ₙ steps ≤ y
 
-  -- the giant step of an ideal at the distance δ with itself is an ideal at a distance of at most y, and 4 g + 1 single steps or fewer lead to the
-  -- last index for y
+  -- the giant step of an ideal at the distance δ with itself is an ideal at a distance of at most y, and 4 g
+  -- + 1 single steps or fewer lead to the last index for y
   pub record Doubled (y δ : ℕ) {Q P : Px K} (G : GiantStep K o Q P Q P) : Type 0 where
     pub landing : GiantPlaced K w G (δ +ₙ δ)
     pub not-past : (δ +ₙ δ) -ₙ drop K G ≤ y

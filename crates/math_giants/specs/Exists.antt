@@ -1,5 +1,6 @@
--- Any two ideals have a giant step: S is the greatest common divisor of Q₁, Q₂ and P₁ + P₂, the product follows by its multipliers, and from it the
--- steps go on for ever, since D is not a square. `giant-exists` says so, and `walk-giant` of two ideals of the walk.
+-- Any two ideals have a giant step: S is the greatest common divisor of Q₁, Q₂ and P₁ + P₂, the product
+-- follows by its multipliers, and from it the steps go on for ever, since D is not a square. `giant-exists`
+-- says so, and `walk-giant` of two ideals of the walk.
 use Prim.Native.Nat.{ℕ, zero, suc, _+_ as _+ₙ_}
 use native.Mathlib.Omega.{arith}
 use mathlib.Core.Path.{_≡_, refl, subst}

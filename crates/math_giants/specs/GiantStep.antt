@@ -1,5 +1,6 @@
--- The giant step of two ideals: their product, and steps from it to the first reduced ideal, as a record. Its f is minus a number, `drop`, of at most
--- 2 g for reduced ideals. The product is an ideal again, and the two may be exchanged.
+-- The giant step of two ideals: their product, and steps from it to the first reduced ideal, as a record. Its
+-- f is minus a number, `drop`, of at most 2 g for reduced ideals. The product is an ideal again, and the two
+-- may be exchanged.
 use Prim.Native.Nat.{ℕ, _+_ as _+ₙ_, _-_ as _-ₙ_, _≤_}
 use native.Mathlib.Omega.{arith}
 use mathlib.Core.Path.{_≡_, sym, _∙_, subst}

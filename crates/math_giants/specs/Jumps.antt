@@ -1,6 +1,7 @@
--- Landings from giant steps: pairs (Q, P), the first of which is the ideal of index k and each later one the giant step of the one before with the
--- first. They are `landings`, with the distances that are added up with f, and a landing is in the stock exactly if its pair and a stocked one have
--- the same ideal. `jumps`: every k has such pairs.
+-- Landings from giant steps: pairs (Q, P), the first of which is the ideal of index k and each later one the
+-- giant step of the one before with the first. They are `landings`, with the distances that are added up with
+-- f, and a landing is in the stock exactly if its pair and a stocked one have the same ideal. `jumps`: every
+-- k has such pairs.
 use Prim.Native.Nat.{ℕ, zero, suc, _+_ as _+ₙ_, _≤_}
 use mathlib.Core.Path.{_≡_, refl}
 use Rattle.math_algebra.specs.Field.{Field}
@@ -13,7 +14,7 @@ use Rattle.math_surd.specs.Ideal.{SameIdeal, same-refl, same-sym, same-trans}
 use Rattle.math_giants.specs.GiantStep.{GiantStep, giant-Q, giant-P, drop, drop-most}
 use Rattle.math_giants.specs.Exists.{walk-giant}
 use Rattle.math_giants.specs.Lands.{Landed, lands}
-use Rattle.math_giants.specs.Landings.{Landings, Stocked}
+use Rattle.math_landings.specs.Landings.{Landings, Stocked}
 
 module _ {A : Type 0} (K : Field A) {g : ℕ} {D : Px K} {o : Root K g D} (w : Walk K o) where
   pub record Jumps (k : ℕ) : Type 0 where

@@ -1,6 +1,7 @@
--- The theorem a reader opens: the giant step of two ideals of the endless walk is an ideal of the endless walk, and its distance there is the sum of
--- the two distances and f, exactly. The statement is `Lands`, its proof `lands`. Carried by generators: the convergents are big ones, the product and
--- the steps keep them big, and a reduced ideal with a big generator is the ideal of the walk at the generator's degree.
+-- The theorem a reader opens: the giant step of two ideals of the endless walk is an ideal of the endless
+-- walk, and its distance there is the sum of the two distances and f, exactly. The statement is `Lands`, its
+-- proof `lands`. Carried by generators: the convergents are big ones, the product and the steps keep them
+-- big, and a reduced ideal with a big generator is the ideal of the walk at the generator's degree.
 use Prim.Native.Nat.{ℕ, zero, suc, _+_ as _+ₙ_, _-_ as _-ₙ_, _≤_}
 use native.Mathlib.Omega.{arith}
 use mathlib.Core.Path.{_≡_, sym, _∙_, subst}
@@ -20,10 +21,10 @@ use Rattle.math_surd.specs.Distance.{distance, height, distance-height, converg
 use Rattle.math_surd.specs.Ideal.{SameIdeal, same-trans}
 use Rattle.math_ideals.specs.Reduction.{next-state}
 use Rattle.math_ideals.specs.Steps.{degree-sum, shift-form}
-use Rattle.math_giants.specs.Generators.{Generates, generates-same, convergent-generates, s-finite}
-use Rattle.math_giants.specs.Classification.{Located, classify}
-use Rattle.math_giants.specs.GeneratorProduct.{Multiplied, multiplied}
-use Rattle.math_giants.specs.GeneratorSteps.{Reached, reached}
+use Rattle.math_generators.specs.Generators.{Generates, generates-same, convergent-generates, s-finite}
+use Rattle.math_generators.specs.Classification.{Located, classify}
+use Rattle.math_generators.specs.GeneratorProduct.{Multiplied, multiplied}
+use Rattle.math_generators.specs.GeneratorSteps.{Reached, reached}
 use Rattle.math_giants.specs.Exists.{walk-no-square}
 use Rattle.math_giants.specs.GiantStep.{GiantStep, giant-Q, giant-P, drop, drop-sum, start-state, giant-swap}
 
@@ -31,7 +32,8 @@ module _ {A : Type 0} (K : Field A) {g : ℕ} {D : Px K} {o : Root K g D} (w : W
   abbrev P[x] : Type 0
   P[x] = Px K
 
-  -- the giant step of two ideals with distances δ₁ and δ₂ is the ideal of index `at`, whose distance is δ₁ + δ₂ + f; f is minus the `drop`
+  -- the giant step of two ideals with distances δ₁ and δ₂ is the ideal of index `at`, whose distance is δ₁ +
+  -- δ₂ + f; f is minus the `drop`
   pub record Landed {Q₁ P₁ Q₂ P₂ : P[x]} (G : GiantStep K o Q₁ P₁ Q₂ P₂) (δ₁ δ₂ : ℕ) : Type 0 where
     pub at : ℕ
     pub same : SameIdeal K (giant-Q K G) (giant-P K G) (w .Q at) (w .P at)

@@ -1,13 +1,7 @@
 pub mod Below
-pub mod Classification
 pub mod Exists
-pub mod GeneratorProduct
-pub mod GeneratorStep
-pub mod GeneratorSteps
-pub mod Generators
 pub mod GiantStep
 pub mod Jumps
-pub mod Landings
 pub mod Lands
 pub mod Place
 pub mod Within

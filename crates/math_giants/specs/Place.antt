@@ -1,5 +1,6 @@
--- A pair (Q, P) with a distance δ, as the ideal of an index of the endless walk (`Placed`), and what keeps it one: another pair of the same ideal; a
--- single step, to the next index, with the distance raised by g + 1 - deg Q; a giant step, to some index, with the sum of the two distances and f.
+-- A pair (Q, P) with a distance δ, as the ideal of an index of the endless walk (`Placed`), and what keeps it
+-- one: another pair of the same ideal; a single step, to the next index, with the distance raised by g + 1 -
+-- deg Q; a giant step, to some index, with the sum of the two distances and f.
 use Prim.Native.Nat.{ℕ, suc, _+_ as _+ₙ_, _-_ as _-ₙ_, _≤_}
 use native.Mathlib.Omega.{arith}
 use mathlib.Core.Path.{_≡_, refl}
@@ -20,7 +21,8 @@ module _ {A : Type 0} (K : Field A) {g : ℕ} {D : Px K} {o : Root K g D} (w : W
     pub same : SameIdeal K Q P (w .Q at) (w .P at)
     pub distance-is : distance K w at ≡ δ
 
-  -- the giant step of two ideals with δ for the sum of their distances; f, minus the drop, takes nothing below 0 and is at least -2 g
+  -- the giant step of two ideals with δ for the sum of their distances; f, minus the drop, takes nothing
+  -- below 0 and is at least -2 g
   pub record GiantPlaced {Q₁ P₁ Q₂ P₂ : Px K} (G : GiantStep K o Q₁ P₁ Q₂ P₂) (δ : ℕ) : Type 0 where
     pub at : ℕ
     pub less : drop K G ≤ δ

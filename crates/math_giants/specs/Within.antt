@@ -1,5 +1,6 @@
--- Giant steps stay in one period: of two ideals with indices below the quasi-period m, the giant step is the ideal of one index below m and of no
--- other, and the sum of the two distances and f is its distance, or its distance and the regulator. The statement is `Within`, its proof `within`.
+-- Giant steps stay in one period: of two ideals with indices below the quasi-period m, the giant step is the
+-- ideal of one index below m and of no other, and the sum of the two distances and f is its distance, or its
+-- distance and the regulator. The statement is `Within`, its proof `within`.
 use Prim.Native.Nat.{ℕ, _+_ as _+ₙ_, _-_ as _-ₙ_, _≤_, _<_}
 use native.Mathlib.Omega.{arith}
 use mathlib.Core.Path.{_≡_, subst}

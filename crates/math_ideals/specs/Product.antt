@@ -1,5 +1,6 @@
--- The product of two ideals (Q₁, P₁) and (Q₂, P₂): S, Q = Q₁ Q₂ / S² and P modulo Q. Carried by three congruences (`Meets`) that P meets and that hold of one P modulo Q only,
--- whatever multipliers u, v, w of S = u Q₁ + v Q₂ + w (P₁ + P₂) are taken.
+-- The product of two ideals (Q₁, P₁) and (Q₂, P₂): S, Q = Q₁ Q₂ / S² and P modulo Q. Carried by three
+-- congruences (`Meets`) that P meets and that hold of one P modulo Q only, whatever multipliers u, v, w of S
+-- = u Q₁ + v Q₂ + w (P₁ + P₂) are taken.
 use Prim.Native.Nat.{ℕ, _+_ as _+ₙ_, _-_ as _-ₙ_, _≤_}
 use mathlib.Core.Path.{_≡_, refl, sym, ap, _∙_}
 use mathlib.Core.List.{[], _∷_}
@@ -15,7 +16,7 @@ use Rattle.math_surd.specs.Step.{State}
 use Rattle.math_algebra.specs.Finite.{Finite, finite-add, finite-sub, finite-mul, finite-by, finite-path, divides-finite, cancel-left}
 
 module _ {A : Type 0} (K : Field A) where
-  open CRing (Series (F K)) using (add as _+_, mul as _*_, neg as -_, zer as 𝟘, one as 𝟙)
+  open CRing (Series (F K)) using (add as _+_, mul as _*_, neg as -_, one as 𝟙)
 
   infixl 6 _+_ _-_
   infixl 7 _*_

@@ -1,5 +1,6 @@
--- One step from an ideal (Q, P) of any degree to the next, (Q′, P′): Q′ ≠ 0, P′ + d has a larger degree than Q′, and the degree of Q falls while it is above g.
--- Carried by one identity, Q′ Q = (d - P′)(P′ + d) + e, in which the degrees are compared.
+-- One step from an ideal (Q, P) of any degree to the next, (Q′, P′): Q′ ≠ 0, P′ + d has a larger degree than
+-- Q′, and the degree of Q falls while it is above g. Carried by one identity, Q′ Q = (d - P′)(P′ + d) + e, in
+-- which the degrees are compared.
 use Prim.Native.Nat.{ℕ, suc, _+_ as _+ₙ_, _-_ as _-ₙ_, _≤_, _<_}
 use native.Mathlib.Omega.{arith}
 use mathlib.Core.Path.{_≡_, sym, _∙_}
@@ -115,7 +116,8 @@ module _ {A : Type 0} (K : Field A) where
           both : r * (P′ + d) + o .e ≺ κ +ₙ suc g
           both = low-add K (r * (P′ + d)) (o .e) _ (low-mul K r (P′ + d) κ (suc g) r-low sum-low) (low-up K (o .e) (omega arith) (o .e-low))
 
-      -- where the degree of Q is above g: the remainder is not 0, and with ρ its degree, deg (P′ + d) - deg Q′ = deg Q - ρ
+      -- where the degree of Q is above g: the remainder is not 0, and with ρ its degree, deg (P′ + d) - deg
+      -- Q′ = deg Q - ρ
       pub remainder-deg : g < κ → {h : ℕ} → Deg K (P′ + d) h → (ρ : ℕ) × (ρ +ₙ h ≡ κ′ +ₙ κ) × (ρ < κ) × Deg K (d - P′) ρ
       remainder-deg big {h} u = (ρ, omega (arith, f .0), deg-below K r ρ κ (f .1) r-low, f .1)
         where

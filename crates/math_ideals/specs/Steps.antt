@@ -1,5 +1,6 @@
--- Steps from an ideal of any degree until the first reduced one, of degree at most g: they end, after at most (g + 1) / 2 turns where the start has degree at most 2 g,
--- and the degrees of Q and of the partial quotients give f, which is at most 0 and at least -2 g. Carried by the fall of the degree in one step.
+-- Steps from an ideal of any degree until the first reduced one, of degree at most g: they end, after at most
+-- (g + 1) / 2 turns where the start has degree at most 2 g, and the degrees of Q and of the partial quotients
+-- give f, which is at most 0 and at least -2 g. Carried by the fall of the degree in one step.
 use Prim.Native.Nat.{ℕ, zero, suc, _+_ as _+ₙ_, _-_ as _-ₙ_, _≤_, _<_}
 use native.Mathlib.Omega.{arith}
 use mathlib.Core.Path.{_≡_, subst}

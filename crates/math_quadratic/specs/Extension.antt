@@ -1,5 +1,5 @@
--- The pairs u + v·w over a field in which ν is no square are a field. (u + v·w)·(u − v·w) is the norm u² − ν·v², which is 0 for u = v = 0 only:
--- otherwise ν would be (u/v)².
+-- The pairs u + v·w over a field in which ν is no square are a field. (u + v·w)·(u − v·w) is the norm u² −
+-- ν·v², which is 0 for u = v = 0 only: otherwise ν would be (u/v)².
 use mathlib.Core.Path.{_≡_, ap}
 use mathlib.Core.List.{[], _∷_}
 use Rattle.math_ring.specs.Ring.{CRing}

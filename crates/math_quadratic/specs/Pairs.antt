@@ -1,4 +1,5 @@
--- The pairs u + v·w over a commutative ring, w² = ν, are a commutative ring. Each law is a ring identity in each of the two places.
+-- The pairs u + v·w over a commutative ring, w² = ν, are a commutative ring. Each law is a ring identity in
+-- each of the two places.
 use mathlib.Core.Path.{_≡_, ap₂}
 use mathlib.Core.List.{[], _∷_}
 use Rattle.math_ring.specs.Ring.{CRing}

@@ -1,5 +1,6 @@
--- The theorem a reader opens: where an odd prime q is 0 in a field and c^q = c, its extension by a non-square ν is perfect, and the q-th root of
--- c is c^q. The q-th power takes u + v·w to u + ε·v·w with ε = ν^((q−1)/2), and twice to itself, as ε² = ν^(q−1) = 1.
+-- The theorem a reader opens: where an odd prime q is 0 in a field and c^q = c, its extension by a non-square
+-- ν is perfect, and the q-th root of c is c^q. The q-th power takes u + v·w to u + ε·v·w with ε =
+-- ν^((q−1)/2), and twice to itself, as ε² = ν^(q−1) = 1.
 use Prim.Native.Nat.{ℕ, zero, suc, _+_ as _+ₙ_, _*_ as _*ₙ_, _/_, _%_, _<_}
 use native.Mathlib.Nat.{div-add-mod, eq-zero-or-pos, mod-lt}
 use native.Mathlib.Omega.{arith}

@@ -1,4 +1,5 @@
--- Degrees of series: `Below f n` says that f is 0 from the exponent n on, so f is a polynomial of degree under n. The bound and the leading coefficient of a product, by recursion on the first factor.
+-- Degrees of series: `Below f n` says that f is 0 from the exponent n on, so f is a polynomial of degree
+-- under n. The bound and the leading coefficient of a product, by recursion on the first factor.
 use Prim.Native.Nat.{ℕ, zero, suc, _+_ as _+ₙ_, _≤_, zero-le, suc-le-suc}
 use native.Mathlib.Nat.{suc-add, zero-add}
 use native.Mathlib.Omega.{arith}
@@ -7,11 +8,10 @@ use Rattle.math_ring.specs.Ring.{CRing, zer-add, mul-zer}
 use Rattle.math_ring.specs.Series.{S, addS, conv, zerS, tail, conv-zeroˡ}
 
 module _ {A : Type 0} (F : CRing A) where
-  open CRing F using (add as _+_, mul as _*_, neg as -_, zer as 𝟘, one as 𝟙, add-zer)
+  open CRing F using (add as _+_, mul as _*_, zer as 𝟘, add-zer)
 
   infixl 6 _+_
   infixl 7 _*_
-  infix 8 -_
   abbrev pub Below : S F → ℕ → Type 0
   Below f n = (i : ℕ) → n ≤ i → f i ≡ 𝟘
 

@@ -1,4 +1,5 @@
--- Monomials c x^k, and division with remainder by a polynomial whose leading coefficient has an inverse: the quotient's terms are found from the top down.
+-- Monomials c x^k, and division with remainder by a polynomial whose leading coefficient has an inverse: the
+-- quotient's terms are found from the top down.
 use Prim.Native.Nat.{ℕ, zero, suc, _+_ as _+ₙ_, _-_ as _-ₙ_, _<_, zero-le}
 use native.Mathlib.Nat.{zero-add as zero-addₙ, suc-add as suc-addₙ, eq-or-lt-of-le}
 use native.Mathlib.Omega.{arith}

@@ -1,5 +1,5 @@
--- The identities of the continued fraction of √D and of products of ideals, over any commutative ring, each found by the solver.
--- A step: D = P² + Q C, P′ = a Q - P, Q′ = C + a (P - P′), P + d = a Q + r, D = d² + e.
+-- The identities of the continued fraction of √D and of products of ideals, over any commutative ring, each
+-- found by the solver. A step: D = P² + Q C, P′ = a Q - P, Q′ = C + a (P - P′), P + d = a Q + r, D = d² + e.
 use mathlib.Core.Path.{_≡_}
 use mathlib.Core.List.{[], _∷_}
 use Rattle.math_ring.specs.Ring.{CRing}

@@ -1,17 +1,20 @@
--- The solver with no quoting by hand: `search quote` finds the expression that a term of the ring is read off as.
+-- The solver with no quoting by hand: `search quote` finds the expression that a term of the ring is read off
+-- as.
 --
--- An identity l ≡ r in the ring R:
---     ring R (a ∷ b ∷ []) (search quote depth 40 fits 9999) tt
--- The list holds the atoms: every term that is not a sum, a product, a negative, 0 or 1 of R. A difference is written a + (- b), and 2 is 1 + 1.
--- The two sides may stand under an `abbrev`; any other definition is an atom, or is opened by an `unfolding` line.
+-- An identity l ≡ r in the ring R: ring R (a ∷ b ∷ []) (search quote depth 40 fits 9999) tt The list holds
+-- the atoms: every term that is not a sum, a product, a negative, 0 or 1 of R. A difference is written a + (-
+-- b), and 2 is 1 + 1. The two sides may stand under an `abbrev`; any other definition is an atom, or is
+-- opened by an `unfolding` line.
 --
--- From equations h : l₁ ≡ r₁, k : l₂ ≡ r₂, where l - r = x (l₁ - r₁) + y (l₂ - r₂):
---     ring-from R (a ∷ b ∷ []) (plus R (times R x h) (times R y k)) (search quote depth 40 fits 9999) tt
--- The multipliers x and y are given by hand. An equation of a variable can also be rewritten first, `rw h (ring ..)`.
+-- From equations h : l₁ ≡ r₁, k : l₂ ≡ r₂, where l - r = x (l₁ - r₁) + y (l₂ - r₂): ring-from R (a ∷ b ∷ [])
+-- (plus R (times R x h) (times R y k)) (search quote depth 40 fits 9999) tt The multipliers x and y are given
+-- by hand. An equation of a variable can also be rewritten first, `rw h (ring ..)`.
 --
--- Refusals. At `tt`: the identity is false, or a multiplier has the wrong sign. "no proof of Sides": an atom is missing from the list, or a side stands as a λ.
--- "stopped .. lemmas deep": a larger depth. "broke off": past ten million steps; state an identity in between, or quote by hand with `solve` of Solver.
--- Eight atoms at degree 5 take about half a second; Identities, with up to fourteen atoms, takes two seconds. The carrier must be the parameter of CRing.
+-- Refusals. At `tt`: the identity is false, or a multiplier has the wrong sign. "no proof of Sides": an atom
+-- is missing from the list, or a side stands as a λ. "stopped .. lemmas deep": a larger depth. "broke off":
+-- past ten million steps; state an identity in between, or quote by hand with `solve` of Solver. Eight atoms
+-- at degree 5 take about half a second; Identities, with up to fourteen atoms, takes two seconds. The carrier
+-- must be the parameter of CRing.
 use Prim.Native.Nat.{ℕ, suc}
 use mathlib.Core.Path.{_≡_, refl, sym, ap, ap₂, _∙_}
 use mathlib.Core.List.{List, _∷_}

@@ -1,4 +1,5 @@
--- The integers mod q as a ring: a number below q, with sums and products reduced. Each law is that of the numbers, with the inner `%` taken off.
+-- The integers mod q as a ring: a number below q, with sums and products reduced. Each law is that of the
+-- numbers, with the inner `%` taken off.
 use Prim.Native.Nat.{ℕ, _+_, _*_, _-_, _%_, _/_, _<_}
 use native.Mathlib.Nat.{mod-lt, mod-eq-of-lt, mod-self, mod-add-mod, add-mod-mod, mul-add-mod-self-left, div-add-mod, add-assoc, add-comm, add-zero, mul-assoc, mul-comm, mul-one, mul-add, add-mul}
 use native.Mathlib.Bridge.{le-prop}

@@ -1,4 +1,5 @@
--- Power series over a ring, as functions from exponents to coefficients; a polynomial is one that is 0 from some place on. They are a ring again: the product recurses on its first factor.
+-- Power series over a ring, as functions from exponents to coefficients; a polynomial is one that is 0 from
+-- some place on. They are a ring again: the product recurses on its first factor.
 use Prim.Native.Nat.{ℕ, zero, suc}
 use mathlib.Core.Path.{_≡_, refl, sym, ap, ap₂, _∙_, fun-ext}
 use mathlib.Core.List.{[], _∷_}

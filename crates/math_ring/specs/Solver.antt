@@ -1,4 +1,5 @@
--- A solver for identities of commutative rings, by reflection: expressions, a normal form that computes on native numbers, and its soundness.
+-- A solver for identities of commutative rings, by reflection: expressions, a normal form that computes on
+-- native numbers, and its soundness.
 use Prim.Native.Nat.{ℕ, zero, suc, _+_ as _+ₙ_, _*_ as _*ₙ_, compare, Ordering, Ordering·lt, Ordering·eq, Ordering·gt}
 use native.Mathlib.Nat.{zero-add as zero-addₙ, suc-add as suc-addₙ, zero-mul as zero-mulₙ, suc-mul as suc-mulₙ}
 use mathlib.Core.Path.{_≡_, refl, sym, ap, ap₂, _∙_, subst⁻¹}
@@ -96,7 +97,7 @@ cmp-eq (a ∷ m) (b ∷ n) t = go (compare a b) refl t (cmp-eq m n)
 
 -- ---- what they mean in a ring
 module _ {A : Type 0} (R : CRing A) where
-  open CRing R using (add as _+_, mul as _*_, neg as -_, zer as 𝟘, one as 𝟙, add-assoc, add-comm, add-zer, add-neg, mul-assoc, mul-comm, mul-one, mul-add)
+  open CRing R using (add as _+_, mul as _*_, neg as -_, zer as 𝟘, one as 𝟙, add-assoc, add-comm, add-zer, add-neg, mul-assoc, mul-one, mul-add)
 
   infixl 6 _+_
   infixl 7 _*_

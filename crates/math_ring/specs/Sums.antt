@@ -6,7 +6,7 @@ use Rattle.math_ring.specs.Ring.{CRing}
 use Rattle.math_ring.specs.Series.{S, conv, tail}
 
 module _ {A : Type 0} (F : CRing A) where
-  open CRing F using (add as _+_, mul as _*_, zer as 𝟘, add-assoc)
+  open CRing F using (add as _+_, mul as _*_, add-assoc)
 
   infixl 6 _+_
   infixl 7 _*_

@@ -1,5 +1,6 @@
--- Pairs (x, y) that are near to y √D: x - d y has a smaller degree than y. A pair with a small norm is near, or becomes so by the
--- other sign of y (carried by the product (x - d y)(x + d y), which is small, while the factors' difference 2 d y is not).
+-- Pairs (x, y) that are near to y √D: x - d y has a smaller degree than y. A pair with a small norm is near,
+-- or becomes so by the other sign of y (carried by the product (x - d y)(x + d y), which is small, while the
+-- factors' difference 2 d y is not).
 use Prim.Native.Nat.{ℕ, suc, _+_ as _+ₙ_, _<_}
 use native.Mathlib.Omega.{arith}
 use mathlib.Core.Path.{_≡_, sym}

@@ -1,5 +1,5 @@
--- The convergents p, s of the continued fraction, their norms and linear identities. One induction gives all norms: the form
--- N i (u, v) = Q i u² - 2 P i u v - Q (i - 1) v² is the norm of u p + v s, up to a sign.
+-- The convergents p, s of the continued fraction, their norms and linear identities. One induction gives all
+-- norms: the form N i (u, v) = Q i u² - 2 P i u v - Q (i - 1) v² is the norm of u p + v s, up to a sign.
 use Prim.Native.Nat.{ℕ, zero, suc}
 use mathlib.Core.Path.{_≡_, ap, ap₂, _∙_}
 use mathlib.Core.List.{[], _∷_}

@@ -1,5 +1,6 @@
--- The descent: a pair whose norm has degree at most g is a polynomial multiple of a convergent, up to the sign of its second part.
--- Carried by division of the pair through the convergents, each remainder of smaller degree than the last.
+-- The descent: a pair whose norm has degree at most g is a polynomial multiple of a convergent, up to the
+-- sign of its second part. Carried by division of the pair through the convergents, each remainder of smaller
+-- degree than the last.
 use Prim.Native.Nat.{ℕ, zero, suc, max, _+_ as _+ₙ_, _-_ as _-ₙ_, _<_}
 use native.Mathlib.Omega.{arith}
 use mathlib.Core.Path.{_≡_, sym, ap₂, _∙_}
@@ -17,10 +18,9 @@ use Rattle.math_surd.specs.Big.{Big, dichotomy}
 use Rattle.math_surd.specs.Walk.{Walk, prior, norm, a-first}
 use Rattle.math_surd.specs.Convergents.{sign, sign-low, sign-swap, norm-combination, norm-convergent}
 use Rattle.math_surd.specs.Convergents as convergents
-use Rattle.math_surd.specs.Distance.{height}
 
 module _ {A : Type 0} (K : Field A) where
-  open CRing (Series (F K)) using (add as _+_, mul as _*_, neg as -_, zer as 𝟘, one as 𝟙)
+  open CRing (Series (F K)) using (add as _+_, mul as _*_, neg as -_, zer as 𝟘)
 
   infixl 6 _+_ _-_
   infixl 7 _*_

@@ -1,4 +1,5 @@
--- Degrees of the convergents: the distance formula. Carried by p - d s being of smaller degree than s, so p is led by d s.
+-- Degrees of the convergents: the distance formula. Carried by p - d s being of smaller degree than s, so p
+-- is led by d s.
 use Prim.Native.Nat.{ℕ, zero, suc, _+_ as _+ₙ_, _-_ as _-ₙ_, _*_ as _*ₙ_, _≤_, _<_}
 use native.Mathlib.Nat.{zero-add, suc-add, suc-mul}
 use native.Mathlib.Omega.{arith}

@@ -1,5 +1,6 @@
--- Ideals as pairs: (Q, P) up to a constant factor of Q and a multiple of Q in P; and that a step sees only the ideal. Carried by rigidity:
--- the next P is the one P′ with Q | P + P′ and P′ - d of smaller degree than Q.
+-- Ideals as pairs: (Q, P) up to a constant factor of Q and a multiple of Q in P; and that a step sees only
+-- the ideal. Carried by rigidity: the next P is the one P′ with Q | P + P′ and P′ - d of smaller degree than
+-- Q.
 use Prim.Native.Nat.{ℕ, suc, _+_ as _+ₙ_}
 use native.Mathlib.Omega.{arith}
 use mathlib.Core.Path.{_≡_, sym, subst}

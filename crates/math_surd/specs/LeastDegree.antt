@@ -1,9 +1,11 @@
--- The theorem a reader opens: the least degree of X in X² - D Y² = c (Y ≠ 0, c a constant other than 0), read off the continued fraction of √D.
--- `spent`: while no Q 1 .. Q b is constant, X has a degree above that of the convergent p of index b - 1.
--- `found`, `reached`, `only`: let m be the quasi-period, the first index from 1 on at which Q is constant, and R the degree of the convergent
--- p of index m - 1. No solution has a degree below R; this convergent is a solution; a solution of degree R is a constant multiple of it, up to
--- the sign of Y. All follow from `Units`: a solution is a constant multiple of a convergent at which Q is constant, and the degrees rise strictly.
--- Convergents stand two places up: p (m + 1) has the index m - 1, and distance m is its degree.
+-- The theorem a reader opens: the least degree of X in X² - D Y² = c (Y ≠ 0, c a constant other than 0), read
+-- off the continued fraction of √D. `spent`: while no Q 1 .. Q b is constant, X has a degree above that of
+-- the convergent p of index b - 1. `found`, `reached`, `only`: let m be the quasi-period, the first index
+-- from 1 on at which Q is constant, and R the degree of the convergent p of index m - 1. No solution has a
+-- degree below R; this convergent is a solution; a solution of degree R is a constant multiple of it, up to
+-- the sign of Y. All follow from `Units`: a solution is a constant multiple of a convergent at which Q is
+-- constant, and the degrees rise strictly. Convergents stand two places up: p (m + 1) has the index m - 1,
+-- and distance m is its degree.
 use Prim.Native.Nat.{ℕ, zero, suc, _+_ as _+ₙ_, _≤_, _<_}
 use native.Mathlib.Omega.{arith}
 use mathlib.Core.Path.{_≡_, sym, subst}
@@ -46,8 +48,6 @@ module _ {A : Type 0} (K : Field A) where
     pub norm : X * X - D * (Y * Y) ≡ con (F K) c
 
   module _ {g : ℕ} {D : P[x]} {o : Root K g D} (w : Walk K o) where
-    open Walk w using (Q, κ)
-
     abbrev p : ℕ → P[x]
     p = convergents.p K w
 

@@ -1,4 +1,5 @@
--- The quasi-period m: the first index from 1 on at which Q is constant. The regulator is the distance of m, the degree of the convergent p of index m - 1.
+-- The quasi-period m: the first index from 1 on at which Q is constant. The regulator is the distance of m,
+-- the degree of the convergent p of index m - 1.
 use Prim.Native.Nat.{ℕ, zero, suc, _≤_, _<_}
 use native.Mathlib.Omega.{arith}
 use mathlib.Core.Path.{_≡_, ap}

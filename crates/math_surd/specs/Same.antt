@@ -1,5 +1,6 @@
--- Two states of one walk with the same ideal: then so have the states after them, and the states before them. Forward a step sees only
--- the ideal; backward rigidity serves again, since P is near to d with respect to its own Q too.
+-- Two states of one walk with the same ideal: then so have the states after them, and the states before them.
+-- Forward a step sees only the ideal; backward rigidity serves again, since P is near to d with respect to
+-- its own Q too.
 use Prim.Native.Nat.{ℕ, zero, suc, _+_ as _+ₙ_}
 use native.Mathlib.Nat.{zero-add, suc-add}
 use native.Mathlib.Omega.{arith}

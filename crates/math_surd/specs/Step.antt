@@ -1,5 +1,5 @@
--- One step from a state (Q, P): it is exact, it never reaches Q = 0, and it keeps Q reduced (of degree at most g). Carried by one identity,
--- Q′ Q = r (2 d - r) + e, in which the degrees are compared.
+-- One step from a state (Q, P): it is exact, it never reaches Q = 0, and it keeps Q reduced (of degree at
+-- most g). Carried by one identity, Q′ Q = r (2 d - r) + e, in which the degrees are compared.
 use Prim.Native.Nat.{ℕ, suc, _+_ as _+ₙ_, _≤_, _<_}
 use native.Mathlib.Omega.{arith}
 use mathlib.Core.Path.{_≡_, refl, sym, ap, _∙_}

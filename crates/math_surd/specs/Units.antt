@@ -1,5 +1,6 @@
--- Units: a pair (X, Y) with Y ≠ 0 whose norm X² - D Y² is a constant is a constant multiple of a convergent, up to the sign of Y, and Q is
--- constant there. Carried by the descent: (X, Y) is λ times a convergent, and the norm is λ² Q up to a sign.
+-- Units: a pair (X, Y) with Y ≠ 0 whose norm X² - D Y² is a constant is a constant multiple of a convergent,
+-- up to the sign of Y, and Q is constant there. Carried by the descent: (X, Y) is λ times a convergent, and
+-- the norm is λ² Q up to a sign.
 use Prim.Native.Nat.{ℕ, suc, _+_ as _+ₙ_, _<_}
 use native.Mathlib.Omega.{arith}
 use mathlib.Core.Path.{_≡_, sym, ap, _∙_, subst}

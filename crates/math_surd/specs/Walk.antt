@@ -1,5 +1,5 @@
--- The continued fraction of √D as an endless walk of states (Q i, P i) with partial quotients a i and remainders r i: its equations,
--- the cheap recurrence, and the degrees of P i and a i.
+-- The continued fraction of √D as an endless walk of states (Q i, P i) with partial quotients a i and
+-- remainders r i: its equations, the cheap recurrence, and the degrees of P i and a i.
 use Prim.Native.Nat.{ℕ, zero, suc, _+_ as _+ₙ_, _-_ as _-ₙ_, _≤_, _<_}
 use native.Mathlib.Omega.{arith}
 use mathlib.Core.Path.{_≡_, sym, ap, ap₂, _∙_}

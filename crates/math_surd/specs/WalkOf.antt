@@ -1,5 +1,5 @@
--- The walk from the equations that compute it: quotients and remainders of P + d and of D - P² by Q. That the second remainder is 0,
--- that no Q is 0 and that each is reduced is proved here, step by step.
+-- The walk from the equations that compute it: quotients and remainders of P + d and of D - P² by Q. That the
+-- second remainder is 0, that no Q is 0 and that each is reduced is proved here, step by step.
 use Prim.Native.Nat.{ℕ, zero, suc, _+_ as _+ₙ_, _≤_}
 use native.Mathlib.Omega.{arith}
 use mathlib.Core.Path.{_≡_, sym, ap, ap₂, _∙_}
@@ -33,7 +33,8 @@ module _ {A : Type 0} (K : Field A) where
   abbrev _≺_ : P[x] → ℕ → Type 0
   _≺_ = Low K
 
-  -- What is computed. Each division is only asked for where Q has a degree n; t i is the remainder of D - P² by Q, to be shown 0.
+  -- What is computed. Each division is only asked for where Q has a degree n; t i is the remainder of D - P²
+  -- by Q, to be shown 0.
   pub record Computed {g : ℕ} {D : P[x]} (o : Root K g D) : Type 0 where
     pub Q : ℕ → P[x]
     pub P : ℕ → P[x]

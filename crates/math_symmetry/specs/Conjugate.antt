@@ -1,6 +1,7 @@
--- The place of the conjugate of an ideal of the walk. Let Q be constant at m, and let R be the distance of m. The conjugate of the ideal of state j,
--- the same Q and P negated modulo Q, is the ideal of state m - j, whose distance is R less the distance of j plus deg Q_j. `conjugates` says so.
--- Carried by the symmetry and by Q_j | P_j + P_{j+1}.
+-- The place of the conjugate of an ideal of the walk. Let Q be constant at m, and let R be the distance of m.
+-- The conjugate of the ideal of state j, the same Q and P negated modulo Q, is the ideal of state m - j,
+-- whose distance is R less the distance of j plus deg Q_j. `conjugates` says so. Carried by the symmetry and
+-- by Q_j | P_j + P_{j+1}.
 use Prim.Native.Nat.{ℕ, zero, suc, _+_ as _+ₙ_, _-_ as _-ₙ_, _≤_, _<_}
 use native.Mathlib.Omega.{arith}
 use mathlib.Core.Path.{_≡_, sym, ap, _∙_}
@@ -21,10 +22,9 @@ use Rattle.math_symmetry.specs.Period.{P-low, constant-divides, same-sta
 use Rattle.math_symmetry.specs.Palindrome.{P-symmetric, Q-symmetric, symmetric}
 
 module _ {A : Type 0} (K : Field A) where
-  open CRing (Series (F K)) using (add as _+_, mul as _*_, neg as -_, one as 𝟙)
+  open CRing (Series (F K)) using (add as _+_, neg as -_, one as 𝟙)
 
   infixl 6 _+_ _-_
-  infixl 7 _*_
   infix 8 -_
   abbrev P[x] : Type 0
   P[x] = Px K
@@ -46,8 +46,9 @@ module _ {A : Type 0} (K : Field A) where
     abbrev pub conjugate-distance : ℕ → ℕ → ℕ
     conjugate-distance m j = (distance K w m -ₙ distance K w j) +ₙ κ j
 
-    -- For j from 0 to m: state m - j is the conjugate of state j, is at that distance, and is the only state there. The distance is R for j = 0 and
-    -- below R for the others; state m, at R, has the ideal of state 0, which is its own conjugate
+    -- For j from 0 to m: state m - j is the conjugate of state j, is at that distance, and is the only state
+    -- there. The distance is R for j = 0 and below R for the others; state m, at R, has the ideal of state 0,
+    -- which is its own conjugate
     pub record Conjugates (m : ℕ) : Type 0 where
       pub conjugate : (j : ℕ) → j ≤ m → Conjugate (m -ₙ j) j
       pub distance-is : (j : ℕ) → j ≤ m → distance K w (m -ₙ j) ≡ conjugate-distance m j

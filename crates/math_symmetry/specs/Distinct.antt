@@ -1,6 +1,6 @@
--- Which states of the walk have the same ideal: two of them exactly where the quasi-period m divides the difference of their indices, so that the
--- first m states have m ideals. `distinct` says so. Carried by `Same` backward: equal ideals at i and j are equal at i - j and 0, so that Q is
--- constant at i - j.
+-- Which states of the walk have the same ideal: two of them exactly where the quasi-period m divides the
+-- difference of their indices, so that the first m states have m ideals. `distinct` says so. Carried by
+-- `Same` backward: equal ideals at i and j are equal at i - j and 0, so that Q is constant at i - j.
 use Prim.Native.Nat.{ℕ, zero, suc, _+_ as _+ₙ_, _*_ as _*ₙ_, _-_ as _-ₙ_, _≤_, _<_}
 use native.Mathlib.Nat.{zero-add, suc-add, add-zero, suc-mul, zero-mul}
 use native.Mathlib.Omega.{arith}
@@ -23,8 +23,8 @@ module _ {A : Type 0} (K : Field A) {g : ℕ} {D : Px K} {o : Root K g D} (w : W
   abbrev pub Apart : ℕ → ℕ → ℕ → Type 0
   Apart m i j = (k : ℕ) × (i ≡ k *ₙ m +ₙ j)
 
-  -- Two states have the same ideal exactly where m divides the difference of their indices, Q is constant at the multiples of m only, and no two of
-  -- the first m states have the same ideal
+  -- Two states have the same ideal exactly where m divides the difference of their indices, Q is constant at
+  -- the multiples of m only, and no two of the first m states have the same ideal
   pub record Distinct (m : ℕ) : Type 0 where
     pub same-apart : (i j : ℕ) → j ≤ i → Same K w i j → Apart m i j
     pub apart-same : (i j : ℕ) → Apart m i j → Same K w i j

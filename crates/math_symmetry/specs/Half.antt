@@ -1,8 +1,9 @@
--- The theorem a reader opens: half the walk tells the quasi-period m and the regulator R. It looks for the middle: the first i at which Q_{i+1} is a
--- constant times Q_i, which gives m = 2i + 1 and R = 2 deg p_i - (g + 1), or else P_{i+1} = P_{i+2}, which gives m = 2i + 2 and R = 2 deg p_i - deg
--- Q_{i+1}: `half`. The middle is below b exactly if m ≤ 2b, and exactly if some solution of X² - D Y² = c has a degree of at most deg p_{2b-1}:
--- `budget`. Carried by `Reflect`: each test says that the states before i and after it are the same, up to constants. distance (i + 1) is the degree
--- of the convergent p of index i, and R is distance m.
+-- The theorem a reader opens: half the walk tells the quasi-period m and the regulator R. It looks for the
+-- middle: the first i at which Q_{i+1} is a constant times Q_i, which gives m = 2i + 1 and R = 2 deg p_i - (g
+-- + 1), or else P_{i+1} = P_{i+2}, which gives m = 2i + 2 and R = 2 deg p_i - deg Q_{i+1}: `half`. The middle
+-- is below b exactly if m ≤ 2b, and exactly if some solution of X² - D Y² = c has a degree of at most deg
+-- p_{2b-1}: `budget`. Carried by `Reflect`: each test says that the states before i and after it are the
+-- same, up to constants. distance (i + 1) is the degree of the convergent p of index i, and R is distance m.
 use Prim.Native.Nat.{ℕ, zero, suc, _+_ as _+ₙ_, _-_ as _-ₙ_, _≤_, _<_}
 use native.Mathlib.Nat.{add-zero, add-suc}
 use native.Mathlib.Omega.{arith}
@@ -59,9 +60,10 @@ module _ {A : Type 0} (K : Field A) where
       pub before : NoMiddle i
       pub here : (MiddleQ i × (m ≡ suc (i +ₙ i))) ⊎ ((MiddleQ i → ⊥) × MiddleP i × (m ≡ suc (suc (i +ₙ i))))
 
-    -- The test of Q holds at i exactly if Q_{2i+1} is constant, and that of P exactly if Q_{2i+2} is. At the first i with one of them m is the
-    -- quasi-period, and the quasi-period has such an i. R + (g + 1) = 2 deg p_i where the test of Q holds, R + deg Q_{i+1} = 2 deg p_i where that of
-    -- P does. Both hold at one i only where m = 1: the order of the tests matters there only
+    -- The test of Q holds at i exactly if Q_{2i+1} is constant, and that of P exactly if Q_{2i+2} is. At the
+    -- first i with one of them m is the quasi-period, and the quasi-period has such an i. R + (g + 1) = 2 deg
+    -- p_i where the test of Q holds, R + deg Q_{i+1} = 2 deg p_i where that of P does. Both hold at one i
+    -- only where m = 1: the order of the tests matters there only
     pub record Half : Type 0 where
       pub Q-constant : (i : ℕ) → MiddleQ i → κ (suc (i +ₙ i)) ≡ 0
       pub Q-middle : (i : ℕ) → κ (suc (i +ₙ i)) ≡ 0 → MiddleQ i
@@ -73,9 +75,9 @@ module _ {A : Type 0} (K : Field A) where
       pub regulator-P : (i : ℕ) → MiddleP i → distance K w (suc (suc (i +ₙ i))) +ₙ κ (suc i) ≡ distance K w (suc i) +ₙ distance K w (suc i)
       pub both : (i : ℕ) → MiddleQ i → MiddleP i → QuasiPeriod K w 1
 
-    -- R by the degrees of the partial quotients, where height i is deg a_1 + .. + deg a_i: twice the sum up to a_i and g + 1 where the test of Q
-    -- holds, twice the sum up to a_{i+1} and deg Q_{i+1} where that of P does. And by p_{i-1}: 2 deg p_{i-1} - deg Q_i + deg a_{i+1} where the test
-    -- of Q holds
+    -- R by the degrees of the partial quotients, where height i is deg a_1 + .. + deg a_i: twice the sum up
+    -- to a_i and g + 1 where the test of Q holds, twice the sum up to a_{i+1} and deg Q_{i+1} where that of P
+    -- does. And by p_{i-1}: 2 deg p_{i-1} - deg Q_i + deg a_{i+1} where the test of Q holds
     pub record Duplication : Type 0 where
       pub sum-Q : (i : ℕ) → MiddleQ i → distance K w (suc (i +ₙ i)) ≡ height K w i +ₙ height K w i +ₙ suc g
       pub sum-P : (i : ℕ) → MiddleP i → distance K w (suc (suc (i +ₙ i))) ≡ height K w (suc i) +ₙ height K w (suc i) +ₙ κ (suc i)
@@ -93,8 +95,9 @@ module _ {A : Type 0} (K : Field A) where
     abbrev pub Solvable : ℕ → Type 0
     Solvable b = (X Y : P[x]) × (n : ℕ) × Solution K D X Y × Deg K X n × (n ≤ distance K w (b +ₙ b))
 
-    -- With the budget b: a test holds below b exactly if m ≤ 2b, and exactly if a solution has a degree of at most deg p_{2b-1}. Else no test holds
-    -- below b, which is so exactly if no Q_1 .. Q_{2b} is constant, and every solution has a larger degree
+    -- With the budget b: a test holds below b exactly if m ≤ 2b, and exactly if a solution has a degree of at
+    -- most deg p_{2b-1}. Else no test holds below b, which is so exactly if no Q_1 .. Q_{2b} is constant, and
+    -- every solution has a larger degree
     pub record Budget (b : ℕ) : Type 0 where
       pub found-within : Found b → Within b
       pub within-found : Within b → Found b

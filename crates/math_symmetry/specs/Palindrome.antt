@@ -1,5 +1,6 @@
--- The symmetry of the walk up to an index m at which Q is constant: read from the end, it has the same P and, up to constant factors, the same Q.
--- `symmetric` says so, and what follows of the distances. Carried by `Reflect` from the ends: P_1 = d = P_m, and Q_1 is a constant times Q_{m-1}.
+-- The symmetry of the walk up to an index m at which Q is constant: read from the end, it has the same P and,
+-- up to constant factors, the same Q. `symmetric` says so, and what follows of the distances. Carried by
+-- `Reflect` from the ends: P_1 = d = P_m, and Q_1 is a constant times Q_{m-1}.
 use Prim.Native.Nat.{ℕ, zero, suc, _+_ as _+ₙ_, _-_ as _-ₙ_, _≤_, _<_}
 use native.Mathlib.Nat.{add-zero}
 use native.Mathlib.Omega.{arith}
@@ -33,7 +34,8 @@ module _ {A : Type 0} (K : Field A) where
   module _ {g : ℕ} {D : P[x]} {o : Root K g D} (w : Walk K o) where
     open Walk w using (Q, P, κ, Q-deg, reduced)
 
-    -- P_{1+j} = P_{m-j}, Q_{1+j} is a constant times Q_{m-1-j}, and the distance of m - i is R less that of i plus deg Q_i, where R is the distance of m
+    -- P_{1+j} = P_{m-j}, Q_{1+j} is a constant times Q_{m-1-j}, and the distance of m - i is R less that of i
+    -- plus deg Q_i, where R is the distance of m
     pub record Symmetric (m : ℕ) : Type 0 where
       pub P-is : (j : ℕ) → j < m → P (suc j) ≡ P (m -ₙ j)
       pub Q-is : (j : ℕ) → j < m → Associate K (Q (suc j)) (Q (m -ₙ suc j))

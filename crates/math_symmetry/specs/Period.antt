@@ -1,6 +1,7 @@
--- The period. From an index m on at which Q is constant the walk repeats: k times round, state k m + i has the ideal of state i and, from the index 1
--- on, its P; and the distances are raised by k R, where R is the distance of m. `repeats` says so. Carried by `Same`: the states m and 0 have the
--- same ideal, and a step sees only the ideal.
+-- The period. From an index m on at which Q is constant the walk repeats: k times round, state k m + i has
+-- the ideal of state i and, from the index 1 on, its P; and the distances are raised by k R, where R is the
+-- distance of m. `repeats` says so. Carried by `Same`: the states m and 0 have the same ideal, and a step
+-- sees only the ideal.
 use Prim.Native.Nat.{ℕ, zero, suc, _+_ as _+ₙ_, _*_ as _*ₙ_, _<_}
 use native.Mathlib.Nat.{zero-add, suc-add, add-suc, suc-mul, zero-mul, add-zero}
 use native.Mathlib.Omega.{arith}
@@ -21,10 +22,9 @@ use Rattle.math_surd.specs.Convergents as convergents
 use Rattle.math_surd.specs.Distance.{distance, p-deg}
 
 module _ {A : Type 0} (K : Field A) where
-  open CRing (Series (F K)) using (add as _+_, mul as _*_, neg as -_, one as 𝟙)
+  open CRing (Series (F K)) using (add as _+_, neg as -_, one as 𝟙)
 
   infixl 6 _+_ _-_
-  infixl 7 _*_
   infix 8 -_
   infix 4 _≺_
   abbrev P[x] : Type 0
@@ -46,8 +46,8 @@ module _ {A : Type 0} (K : Field A) where
     abbrev p : ℕ → P[x]
     p = convergents.p K w
 
-    -- k times round: the same ideals and, from the index 1 on, the same P, with distances, which are the degrees of the convergents p, raised by k
-    -- times that of m
+    -- k times round: the same ideals and, from the index 1 on, the same P, with distances, which are the
+    -- degrees of the convergents p, raised by k times that of m
     pub record Repeats (m : ℕ) : Type 0 where
       pub ideal : (k i : ℕ) → Same K w (k *ₙ m +ₙ i) i
       pub P-is : (k i : ℕ) → P (k *ₙ m +ₙ suc i) ≡ P (suc i)

@@ -1,5 +1,6 @@
--- Reflection: where P_i = P_{j+1} and Q_i is a constant times Q_j, the same holds of i + 1 and j - 1, and so of all places from there, forward in i
--- and backward in j (`reflect-add`). Carried by rigidity, as the step is: P_{i+1} and P_j are congruent modulo Q_j and both near to d.
+-- Reflection: where P_i = P_{j+1} and Q_i is a constant times Q_j, the same holds of i + 1 and j - 1, and so
+-- of all places from there, forward in i and backward in j (`reflect-add`). Carried by rigidity, as the step
+-- is: P_{i+1} and P_j are congruent modulo Q_j and both near to d.
 use Prim.Native.Nat.{ℕ, zero, suc, _+_ as _+ₙ_}
 use native.Mathlib.Nat.{zero-add, suc-add}
 use native.Mathlib.Omega.{arith}

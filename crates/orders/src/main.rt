@@ -2,11 +2,9 @@
 // standard output.
 // `output` promises that the bytes are those of the definition `programOf`. No contract can speak of what a
 // call of C's reads or writes.
-mod output;
-
 use libc::STDIN_FILENO;
 use libc::STDOUT_FILENO;
-use output::output;
+use out_program::output;
 
 fn main() {
     let mut bytes = [0u8; 280];

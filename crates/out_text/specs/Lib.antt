@@ -1,4 +1,2 @@
-pub mod Decimal
-pub mod Digits
 pub mod Writing
-pub mod Lines
+pub mod Spaced

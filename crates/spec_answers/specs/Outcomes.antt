@@ -15,8 +15,9 @@ use Rattle.spec_definitions.specs.Walk as walk
 use Rattle.spec_definitions.specs.Answers.{Outcome, found, spent, refused, Said, said, said-injective, opsOf, rootOf, wordsOutcome, regulatorOf}
 use Rattle.spec_definitions.specs.Units.{Lists, unitAnswer}
 use Rattle.spec_definitions.specs.Listing.{listingAnswer}
+use Rattle.spec_laws.specs.Cases.{spent-not-found, refused-not-found, refused-not-spent, found-numbers, spent-numbers}
+use Rattle.spec_refusals.specs.LentLists.{Short, t1-lists}
 use Rattle.spec_demands.specs.Continued.{signed, Walks, t2}
-use Rattle.spec_demands.specs.LentLists.{Short, t1-lists}
 use Rattle.spec_expansion.specs.QuasiPeriod.{IsQuasiPeriod, quasi-period-unique, t2-exists}
 
 module _ (t : Ticket) where
@@ -72,23 +73,6 @@ abbrev pub T2OutcomeUnique : Type 0
 T2OutcomeUnique = (w : List ℕ) → refusalOf w ≡ 0 → (m : ℕ) → IsQuasiPeriod (ticketOf w) m → (x : Outcome) → FoundOrSpent (ticketOf w) m (said x) → x ≡ wordsOutcome w
 
 -- ---- the proof
--- different cases of an outcome
-spent-not-found : (k e R m c : ℕ) → spent k e ≢ found R m c
-spent-not-found k e R m c h = let z : _≡_ {A = ℕ} 0 1 = cc in omega arith
-
-refused-not-found : (j R m c : ℕ) → refused j ≢ found R m c
-refused-not-found j R m c h = let z : _≡_ {A = ℕ} 0 1 = cc in omega arith
-
-refused-not-spent : (j k e : ℕ) → refused j ≢ spent k e
-refused-not-spent j k e h = let z : _≡_ {A = ℕ} 0 1 = cc in omega arith
-
-module _ {R m c R′ m′ c′ : ℕ} where
-  found-numbers : found R m c ≡ found R′ m′ c′ → (R ≡ R′) × (m ≡ m′) × (c ≡ c′)
-  found-numbers e = (cc, cc, cc)
-
-spent-numbers : {k e k′ e′ : ℕ} → spent k e ≡ spent k′ e′ → (k ≡ k′) × (e ≡ e′)
-spent-numbers h = (cc, cc)
-
 same-head : {a b : ℕ} → _≡_ {A = List ℕ} (a ∷ []) (b ∷ []) → a ≡ b
 same-head h = cc
 

@@ -33,11 +33,11 @@ use Rattle.spec_fields.specs.Named.{IsField, Ok, Arithmetic, arithmetic, ok-sma
 use Rattle.spec_laws.specs.Surd.{Surd, Q-trim}
 use Rattle.spec_laws.specs.Fraction.{Q-some}
 use Rattle.spec_laws.specs.Admitted.{Admitted, is-field, surd-of, admitted, passed, degree-of}
-use Rattle.spec_demands.specs.Sentences.{Same}
-use Rattle.spec_demands.specs.Arithmetic.{Divides, series-same}
-use Rattle.spec_demands.specs.Records.{length-listing, record-listing, kinds-record}
+use Rattle.spec_sentences.specs.Sentences.{Same}
+use Rattle.spec_sentences.specs.Arithmetic.{Divides, series-same}
+use Rattle.spec_refusals.specs.Records.{length-listing, record-listing, kinds-record}
+use Rattle.spec_refusals.specs.LentLists.{t1-lists, found-passes}
 use Rattle.spec_demands.specs.Listings.{RecordHolds, t2-listings}
-use Rattle.spec_demands.specs.LentLists.{t1-lists, found-passes}
 use Rattle.spec_answers.specs.Refusals.{listing-found}
 
 -- record j + 1 in a list l of records of n + 4 words

@@ -20,13 +20,14 @@ use Rattle.spec_definitions.specs.Listing.{listingAnswer}
 use Rattle.spec_definitions.specs.Lookup.{recordAt, recordCount, lookupOf, placeOf}
 use Rattle.spec_definitions.specs.Products.{wrongPair, productAnswer, giantAnswer}
 use Rattle.spec_laws.specs.Admitted.{admitted}
-use Rattle.spec_demands.specs.Sentences.{Applies}
-use Rattle.spec_demands.specs.Tests.{tests-lt, tests-either, tests-stable, NoneBelow, none-more}
-use Rattle.spec_demands.specs.FirstRefusal.{t1}
+use Rattle.spec_laws.specs.Cases.{spent-not-found, refused-not-found, refused-not-spent}
+use Rattle.spec_sentences.specs.Sentences.{Applies}
+use Rattle.spec_sentences.specs.Tests.{tests-lt, tests-either, tests-stable, NoneBelow, none-more}
+use Rattle.spec_sentences.specs.FirstRefusal.{t1}
+use Rattle.spec_refusals.specs.Pairs.{WrongPair, WrongDistance, PairRefusals, t1-pairs, tests-pairs, tests-distances}
+use Rattle.spec_refusals.specs.Lookups.{WrongListing, t1-lookups, t2-lookups, tests-listing}
+use Rattle.spec_refusals.specs.LentLists.{Short, at-least, found-passes, t1-lists}
 use Rattle.spec_demands.specs.Continued.{StopsAt, Spends, Ends, Walks, t2}
-use Rattle.spec_demands.specs.Pairs.{WrongPair, WrongDistance, PairRefusals, t1-pairs, tests-pairs, tests-distances}
-use Rattle.spec_demands.specs.Lookups.{WrongListing, t1-lookups, t2-lookups, tests-listing}
-use Rattle.spec_demands.specs.LentLists.{Short, at-least, spent-not, refused-not, found-passes, t1-lists}
 
 -- sentence k is the first of 1 to 7 that applies to the words
 abbrev pub First : ℕ → List ℕ → Type 0
@@ -157,7 +158,7 @@ module _ (w : List ℕ) where
     where
       go : (n : ℕ) → refusalOf w ≡ n → None w × Spent w k e
       go zero z = (none-applies w z, subst (Walks (ticketOf w)) f (t2 w z) .ends)
-      go (suc n) z = absurd (let g : refused (suc n) ≡ spent k e = sym (outcome-by w (suc n) z) ∙ f in let y : _≡_ {A = ℕ} 0 1 = cc in omega arith)
+      go (suc n) z = absurd (refused-not-spent (suc n) k e (sym (outcome-by w (suc n) z) ∙ f))
 
 -- ---- a call that lends lists: its answer says `says`; `Lacks R m` says that the lists are too short for what is found, and `number` is then the refusal
 record Lends (w : List ℕ) (says : Said) (number : ℕ) (Lacks : ℕ → ℕ → Type 0) : Type 0 where
@@ -175,7 +176,7 @@ module _ {w : List ℕ} {says : Said} {number : ℕ} {Lacks : ℕ → ℕ → Ty
   said-other x e never = a .other (λ R m c f. never R m c (sym e ∙ f)) ∙ ap said e
 
   refused-is : (k : ℕ) → (says ≡ said (refused k)) ↔ (First k w ⊎ ((k ≡ number) × None w × TooShort))
-  refused-is k = (λ e. go (wordsOutcome w) refl e, ⊎-elim (λ f. said-other (refused k) (refused-outcome w f) (refused-not k)) back)
+  refused-is k = (λ e. go (wordsOutcome w) refl e, ⊎-elim (λ f. said-other (refused k) (refused-outcome w f) (refused-not-found k)) back)
     where
       go : (x : Outcome) → wordsOutcome w ≡ x → says ≡ said (refused k) → First k w ⊎ ((k ≡ number) × None w × TooShort)
       go (found R m c) f e = inr (same, none-applies w z, (R, m, c, subst (Walks (ticketOf w)) f (t2 w z) .ends, lacks))
@@ -184,35 +185,35 @@ module _ {w : List ℕ} {says : Said} {number : ℕ} {Lacks : ℕ → ℕ → Ty
           z = found-passes w R m c f
 
           lacks : Lacks R m
-          lacks = a .stable R m (λ never. refused-not k R m c (said-injective _ _ (sym e ∙ a .enough R m c f never)))
+          lacks = a .stable R m (λ never. refused-not-found k R m c (said-injective _ _ (sym e ∙ a .enough R m c f never)))
 
           same : k ≡ number
           same = let g : refused k ≡ refused number = said-injective _ _ (sym e ∙ a .short R m c f lacks) in cc
-      go (spent j d) f e = absurd (let g : spent j d ≡ refused k = said-injective _ _ (sym (said-other (spent j d) f (spent-not j d)) ∙ e) in let y : _≡_ {A = ℕ} 0 1 = cc in omega arith)
-      go (refused j) f e = inl (outcome-refused w k (f ∙ said-injective _ _ (sym (said-other (refused j) f (refused-not j)) ∙ e)))
+      go (spent j d) f e = absurd (refused-not-spent k j d (sym (said-injective _ _ (sym (said-other (spent j d) f (spent-not-found j d)) ∙ e))))
+      go (refused j) f e = inl (outcome-refused w k (f ∙ said-injective _ _ (sym (said-other (refused j) f (refused-not-found j)) ∙ e)))
 
       back : (k ≡ number) × None w × TooShort → says ≡ said (refused k)
       back (e, none, (R, m, c, s, lacks)) = a .short R m c (stops-outcome w none R m c s) lacks ∙ ap (λ (i : ℕ). said (refused i)) (sym e)
 
   spent-is : (k e : ℕ) → (says ≡ said (spent k e)) ↔ (None w × Spent w k e)
-  spent-is k e = (λ h. go (wordsOutcome w) refl h, λ s. said-other (spent k e) (spent-outcome w (s .0) k e (s .1)) (spent-not k e))
+  spent-is k e = (λ h. go (wordsOutcome w) refl h, λ s. said-other (spent k e) (spent-outcome w (s .0) k e (s .1)) (spent-not-found k e))
     where
       go : (x : Outcome) → wordsOutcome w ≡ x → says ≡ said (spent k e) → None w × Spent w k e
-      go (found R m c) f h = absurd (spent-not k e R m c (said-injective _ _ (sym h ∙ a .enough R m c f never)))
+      go (found R m c) f h = absurd (spent-not-found k e R m c (said-injective _ _ (sym h ∙ a .enough R m c f never)))
         where
           never : ¬ Lacks R m
-          never lacks = let g : spent k e ≡ refused number = said-injective _ _ (sym h ∙ a .short R m c f lacks) in let y : _≡_ {A = ℕ} 0 1 = cc in omega arith
-      go (spent j d) f h = outcome-spent w k e (f ∙ said-injective _ _ (sym (said-other (spent j d) f (spent-not j d)) ∙ h))
-      go (refused j) f h = absurd (let g : refused j ≡ spent k e = said-injective _ _ (sym (said-other (refused j) f (refused-not j)) ∙ h) in let y : _≡_ {A = ℕ} 0 1 = cc in omega arith)
+          never lacks = refused-not-spent number k e (sym (said-injective _ _ (sym h ∙ a .short R m c f lacks)))
+      go (spent j d) f h = outcome-spent w k e (f ∙ said-injective _ _ (sym (said-other (spent j d) f (spent-not-found j d)) ∙ h))
+      go (refused j) f h = absurd (refused-not-spent j k e (said-injective _ _ (sym (said-other (refused j) f (refused-not-found j)) ∙ h)))
 
   -- what is said to be found is the words' outcome
   found-outcome : (R m c : ℕ) → says ≡ said (found R m c) → wordsOutcome w ≡ found R m c
   found-outcome R m c e = go (wordsOutcome w) refl
     where
       go : (x : Outcome) → wordsOutcome w ≡ x → wordsOutcome w ≡ found R m c
-      go (found R′ m′ c′) f = f ∙ said-injective _ _ (sym (a .enough R′ m′ c′ f (λ lacks. refused-not number R m c (said-injective _ _ (sym (a .short R′ m′ c′ f lacks) ∙ e)))) ∙ e)
-      go (spent j d) f = f ∙ said-injective _ _ (sym (said-other (spent j d) f (spent-not j d)) ∙ e)
-      go (refused j) f = f ∙ said-injective _ _ (sym (said-other (refused j) f (refused-not j)) ∙ e)
+      go (found R′ m′ c′) f = f ∙ said-injective _ _ (sym (a .enough R′ m′ c′ f (λ lacks. refused-not-found number R m c (said-injective _ _ (sym (a .short R′ m′ c′ f lacks) ∙ e)))) ∙ e)
+      go (spent j d) f = f ∙ said-injective _ _ (sym (said-other (spent j d) f (spent-not-found j d)) ∙ e)
+      go (refused j) f = f ∙ said-injective _ _ (sym (said-other (refused j) f (refused-not-found j)) ∙ e)
 
 -- ---- the calls
 regulator-is : (w : List ℕ) (k : ℕ) → (regulatorOf w ≡ said (refused k)) ↔ First k w

@@ -16,9 +16,10 @@ use Rattle.spec_lists.specs.Pad.{length-pad, pad-at}
 use Rattle.spec_bridge.specs.Trim.{size-is, length-trim}
 use Rattle.spec_fields.specs.Named.{arithmetic}
 use Rattle.spec_laws.specs.Admitted.{Admitted, is-field, admitted}
+use Rattle.spec_laws.specs.Cases.{refused-not-found}
+use Rattle.spec_refusals.specs.LentLists.{KeepsFrom, t1-lists, found-passes}
 use Rattle.spec_demands.specs.Continued.{StopsAt, Walks, t2}
 use Rattle.spec_demands.specs.Written.{s-fits}
-use Rattle.spec_demands.specs.LentLists.{KeepsFrom, t1-lists, refused-not, found-passes}
 use Rattle.spec_answers.specs.Refusals.{unit-found}
 
 -- "in places 0 to R, constant term first, zeros above the degree .. Later places keep what they had.": `new`
@@ -55,7 +56,7 @@ lists-written t x l R m c f e = ap (λ (y : Outcome). unitFrom t y l .lists) f �
 
     go : (b : Bool) → by b .says ≡ said (found R m c) → by b .lists ≡ unitLists t R m l
     go true k = refl
-    go false k = absurd (refused-not 12 R m c (said-injective _ _ k))
+    go false k = absurd (refused-not-found 12 R m c (said-injective _ _ k))
 
 s-most : (t : Ticket) → Admitted (t .field) (genus (t .n)) (t .D) → (R m : ℕ) → R ≡ deg (opsOf t) (pBefore (opsOf t) (t .D) (rootOf t) m) → size (opsOf t) (sBefore (opsOf t) (t .D) (rootOf t) m) ≤ suc R
 unfolding rootOf degreeBefore

@@ -12,7 +12,7 @@ use Rattle.math_ring.specs.Identity.{ring, ring-from, times, quote}
 use Rattle.math_ring.specs.Series.{Series, addS, conv, negS, con}
 use Rattle.math_ring.specs.Degree.{Below}
 use Rattle.spec_arithmetic.specs.Field.{Ops}
-use Rattle.spec_arithmetic.specs.Polynomials.{Split, at, trim, sub, scale, put, divide, lead, quo, rem}
+use Rattle.spec_arithmetic.specs.Polynomials.{Split, at, trim, scale, put, divide, lead, quo, rem}
 use Rattle.spec_bridge.specs.Model.{Model, Inverts, Oks, series, series-nil}
 use Rattle.spec_bridge.specs.Trim.{Trim, trim-idem, below-length, length-le, series-trim, lead-some, lead-is, trim-kept, oks-trim}
 use Rattle.spec_bridge.specs.Arithmetic.{X, at-sub, at-scale, oks-sub, trim-sub, series-cons, series-sub, series-scale}

@@ -1,6 +1,6 @@
 -- Division and greatest common divisor of lists are the field's: the definitions take the steps of Euclid's
 -- recursion, so that Bezout's identity and divisibility carry over.
-use Prim.Native.Nat.{ℕ, zero, suc, _+_ as _+ₙ_, _-_ as _-ₙ_, _≤_, _<_}
+use Prim.Native.Nat.{ℕ, zero, suc, _-_ as _-ₙ_, _≤_, _<_}
 use native.Mathlib.Omega.{arith}
 use mathlib.Core.Path.{_≡_, sym, ap, _∙_, subst}
 use mathlib.Core.Logic.{⊎-elim}
@@ -12,17 +12,16 @@ use Rattle.math_ring.specs.Series.{Series, conv, zerS, con}
 use Rattle.math_algebra.specs.Field.{Field}
 use Rattle.math_algebra.specs.Polynomial.{F}
 use Rattle.math_algebra.specs.Divides.{Divides}
-use Rattle.math_algebra.specs.Division.{Division, quotient-deg}
 use Rattle.math_algebra.specs.Gcd.{IsGcd, gcd-base-zero, gcd-base, gcd-step}
 use Rattle.spec_arithmetic.specs.Field.{Ops}
 use Rattle.spec_arithmetic.specs.Polynomials.{trim, lead, quo, rem, monic, gcd}
 use Rattle.spec_bridge.specs.Model.{Model, Inverts, series}
 use Rattle.spec_bridge.specs.Trim.{below-length, trim-nil, lead-is, lead-some}
-use Rattle.spec_bridge.specs.Division.{series-quo-rem, rem-below, rem-less, rem-by-zero, trim-rem, trim-quo}
-use Rattle.spec_bridge.specs.Quotient.{quo-length, quo-exact}
+use Rattle.spec_bridge.specs.Division.{series-quo-rem, rem-less, rem-by-zero, trim-rem}
+use Rattle.spec_bridge.specs.Quotient.{quo-exact}
 use Rattle.spec_bridge.specs.Monic.{series-monic}
 use Rattle.spec_bridge.specs.Gcd.{gcd-zero, gcd-rule}
-use Rattle.spec_bridge.specs.Degree.{series-deg, series-zero, deg-size, zero-size}
+use Rattle.spec_bridge.specs.Degree.{series-deg, series-zero, zero-size}
 
 module _ {A B : Type 0} {o : Ops A} (K : Field B) (M : Model o (K .scalars)) (I : Inverts M) where
   open Model M using (φ)
@@ -30,16 +29,6 @@ module _ {A B : Type 0} {o : Ops A} (K : Field B) (M : Model o (K .scalars)) (I 
   -- the field's inverse
   pub φ-inv : (a : A) → (φ a ≡ F K .zer → ⊥) → φ (o .inv a) ≡ K .inv (φ a)
   φ-inv a h = ring-from (F K) (φ a ∷ φ (o .inv a) ∷ K .inv (φ a) ∷ []) (plus (F K) (times (F K) (K .inv (φ a)) (I .inv-mul a h)) (times (F K) (F K .neg (φ (o .inv a))) (K .inv-mul (φ a) h))) (search quote depth 40 fits 9999) tt
-
-  -- ---- division with remainder
-  abbrev pub division-of : (a b : List A) → 0 < length (trim o b) → Division K (series M a) (series M b) (length (quo o a b)) (length (trim o b) -ₙ 1)
-  division-of a b h = record {
-    quo = series M (quo o a b);
-    rem = series M (rem o a b);
-    is = series-quo-rem M a b;
-    quo-low = below-length M (quo o a b);
-    rem-low = rem-below M I a b h;
-  }
 
   -- ---- divisibility: the remainder is 0
   pub divides-rem-none : (a b : List A) → Divides K (series M b) (series M a) → rem o a b ≡ []

@@ -5,7 +5,7 @@ use native.Mathlib.Nat.{mod-lt, div-add-mod, mul-mod-right, mul-le-mul, mul-le-m
 use native.Mathlib.Omega.{arith}
 use mathlib.Core.Path.{_≡_, refl, sym, ap, _∙_, subst}
 use mathlib.Core.Logic.{_⊎_, inl, inr, ⊎-elim}
-use mathlib.Core.Bool.{Bool, true, false, _&&_}
+use mathlib.Core.Bool.{Bool, true, false, _&&_, false≢true}
 use lib.Dec.{ltb, eqb}
 use borrow.Author.Tests.{ltb-true, ltb-false, eqb-true, eqb-false, lt-ltb}
 use Rattle.math_ring.specs.Order.{le-or-lt}
@@ -38,7 +38,7 @@ no-divisor-true (suc k) d q t e low high sq z = go (ltb q (d * d)) refl (eqb (q 
     go : (b : Bool) → ltb q (d * d) ≡ b → (c : Bool) → eqb (q % d) 0 ≡ c → (elim b [ true ↦ true | false ↦ elim c [ true ↦ false | false ↦ noDivisor k (suc d) q ] ]) ≡ true
         → (noDivisor k (suc d) q ≡ true → (e : ℕ) → suc d ≤ e → e < suc d + k → e * e ≤ q → q % e ≡ 0 → ⊥) → ⊥
     go true u c v t rest = let w : q < d * d = ltb-true q (d * d) u in let m : d * d ≤ e * e = mul-le-mul low low in omega arith
-    go false u true v t rest = let w : _≡_ {A = Bool} false true = t in absurd (let n : _≡_ {A = ℕ} 0 1 = cc in omega arith)
+    go false u true v t rest = absurd (false≢true t)
     go false u false v t rest = ⊎-elim (λ (w : d ≡ e). eqb-false (q % d) 0 v (ap (λ n. q % n) w ∙ z)) (λ (w : d < e). rest t e w (omega arith) sq z) (eq-or-lt-of-le low)
 
 no-divisor-prime : (q : ℕ) → Prime q → (k d : ℕ) → 2 ≤ d → noDivisor k d q ≡ true
@@ -80,8 +80,8 @@ odd-prime-true q t = go (ltb q 4096) refl (ltb 2 q) refl t
 
         odd : q % 2 ≡ 1
         odd = let low : q % 2 < 2 = mod-lt q (omega arith) in let not : q % 2 ≡ 0 → ⊥ = prime .none 2 (omega arith) (ltb-true 2 q v) in ⊎-elim (λ h. omega arith) (λ h. absurd (not (omega arith))) (le-or-lt 1 (q % 2))
-    go true u false v t = absurd (let n : _≡_ {A = ℕ} 0 1 = cc in omega arith)
-    go false u c v t = absurd (let n : _≡_ {A = ℕ} 0 1 = cc in omega arith)
+    go true u false v t = absurd (false≢true t)
+    go false u c v t = absurd (false≢true t)
 
 pub odd-prime-more : (q : ℕ) → OddPrime q → 2 < q
 odd-prime-more q r = ⊎-elim (λ (e : 2 ≡ q). absurd (let z : _≡_ {A = ℕ} 0 1 = ap (λ n. n % 2) e ∙ r .odd in omega arith)) (λ h. h) (eq-or-lt-of-le (r .prime .two))

@@ -10,7 +10,7 @@ use Rattle.math_ring.specs.Identity.{ring-from, times, quote}
 use Rattle.math_ring.specs.Series.{Series}
 use Rattle.math_algebra.specs.Field.{Field}
 use Rattle.math_algebra.specs.Polynomial.{F, Px, _≺_, Monic, low-up, low-path, monic-mul, monic-sub, monic-dominant, monic-path}
-use Rattle.math_algebra.specs.Root.{IsRoot, root-step, root-unique}
+use Rattle.math_algebra.specs.Root.{IsRoot, root-step}
 use Rattle.spec_arithmetic.specs.Field.{Ops}
 use Rattle.spec_arithmetic.specs.Polynomials.{at, cons, trim, add, sub, mul, monomial, rootIn, root}
 use Rattle.spec_bridge.specs.Model.{Model, Inverts, Oks, series}

@@ -37,7 +37,7 @@ use Rattle.spec_laws.specs.Signs as signs
 use Rattle.spec_laws.specs.Norms as norms
 use Rattle.spec_laws.specs.QuasiPeriod.{Quasi, NoQuasi, Says, quasi-says, some-quasi}
 use Rattle.spec_laws.specs.Admitted.{Admitted, is-field, surd-of, admitted}
-use Rattle.spec_demands.specs.Sentences.{Same, Operators, operators}
+use Rattle.spec_sentences.specs.Sentences.{Same, Operators, operators}
 
 -- f(1) + .. + f(i)
 unfoldable pub sumTo : (ℕ → ℕ) → ℕ → ℕ

@@ -9,9 +9,10 @@ use Rattle.spec_definitions.specs.Ticket.{ticketOf}
 use Rattle.spec_definitions.specs.Answers.{Outcome, found, spent, refused, said, wordsOutcome}
 use Rattle.spec_definitions.specs.Units.{Lists, unitAnswer}
 use Rattle.spec_definitions.specs.Listing.{listingAnswer}
+use Rattle.spec_laws.specs.Cases.{refused-not-spent}
 use Rattle.spec_demands.specs.LeastDegree.{LeastFound, Least, t3}
 use Rattle.spec_demands.specs.Written.{unitIn, t3-unit}
-use Rattle.spec_demands.specs.Numbered.{spent-refused, unit-says, listing-says}
+use Rattle.spec_demands.specs.Numbered.{unit-says, listing-says}
 
 -- T3 of the outcome that the call `listing` says
 abbrev pub T3Listing : Type 0
@@ -34,7 +35,7 @@ t3-listing w l x e = ⊎-elim (λ h. subst (Least w) h (t3 w)) (λ h. subst (Lea
 
 unit-spent : (w : List ℕ) (l : Lists) (k d : ℕ) → unitAnswer w l .says ≡ said (spent k d) → Least w (spent k d)
 unfolding unitAnswer
-unit-spent w l k d e = ⊎-elim (λ h. subst (Least w) h (t3 w)) (λ h. absurd (spent-refused k d 12 h)) (unit-says (ticketOf w) l (spent k d) (wordsOutcome w) e)
+unit-spent w l k d e = ⊎-elim (λ h. subst (Least w) h (t3 w)) (λ h. absurd (refused-not-spent 12 k d (sym h))) (unit-says (ticketOf w) l (spent k d) (wordsOutcome w) e)
 
 pub t3-written : T3Written
 t3-written w l (found R m c) e = t3-unit w l R m c e

@@ -32,8 +32,8 @@ use Rattle.spec_laws.specs.Norms.{unit-norm}
 use Rattle.spec_laws.specs.QuasiPeriod.{Quasi, NoQuasi, Says, quasi-says}
 use Rattle.spec_laws.specs.Solutions as solutions
 use Rattle.spec_laws.specs.Admitted.{Admitted, is-field, surd-of, admitted}
-use Rattle.spec_demands.specs.Sentences.{Same}
-use Rattle.spec_demands.specs.Arithmetic.{series-same}
+use Rattle.spec_sentences.specs.Sentences.{Same}
+use Rattle.spec_sentences.specs.Arithmetic.{series-same}
 
 -- p² − D·s²
 abbrev pub norm : FieldName → List ℕ → List ℕ → List ℕ → List ℕ

@@ -32,10 +32,10 @@ use Rattle.spec_laws.specs.Fraction.{fraction, Q-deg, Q-some, Q-length}
 use Rattle.spec_laws.specs.Convergents.{degree-zero, degree-rise, degree-most}
 use Rattle.spec_laws.specs.Reduced.{reduced-ideal}
 use Rattle.spec_laws.specs.Admitted.{Admitted, is-field, surd-of, admitted, passed, degree-of, budget-less}
+use Rattle.spec_refusals.specs.Lookups.{WrongListing, tests-listing}
+use Rattle.spec_refusals.specs.Pairs.{IsPair, is-pair}
+use Rattle.spec_refusals.specs.Records.{kinds-record, count-listing, length-listing, whole-listing, record-listing, distance-listing, kinds-listing, rising-listing}
 use Rattle.spec_demands.specs.Continued.{StopsAt, Walks, t2}
-use Rattle.spec_demands.specs.Lookups.{WrongListing, tests-listing}
-use Rattle.spec_demands.specs.Pairs.{IsPair, is-pair}
-use Rattle.spec_demands.specs.Records.{kinds-record, count-listing, length-listing, whole-listing, record-listing, distance-listing, kinds-listing, rising-listing}
 
 -- record j + 1: each number fits into its words of 28 bits, no coefficient is left out, mirror and distance
 -- make up R, and the pair is an ideal

@@ -14,6 +14,7 @@ use Rattle.spec_definitions.specs.Walk.{quasiPeriod, degreeBefore, constantOf}
 use Rattle.spec_definitions.specs.Answers.{Outcome, found, spent, refused, said, said-injective, opsOf, rootOf, outcomeOf, wordsOutcome, regulatorOf}
 use Rattle.spec_definitions.specs.Units.{Lists, UnitAnswer, longEnough, unitLists, unitFrom, unitAnswer}
 use Rattle.spec_definitions.specs.Listing.{ListingAnswer, listingOf, listingFrom, listingAnswer}
+use Rattle.spec_laws.specs.Cases.{refused-not-found, refused-not-spent, refused-number}
 
 -- x is not a refusal with the number of an answer found or spent
 pub record Numbered (x : Outcome) : Type 0 where
@@ -43,23 +44,14 @@ refusal-other w =
     first-other 1 _ _ (λ e. omega arith) (first-other 2 _ _ (λ e. omega arith) (first-other 3 _ _ (λ e. omega arith) (first-other 4 _ _ (λ e. omega arith)
     (first-other 5 _ _ (λ e. omega arith) (first-other 6 _ _ (λ e. omega arith) (first-other 7 _ _ (λ e. omega arith) none-other))))))
 
-refused-number : {i j : ℕ} → refused i ≡ refused j → i ≡ j
-refused-number e = cc
-
 pub numbered : (j : ℕ) → (j ≡ 0 → ⊥) → (j ≡ 11 → ⊥) → Numbered (refused j)
 numbered j z e = record { not-zero = λ h. z (refused-number h); not-eleven = λ h. e (refused-number h) }
 
-found-refused : (R m c j : ℕ) → found R m c ≡ refused j → ⊥
-found-refused R m c j h = let z : _≡_ {A = ℕ} 0 1 = cc in omega arith
-
-pub spent-refused : (k e j : ℕ) → spent k e ≡ refused j → ⊥
-spent-refused k e j h = let z : _≡_ {A = ℕ} 0 1 = cc in omega arith
-
 pub numbered-found : (R m c : ℕ) → Numbered (found R m c)
-numbered-found R m c = record { not-zero = found-refused R m c 0; not-eleven = found-refused R m c 11 }
+numbered-found R m c = record { not-zero = λ h. refused-not-found 0 R m c (sym h); not-eleven = λ h. refused-not-found 11 R m c (sym h) }
 
 pub numbered-spent : (k e : ℕ) → Numbered (spent k e)
-numbered-spent k e = record { not-zero = spent-refused k e 0; not-eleven = spent-refused k e 11 }
+numbered-spent k e = record { not-zero = λ h. refused-not-spent 0 k e (sym h); not-eleven = λ h. refused-not-spent 11 k e (sym h) }
 
 numbered-ticket : (t : Ticket) → Numbered (outcomeOf t)
 unfolding outcomeOf

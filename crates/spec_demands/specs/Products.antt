@@ -38,11 +38,11 @@ use Rattle.spec_laws.specs.Product as product
 use Rattle.spec_laws.specs.Reduction.{next-divides, stated, Q-size, a-size, turns-first}
 use Rattle.spec_laws.specs.Reduced.{reduced-ideal}
 use Rattle.spec_laws.specs.Shift.{turns-few, shift-not-positive, shift-least}
-use Rattle.spec_demands.specs.Sentences.{Operators, operators}
-use Rattle.spec_demands.specs.Arithmetic.{Divides, lead-is-one, gcd-rules}
-use Rattle.spec_demands.specs.Tests.{tests-none}
+use Rattle.spec_sentences.specs.Sentences.{Operators, operators}
+use Rattle.spec_sentences.specs.Arithmetic.{Divides, lead-is-one, gcd-rules}
+use Rattle.spec_sentences.specs.Tests.{tests-none}
+use Rattle.spec_refusals.specs.Pairs.{IsPair, GivenPair, WrongDistance, exact, is-pair, pairs-passed, tests-distances, product-by, giant-by}
 use Rattle.spec_demands.specs.Continued.{sumTo}
-use Rattle.spec_demands.specs.Pairs.{IsPair, GivenPair, WrongDistance, exact, is-pair, pairs-passed, tests-distances, product-by, giant-by}
 
 module _ (f : FieldName) where
   open Operators (operators f) using (plus as _⊕_, minus as _⊖_, times as _⊗_)

@@ -20,8 +20,9 @@ use Rattle.spec_bridge.specs.Arithmetic.{mul-cong, scale-cong}
 use Rattle.spec_fields.specs.Named.{IsField, arithmetic}
 use Rattle.spec_laws.specs.Convergents.{s-zero, p-length, s-length}
 use Rattle.spec_laws.specs.Admitted.{Admitted, is-field, surd-of, admitted}
-use Rattle.spec_demands.specs.Sentences.{Same}
-use Rattle.spec_demands.specs.Arithmetic.{same-series}
+use Rattle.spec_laws.specs.Cases.{spent-not-found, refused-not-found}
+use Rattle.spec_sentences.specs.Sentences.{Same}
+use Rattle.spec_sentences.specs.Arithmetic.{same-series}
 use Rattle.spec_demands.specs.LeastDegree.{norm, Multiple, LeastFound, LeastIn, least-outcome}
 
 -- places 0 to R of the first two lists
@@ -96,9 +97,9 @@ module _ (t : Ticket) where
         where
           u : UnitPair ℕ
           u = unitOf (opsOf t) (t .D) (rootOf t) m′
-      go false k = absurd (let y : refused 12 ≡ found R m c = said-injective _ _ k in let z : _≡_ {A = ℕ} 0 1 = cc in omega arith)
-  answer p l (spent k e′) h f R m c e = absurd (let y : spent k e′ ≡ found R m c = said-injective _ _ e in let z : _≡_ {A = ℕ} 0 1 = cc in omega arith)
-  answer p l (refused j) h f R m c e = absurd (let y : refused j ≡ found R m c = said-injective _ _ e in let z : _≡_ {A = ℕ} 0 1 = cc in omega arith)
+      go false k = absurd (refused-not-found 12 R m c (said-injective _ _ k))
+  answer p l (spent k e′) h f R m c e = absurd (spent-not-found k e′ R m c (said-injective _ _ e))
+  answer p l (refused j) h f R m c e = absurd (refused-not-found j R m c (said-injective _ _ e))
 
   fits : Admitted (t .field) (genus (t .n)) (t .D) → Fits (outcomeOf t)
   unfolding outcomeOf rootOf unitOf
@@ -120,4 +121,4 @@ t3-unit w l R m c = go (refusalOf w) refl
 
     go : (k : ℕ) → refusalOf w ≡ k → unitFrom (ticketOf w) (x k) l .says ≡ said (found R m c) → LeastFound (ticketOf w .field) (ticketOf w .D) (unitIn R (unitFrom (ticketOf w) (x k) l .lists)) R c
     go zero e u = let h = admitted w e in answer (ticketOf w) (is-field h) l (outcomeOf (ticketOf w)) (least-outcome (ticketOf w) h) (fits (ticketOf w) h) R m c u
-    go (suc k) e u = absurd (let y : refused (suc k) ≡ found R m c = said-injective _ _ u in let z : _≡_ {A = ℕ} 0 1 = cc in omega arith)
+    go (suc k) e u = absurd (refused-not-found (suc k) R m c (said-injective _ _ u))

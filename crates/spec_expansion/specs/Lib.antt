@@ -1,4 +1,3 @@
 pub mod PolynomialPart
-pub mod Pigeonhole
 pub mod Digits
 pub mod QuasiPeriod

@@ -34,9 +34,9 @@ use Rattle.spec_bridge.specs.Root.{monomial-low, monomial-top, root-is}
 use Rattle.spec_laws.specs.Surd.{Surd, r as remainder}
 use Rattle.spec_laws.specs.Fraction.{Q-deg, divide, rem-low}
 use Rattle.spec_laws.specs.Admitted.{is-field, surd-of, admitted, monic-D}
-use Rattle.spec_demands.specs.Sentences.{AllowedField, Same, Operators, operators}
-use Rattle.spec_demands.specs.Readings.{named-field}
-use Rattle.spec_demands.specs.Arithmetic.{series-same}
+use Rattle.spec_sentences.specs.Sentences.{AllowedField, Same, Operators, operators}
+use Rattle.spec_sentences.specs.Readings.{named-field}
+use Rattle.spec_sentences.specs.Arithmetic.{series-same}
 use Rattle.spec_demands.specs.Continued.{RootOf}
 
 module _ (f : FieldName) where
@@ -109,7 +109,7 @@ module _ (f : FieldName) (named : IsField f) where
   abbrev I : Inverts M
   I = arithmetic f named .I
 
-  open CRing (Series (F K)) using (add as _+_, mul as _*_, neg as -_, zer as 𝟘, one as 𝟙)
+  open CRing (Series (F K)) using (add as _+_, mul as _*_, neg as -_, one as 𝟙)
 
   infixl 6 _+_ _-_
   infixl 7 _*_

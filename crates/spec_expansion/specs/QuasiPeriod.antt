@@ -15,6 +15,7 @@ use Rattle.math_algebra.specs.Field.{Field}
 use Rattle.math_algebra.specs.Polynomial.{F, Px}
 use Rattle.math_algebra.specs.Divides.{divides-path, divides-zero}
 use Rattle.math_algebra.specs.Associate.{associate-path}
+use Rattle.math_counting.specs.Repeats.{Repeats, repeated-value}
 use Rattle.math_surd.specs.Walk.{κ-first}
 use Rattle.math_surd.specs.Same.{Same, same-prior, same-κ}
 use Rattle.math_surd.specs.QuasiPeriod.{QuasiPeriod, quasi-period}
@@ -31,7 +32,6 @@ use Rattle.spec_laws.specs.Fraction.{fraction, Q-length, Q-some}
 use Rattle.spec_laws.specs.Walk.{P-length}
 use Rattle.spec_laws.specs.QuasiPeriod.{size-length}
 use Rattle.spec_laws.specs.Admitted.{Admitted, is-field, surd-of, admitted}
-use Rattle.spec_expansion.specs.Pigeonhole.{Repeats, pigeonhole}
 use Rattle.spec_expansion.specs.Digits.{Digits, number, number-below, number-tells, sum-tells}
 
 -- m is the least index from 1 up whose Q is a nonzero constant, with no bound on it
@@ -116,7 +116,7 @@ module _ {f : FieldName} {g : ℕ} {D : List ℕ} (h : Admitted f g D) where
   exists = ⊎-elim (λ s. (s .0, s .2)) (λ never. absurd (never k (omega (arith, r .rises)) (omega arith) constant)) (quasi-period K (fraction z) k)
     where
       r : Repeats pair-number (B * B)
-      r = pigeonhole (B * B) pair-number (λ i _. pair-below i)
+      r = repeated-value (B * B) pair-number (λ i _. pair-below i)
 
       k : ℕ
       k = r .second - r .first

@@ -5,7 +5,7 @@ use native.Mathlib.Nat.{mod-lt, div-add-mod}
 use native.Mathlib.Numerals.{add-one}
 use native.Mathlib.Omega.{arith}
 use mathlib.Core.Path.{_≡_, refl, sym, ap, _∙_}
-use mathlib.Core.Bool.{Bool, true, false, not, _||_}
+use mathlib.Core.Bool.{Bool, true, false, not, _||_, true≢false}
 use mathlib.Core.List.{List, [], _∷_}
 use lib.Dec.{ltb, eqb}
 use lib.ListN.{length, getD, take, drop, length-map, length-drop}
@@ -25,6 +25,7 @@ use Rattle.spec_bridge.specs.Root.{root-is, trim-root, oks-root}
 use Rattle.spec_fields.specs.Named.{IsField, Ok, arithmetic, fits-ok, ok-zero, φ-first}
 use Rattle.spec_laws.specs.Surd.{Surd}
 use Rattle.spec_laws.specs.NoSquare as squarefree
+use Rattle.spec_laws.specs.FirstTest.{neither, first-none}
 
 abbrev pub field-from : {f : FieldName} → Prime (f .q) → 2 < f .q → f .q < 4096 → IsField f
 field-from p l u = record { prime = p; odd = l; small = u }
@@ -60,15 +61,6 @@ surd-of {f} {g} {D} h = record {
 }
 
 -- ---- none of the tests applies
-first-none : (k : ℕ) (t : Bool) (l : List (ℕ × Bool)) → firstOf ((suc k, t) ∷ l) ≡ 0 → (t ≡ false) × (firstOf l ≡ 0)
-unfolding firstOf
-first-none k true l e = absurd (omega arith)
-first-none k false l e = (refl, e)
-
-neither : (s t : Bool) → (s || t) ≡ false → (s ≡ false) × (t ≡ false)
-neither true t e = absurd (let z : _≡_ {A = ℕ} 0 1 = cc in omega arith)
-neither false t e = (refl, e)
-
 pub record Passed (w : List ℕ) (t : Ticket) : Type 0 where
   pub head : wrongHead (1 ∷ []) w ≡ false
   pub prime : wrongPrime (t .field .q) ≡ false
@@ -116,20 +108,21 @@ below-of f z [] e i = z
 below-of f z (x ∷ l) e i = go (fits f x) refl e i (below-of f z l)
   where
     go : (t : Bool) → fits f x ≡ t → (elim t [ true ↦ someNot (fits f) l | false ↦ true ]) ≡ false → (i : ℕ) → (someNot (fits f) l ≡ false → (i : ℕ) → Ok f (getD l i 0)) → Ok f (getD (x ∷ l) i 0)
-    go false h k i rest = absurd (let z : _≡_ {A = ℕ} 0 1 = cc in omega arith)
+    go false h k i rest = absurd (true≢false k)
     go true h k zero rest = fits-ok f x h
     go true h k (suc i) rest = rest k i
 
+pub layout-length : (n : ℕ) (w : List ℕ) → wrongLayout n w ≡ false → length w ≡ n + 5
+unfolding wrongLayout
+layout-length n w e = eqb-true (length w) (n + 5) (not-false (eqb (length w) (n + 5)) (neither (not (eqb (length w) (n + 5))) _ (neither _ (not (eqb (value (getD w (n + 4) 0)) (n + 4))) e .0) .0))
+
 -- n + 5 words hold n + 1 coefficients
 pub length-of : (w : List ℕ) → wrongLayout (ticketOf w .n) w ≡ false → length (ticketOf w .D) ≡ suc (ticketOf w .n)
-unfolding wrongLayout ticketOf
-length-of w e = length-map (take (n + 1) (drop 2 w)) value ∙ length-take-le (n + 1) (drop 2 w) (omega (arith, length-drop 2 w, all)) ∙ add-one n
+unfolding ticketOf
+length-of w e = length-map (take (n + 1) (drop 2 w)) value ∙ length-take-le (n + 1) (drop 2 w) (omega (arith, length-drop 2 w, layout-length n w e)) ∙ add-one n
   where
     n : ℕ
     n = value (getD w 1 0)
-
-    all : length w ≡ n + 5
-    all = eqb-true (length w) (n + 5) (not-false (eqb (length w) (n + 5)) (neither (not (eqb (length w) (n + 5))) _ (neither _ (not (eqb (value (getD w (n + 4) 0)) (n + 4))) e .0) .0))
 
 pub lead-of : (n : ℕ) (D : List ℕ) → wrongLead n D ≡ false → getD D n 0 ≡ 1
 unfolding wrongLead

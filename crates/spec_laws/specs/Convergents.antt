@@ -25,7 +25,7 @@ use Rattle.spec_laws.specs.Surd.{Surd, deg-length, series-one, trim-one,
 use Rattle.spec_laws.specs.Fraction.{fraction, Q-some}
 
 module _ {A B : Type 0} {o : Ops A} {K : Field B} {M : Model o (F K)} {g : ℕ} {D d : List A} (h : Surd K M g D d) where
-  open CRing (Series (F K)) using (add as _+_, mul as _*_, neg as -_, zer as 𝟘, one as 𝟙)
+  open CRing (Series (F K)) using (add as _+_, mul as _*_, neg as -_, one as 𝟙)
 
   infixl 6 _+_
   infixl 7 _*_

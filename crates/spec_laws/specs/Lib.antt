@@ -13,9 +13,13 @@ pub mod Reduction
 pub mod ReductionSizes
 pub mod Reduced
 pub mod Shift
+pub mod FirstTest
+pub mod Cases
 pub mod Admitted
+pub mod Coefficients
 pub mod Signs
 pub mod Norms
 pub mod Solutions
 pub mod State
 pub mod Layout
+pub mod RecordLength

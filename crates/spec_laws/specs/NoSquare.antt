@@ -22,7 +22,7 @@ use Rattle.spec_bridge.specs.Derivative.{series-derivative}
 use Rattle.spec_bridge.specs.Euclid.{gcd-is}
 
 module _ {A B : Type 0} {o : Ops A} (K : Field B) (M : Model o (F K)) (I : Inverts M) (D : List A) (n : ℕ) (monic : Monic K (series M D) (suc n +ₙ suc n)) where
-  open CRing (Series (F K)) using (mul as _*_, zer as 𝟘, one as 𝟙)
+  open CRing (Series (F K)) using (zer as 𝟘, one as 𝟙)
 
   pub no-square : size o (gcd o D (derivative o D)) ≡ 1 → No-square K (series M D)
   no-square constant f k low e = go (degree K k f low)

@@ -3,7 +3,7 @@
 use Prim.Native.Nat.{ℕ, suc, _-_ as _-ₙ_, _≤_, _<_}
 use native.Mathlib.Omega.{arith}
 use mathlib.Core.Path.{_≡_, refl, sym, ap, _∙_}
-use mathlib.Core.Bool.{Bool, true, false, not, _&&_, _||_}
+use mathlib.Core.Bool.{Bool, true, false, not, _&&_, _||_, true≢false, false≢true}
 use mathlib.Core.List.{List}
 use lib.ListN.{length, getD}
 use borrow.Author.Tests.{eqb-true, ltb-true, not-true, not-false}
@@ -25,7 +25,7 @@ use Rattle.spec_laws.specs.Pairs.{IsIdeal, normAt}
 -- both of two tests
 pub both-true : (s t : Bool) → (s && t) ≡ true → (s ≡ true) × (t ≡ true)
 both-true true t e = (refl, e)
-both-true false t e = absurd (let z : _≡_ {A = ℕ} 0 1 = cc in omega arith)
+both-true false t e = absurd (false≢true e)
 
 pub record Passes (f : FieldName) (g : ℕ) (D : List ℕ) (x : Ideal ℕ) : Type 0 where
   pub q-length : length (x .q) ≡ suc g
@@ -62,7 +62,7 @@ pairs-pass t x y e = go (isPair t x) (isPair t y) e
   where
     go : (a b : Bool) → (not a || not b) ≡ false → (a ≡ true) × (b ≡ true)
     go true b e = (refl, not-false b e)
-    go false b e = absurd (let z : _≡_ {A = ℕ} 0 1 = cc in omega arith)
+    go false b e = absurd (true≢false e)
 
 module _ {f : FieldName} {g : ℕ} {D : List ℕ} (h : Admitted f g D) where
   abbrev K : Field (arithmetic f (is-field h) .Elements)

@@ -26,7 +26,7 @@ use Rattle.spec_bridge.specs.Euclid.{φ-inv, divides-rem-none}
 use Rattle.spec_laws.specs.Pairs.{IsIdeal, normAt, series-norm}
 
 module _ {A B : Type 0} {o : Ops A} (K : Field B) (M : Model o (F K)) (I : Inverts M) (D : List A) (x : Ideal A) {C : Px K} (st : State K (series M D) (series M (x .q)) C (series M (x .p))) where
-  open CRing (Series (F K)) using (add as _+_, mul as _*_, neg as -_, zer as 𝟘, one as 𝟙)
+  open CRing (Series (F K)) using (add as _+_, mul as _*_, neg as -_, one as 𝟙)
 
   infixl 6 _+_ _-_
   infixl 7 _*_

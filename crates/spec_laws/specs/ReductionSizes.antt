@@ -16,12 +16,11 @@ use Rattle.math_surd.specs.Step.{State}
 use Rattle.math_ideals.specs.Steps.{degree-most}
 use Rattle.spec_arithmetic.specs.Field.{Ops}
 use Rattle.spec_arithmetic.specs.Polynomials.{trim, deg, add, mul}
-use Rattle.spec_definitions.specs.Walk.{Ideal, partial, nextP, next, steps}
+use Rattle.spec_definitions.specs.Walk.{Ideal, nextP, next, steps}
 use Rattle.spec_bridge.specs.Model.{Model, Oks, series}
 use Rattle.spec_bridge.specs.Trim.{Trim, length-trim, size-le}
 use Rattle.spec_bridge.specs.Arithmetic.{oks-sub, trim-sub}
 use Rattle.spec_bridge.specs.Division.{oks-quo, trim-quo}
-use Rattle.spec_bridge.specs.Quotient.{quo-length}
 use Rattle.spec_bridge.specs.Lengths.{length-add, length-sub, length-mul}
 use Rattle.spec_laws.specs.Surd.{Surd}
 use Rattle.spec_laws.specs.Pairs.{normAt}

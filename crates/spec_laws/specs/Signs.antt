@@ -13,10 +13,8 @@ use Rattle.math_ring.specs.Series.{Series}
 use Rattle.math_algebra.specs.Field.{Field}
 use Rattle.math_algebra.specs.Polynomial.{F, Px}
 use Rattle.math_surd.specs.Convergents.{sign}
-use Rattle.math_surd.specs.Convergents as convergents
 use Rattle.spec_arithmetic.specs.Field.{Ops}
 use Rattle.spec_arithmetic.specs.Polynomials.{add, sub, mul}
-use Rattle.spec_definitions.specs.Walk as lists
 use Rattle.spec_bridge.specs.Model.{Model, Oks, series, series-nil}
 use Rattle.spec_bridge.specs.Trim.{Trim}
 use Rattle.spec_bridge.specs.Arithmetic.{oks-sub, trim-sub, series-sub, series-mul}
@@ -50,7 +48,7 @@ parity-suc i = go (eqb (i % 2) 0) refl
     go false e = eq-eqb (suc i % 2) 0 (let odd = eqb-false (i % 2) 0 e in omega (arith, whole, whole-suc, less, less-one))
 
 module _ {A B : Type 0} {o : Ops A} (K : Field B) (M : Model o (F K)) where
-  open CRing (Series (F K)) using (add as _+_, mul as _*_, neg as -_, zer as 𝟘, one as 𝟙)
+  open CRing (Series (F K)) using (add as _+_, mul as _*_, neg as -_, one as 𝟙)
 
   infixl 6 _+_ _-_
   infixl 7 _*_

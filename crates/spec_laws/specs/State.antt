@@ -16,9 +16,9 @@ use Rattle.spec_arithmetic.specs.Field.{Ops}
 use Rattle.spec_arithmetic.specs.Polynomials.{add, sub, mul, quo, rem}
 use Rattle.spec_definitions.specs.Walk as lists
 use Rattle.spec_bridge.specs.Model.{Model, Oks, series, series-nil}
-use Rattle.spec_bridge.specs.Trim.{Trim, series-ext}
+use Rattle.spec_bridge.specs.Trim.{series-ext}
 use Rattle.spec_bridge.specs.Arithmetic.{oks-add, oks-sub, trim-add, trim-sub, series-add, series-sub, series-mul}
-use Rattle.spec_laws.specs.Surd.{Surd, P-zero, P-trim, P-oks, a-is, Q-oks, r-trim, r-oks}
+use Rattle.spec_laws.specs.Surd.{Surd, P-zero, P-trim, P-oks, a-is, Q-oks, r-oks}
 use Rattle.spec_laws.specs.Surd as surd
 use Rattle.spec_laws.specs.Fraction.{fraction, Q-length}
 use Rattle.spec_laws.specs.Walk.{d-length, r-length, r-zero, sum-next, Q-one, Q-next}

@@ -20,12 +20,12 @@ use Rattle.spec_bridge.specs.Model.{Model, series}
 use Rattle.spec_bridge.specs.Trim.{series-ext}
 use Rattle.spec_bridge.specs.Arithmetic.{oks-sub, oks-add, trim-sub, trim-add, series-add, series-sub, series-mul}
 use Rattle.spec_bridge.specs.Division.{rem-less}
-use Rattle.spec_laws.specs.Surd.{Surd, deg-length, Q-zero, P-zero, Q-trim, P-trim, a-trim, Q-oks, P-oks}
+use Rattle.spec_laws.specs.Surd.{Surd, deg-length, Q-zero, P-zero, Q-trim, P-trim, a-trim, Q-oks}
 use Rattle.spec_laws.specs.Surd as surd
 use Rattle.spec_laws.specs.Fraction.{fraction, Q-some, Q-length}
 
 module _ {A B : Type 0} {o : Ops A} {K : Field B} {M : Model o (F K)} {g : ℕ} {D d : List A} (s : Surd K M g D d) where
-  open CRing (Series (F K)) using (add as _+_, mul as _*_, neg as -_, zer as 𝟘, one as 𝟙)
+  open CRing (Series (F K)) using (add as _+_, mul as _*_, neg as -_, one as 𝟙)
 
   infixl 6 _+_ _-_
   infixl 7 _*_

@@ -1,8 +1,7 @@
 -- `same` is equality of lists; a number is in a list of one number where it is that number.
 use Prim.Native.Nat.{ℕ}
-use native.Mathlib.Omega.{arith}
 use mathlib.Core.Path.{_≡_, refl, ap₂}
-use mathlib.Core.Bool.{Bool, true, false}
+use mathlib.Core.Bool.{Bool, true, false, false≢true}
 use mathlib.Core.List.{List, [], _∷_}
 use lib.Dec.{eqb}
 use borrow.Author.Tests.{eqb-true, eq-eqb}
@@ -16,13 +15,13 @@ same-refl (x ∷ l) = rw (same, eq-eqb x x refl) (same-refl l)
 pub same-equal : (l m : List ℕ) → same l m ≡ true → l ≡ m
 unfolding same
 same-equal [] [] e = refl
-same-equal [] (y ∷ m) e = absurd (let z : _≡_ {A = ℕ} 0 1 = cc in omega arith)
-same-equal (x ∷ l) [] e = absurd (let z : _≡_ {A = ℕ} 0 1 = cc in omega arith)
+same-equal [] (y ∷ m) e = absurd (false≢true e)
+same-equal (x ∷ l) [] e = absurd (false≢true e)
 same-equal (x ∷ l) (y ∷ m) e = go (eqb x y) refl e (same-equal l m)
   where
     go : (t : Bool) → eqb x y ≡ t → (elim t [ true ↦ same l m | false ↦ false ]) ≡ true → (same l m ≡ true → l ≡ m) → _≡_ {A = List ℕ} (x ∷ l) (y ∷ m)
     go true h k rest = ap₂ (λ a b. a ∷ b) (eqb-true x y h) (rest k)
-    go false h k rest = absurd (let z : _≡_ {A = ℕ} 0 1 = cc in omega arith)
+    go false h k rest = absurd (false≢true k)
 
 pub same-not : (l m : List ℕ) → (l ≡ m → ⊥) → same l m ≡ false
 same-not l m h = go (same l m) refl

@@ -23,8 +23,8 @@ use Rattle.spec_bridge.specs.Coefficients.{coefficients, series-coefficients, l
 use Rattle.spec_bridge.specs.Prime.{Prime}
 use Rattle.spec_bridge.specs.Residues.{pos, model, onto, field, to-one-to-one}
 use Rattle.spec_fields.specs.Named.{residues}
-use Rattle.spec_demands.specs.Sentences.{SquareDivides}
-use Rattle.spec_demands.specs.Squares.{square-factor, square-lists, tests-square}
+use Rattle.spec_sentences.specs.Sentences.{SquareDivides}
+use Rattle.spec_sentences.specs.Squares.{square-factor, square-lists, tests-square}
 use Rattle.math_counting.specs.Pigeonhole.{Bijection}
 use Rattle.math_counting.specs.Count.{count}
 use Rattle.math_counting.specs.HowMany.{HowMany, equally-many, how-many-tested}

@@ -1,6 +1,6 @@
--- The format of words in plain numbers, by computation: "The top 4 bits of a word are its kind, the low 28 its value."
--- Elsewhere a ticket or a record is made by `word` and read by `kind` and `value`: here the printed ticket, its bytes and its
--- listing are written out.
+-- The format of words in plain numbers, by computation: "The top 4 bits of a word are its kind, the low 28
+-- its value." Elsewhere a ticket or a record is made by `word` and read by `kind` and `value`: here the
+-- printed ticket, its bytes and its listing are written out.
 use Prim.Native.Nat.{ℕ}
 use mathlib.Core.Path.{_≡_, refl}
 use mathlib.Core.List.{List, [], _∷_, map}

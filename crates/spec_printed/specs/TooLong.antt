@@ -1,6 +1,7 @@
--- "With a listing too short the only line is "refused 13"". More than 8,192 words are at least 121 records, and to compute so many steps of the definition's walk is
--- more than the checker allows a declaration. So `TooLong` speaks of every such input, and `Shorter` computes the line with a lent list of 47 words, one fewer than the
--- printed example needs, in the place of the 8,192.
+-- "With a listing too short the only line is "refused 13"". More than 8,192 words are at least 121 records,
+-- and to compute so many steps of the definition's walk is more than the checker allows a declaration. So
+-- `TooLong` speaks of every such input, and `Shorter` computes the line with a lent list of 47 words, one
+-- fewer than the printed example needs, in the place of the 8,192.
 use Prim.Native.Nat.{ℕ, _+_, _*_, _≤_, _<_}
 use mathlib.Core.Path.{_≡_, refl, sym, subst}
 use mathlib.Core.Bool.{false}

@@ -27,9 +27,9 @@ use Rattle.spec_bridge.specs.Degree.{deg-is, series-deg}
 use Rattle.spec_bridge.specs.Euclid.{gcd-is}
 use Rattle.spec_fields.specs.Named.{IsField, Ok, arithmetic, reading-one, φ-first}
 use Rattle.spec_laws.specs.Admitted.{passed, prime-of}
-use Rattle.spec_demands.specs.Sentences.{AllowedField, Same}
-use Rattle.spec_demands.specs.Readings.{prime-allowed, named-field}
-use Rattle.spec_demands.specs.Arithmetic.{Divides, series-same, same-series, divides-series, divides-rem, gcd-rules}
+use Rattle.spec_sentences.specs.Sentences.{AllowedField, Same}
+use Rattle.spec_sentences.specs.Readings.{prime-allowed, named-field}
+use Rattle.spec_sentences.specs.Arithmetic.{Divides, series-same, same-series, divides-series, divides-rem, gcd-rules}
 
 -- a = c·b + r and deg r < deg b: then c is the quotient and r the remainder
 abbrev pub OneDivision : Type 0

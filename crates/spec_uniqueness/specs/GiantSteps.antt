@@ -24,11 +24,11 @@ use Rattle.spec_bridge.specs.Monic.{monic-cong}
 use Rattle.spec_bridge.specs.Quotient.{rem-cong}
 use Rattle.spec_fields.specs.Named.{arithmetic, some-elements, reading-first}
 use Rattle.spec_laws.specs.Admitted.{Admitted, is-field, admitted}
-use Rattle.spec_demands.specs.Sentences.{AllowedField, Same}
-use Rattle.spec_demands.specs.Arithmetic.{series-same, same-series, division}
-use Rattle.spec_demands.specs.Operations.{Trimmed, MadeMonic, Operations, by-coefficients, trimmed-same}
+use Rattle.spec_sentences.specs.Sentences.{AllowedField, Same}
+use Rattle.spec_sentences.specs.Arithmetic.{series-same, same-series, division}
+use Rattle.spec_sentences.specs.Operations.{Trimmed, MadeMonic, Operations, by-coefficients, trimmed-same}
+use Rattle.spec_refusals.specs.Pairs.{GivenPair, WrongDistance}
 use Rattle.spec_demands.specs.Continued.{sumTo, RootOf, t2}
-use Rattle.spec_demands.specs.Pairs.{GivenPair, WrongDistance}
 use Rattle.spec_demands.specs.Products.{Steps, t2-giant-steps}
 use Rattle.spec_uniqueness.specs.Division.{prime-of-ticket, deg-series, quotient-leaves, quotient-exact, division-only, monic-only}
 use Rattle.spec_uniqueness.specs.Walk.{Stepping, one-root, steps-only, partial-only}

@@ -7,7 +7,7 @@ use mathlib.Core.Logic.{⊎-elim}
 use mathlib.Core.List.{List}
 use Rattle.math_ring.specs.Order.{le-or-lt}
 use Rattle.spec_definitions.specs.Lookup.{recordAt, lookupOf, placeOf}
-use Rattle.spec_demands.specs.Lookups.{WrongListing, LooksUp, t2-lookups}
+use Rattle.spec_refusals.specs.Lookups.{WrongListing, LooksUp, t2-lookups}
 
 -- "It hands back the last record with distance at most y, as that part of the caller's list."
 abbrev pub LookupOnly : Type 0

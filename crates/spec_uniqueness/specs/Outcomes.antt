@@ -28,8 +28,8 @@ use Rattle.spec_laws.specs.Signs as signs
 use Rattle.spec_laws.specs.Norms as norms
 use Rattle.spec_laws.specs.QuasiPeriod.{Quasi, some-quasi, none-quasi}
 use Rattle.spec_laws.specs.Admitted.{Admitted, is-field, surd-of, admitted}
-use Rattle.spec_demands.specs.Sentences.{Same}
-use Rattle.spec_demands.specs.Arithmetic.{same-series}
+use Rattle.spec_sentences.specs.Sentences.{Same}
+use Rattle.spec_sentences.specs.Arithmetic.{same-series}
 use Rattle.spec_demands.specs.Continued.{signed, Ends, t2}
 use Rattle.spec_uniqueness.specs.Division.{deg-series}
 use Rattle.spec_uniqueness.specs.Walk.{IsWalk, SameWalk, one-walk}

@@ -24,10 +24,10 @@ use Rattle.spec_bridge.specs.Quotient.{quo-cong, rem-cong}
 use Rattle.spec_fields.specs.Named.{Arithmetic, arithmetic, some-elements, reading-first}
 use Rattle.spec_laws.specs.Admitted.{Admitted, is-field, admitted}
 use Rattle.spec_laws.specs.Product.{product-is}
-use Rattle.spec_demands.specs.Sentences.{Same, Operators, operators}
-use Rattle.spec_demands.specs.Arithmetic.{Divides, series-same, same-series}
-use Rattle.spec_demands.specs.Operations.{Trimmed, Operations, by-coefficients, trimmed-same}
-use Rattle.spec_demands.specs.Pairs.{GivenPair, pairs-passed, product-by}
+use Rattle.spec_sentences.specs.Sentences.{Same, Operators, operators}
+use Rattle.spec_sentences.specs.Arithmetic.{Divides, series-same, same-series}
+use Rattle.spec_sentences.specs.Operations.{Trimmed, Operations, by-coefficients, trimmed-same}
+use Rattle.spec_refusals.specs.Pairs.{GivenPair, pairs-passed, product-by}
 use Rattle.spec_demands.specs.Products.{Combines, paperP, IsProduct, t2-products}
 use Rattle.spec_uniqueness.specs.Division.{prime-of-ticket, lead-monic, monic-same}
 

@@ -32,11 +32,11 @@ use Rattle.spec_bridge.specs.Arithmetic.{series-sub, series-scale}
 use Rattle.spec_bridge.specs.Degree.{series-monic-of}
 use Rattle.spec_fields.specs.Named.{Ok, arithmetic, same-reading, reading-ok, reading-zero, φ-first}
 use Rattle.spec_laws.specs.Admitted.{Admitted, is-field, admitted, passed, degree-of}
-use Rattle.spec_demands.specs.Sentences.{Same}
-use Rattle.spec_demands.specs.Arithmetic.{Divides, same-series, divides-series}
-use Rattle.spec_demands.specs.Records.{record-listing}
+use Rattle.spec_sentences.specs.Sentences.{Same}
+use Rattle.spec_sentences.specs.Arithmetic.{Divides, same-series, divides-series}
+use Rattle.spec_refusals.specs.Records.{record-listing}
+use Rattle.spec_refusals.specs.LentLists.{KeepsFrom, t1-lists, found-passes}
 use Rattle.spec_demands.specs.Listings.{t2-listings}
-use Rattle.spec_demands.specs.LentLists.{KeepsFrom, t1-lists, found-passes}
 use Rattle.spec_answers.specs.Refusals.{listing-found}
 use Rattle.spec_answers.specs.Records.{wordAt, QRead, PRead, RecordRead, record-read, t2-records}
 use Rattle.spec_uniqueness.specs.Units.{later-at}

@@ -6,8 +6,8 @@ use mathlib.Core.Path.{_≡_, refl, sym, _∙_}
 use mathlib.Core.Logic.{_↔_}
 use mathlib.Core.List.{List}
 use Rattle.spec_definitions.specs.Ticket.{refusalOf}
-use Rattle.spec_demands.specs.Sentences.{Applies}
-use Rattle.spec_demands.specs.FirstRefusal.{t1}
+use Rattle.spec_sentences.specs.Sentences.{Applies}
+use Rattle.spec_sentences.specs.FirstRefusal.{t1}
 use Rattle.spec_answers.specs.Refusals.{number-most}
 
 -- what T1 says of the refusal, said of any number r

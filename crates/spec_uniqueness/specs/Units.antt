@@ -11,7 +11,7 @@ use Rattle.math_ring.specs.Order.{le-or-lt}
 use Rattle.spec_definitions.specs.Ticket.{ticketOf}
 use Rattle.spec_definitions.specs.Answers.{found, said}
 use Rattle.spec_definitions.specs.Units.{Lists, unitAnswer}
-use Rattle.spec_demands.specs.LentLists.{KeepsFrom}
+use Rattle.spec_refusals.specs.LentLists.{KeepsFrom}
 use Rattle.spec_answers.specs.Units.{Holds, UnitWritten, t2-unit-lists}
 
 abbrev pub UnitOnly : Type 0

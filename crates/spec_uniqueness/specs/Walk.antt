@@ -25,8 +25,8 @@ use Rattle.spec_fields.specs.Named.{IsField, arithmetic, one-first}
 use Rattle.spec_laws.specs.Surd.{Q-trim}
 use Rattle.spec_laws.specs.Fraction.{Q-some}
 use Rattle.spec_laws.specs.Admitted.{Admitted, is-field, surd-of, admitted}
-use Rattle.spec_demands.specs.Sentences.{Same, Operators, operators}
-use Rattle.spec_demands.specs.Arithmetic.{series-same, same-series}
+use Rattle.spec_sentences.specs.Sentences.{Same, Operators, operators}
+use Rattle.spec_sentences.specs.Arithmetic.{series-same, same-series}
 use Rattle.spec_demands.specs.Continued.{RootOf, Continued, t2}
 use Rattle.spec_uniqueness.specs.Division.{division-only}
 

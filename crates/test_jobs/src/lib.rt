@@ -4,7 +4,7 @@
 ghost use Prim.Native.Nat.{_≤_};
 ghost use lib.ListN.{length};
 use libc::STDOUT_FILENO;
-use walk_run::Outcome;
+use walk_outcome::Outcome;
 
 // What no call writes: a place that keeps it was not written.
 pub const MARK: u32 = 4294967295;

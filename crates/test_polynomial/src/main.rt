@@ -3,9 +3,13 @@
 ghost use Prim.Native.Nat.{_+_, _<_, _≤_};
 ghost use Rattle.base_field.specs.Named.{IsField};
 ghost use Rattle.base_polynomial.specs.Whole.{Held};
+use base_division::division::quotient;
+use base_division::division::remainder;
 use base_field::Field;
 use base_field::field_of;
 use base_polynomial::Poly;
+use base_polynomial::arrays::multiply;
+use base_polynomial::linear::zero;
 use libc::STDOUT_FILENO;
 
 // n coefficients from a linear congruence that starts at `seed`.
@@ -52,20 +56,37 @@ fn show_product(f: Field, a: Poly, b: Poly)
     requires { ⌜ Held f a ⌝ }
     requires { ⌜ Held f b ⌝ }
 {
-    show(base_polynomial::product::mul(f, a, b));
+    let mut z = [0u32; 129];
+    let size = multiply(f, &a.c, a.size, &b.c, b.size, &mut z);
+    show(Poly { c: z, size });
 }
 
-// Quotient and remainder.
+// Quotient and remainder by a polynomial that is not 0.
+fn show_quotient(f: Field, a: Poly, b: Poly)
+    requires { ⌜ IsField f × (0 < b .size) ⌝ }
+    requires { ⌜ Held f a ⌝ }
+    requires { ⌜ Held f b ⌝ }
+{
+    let mut z = [0u32; 129];
+    let k = quotient(f, &a.c, a.size, &b.c, b.size, &mut z);
+    show(Poly { c: z, size: k });
+    let mut y = a.c;
+    let l = remainder(f, &mut y, a.size, &b.c, b.size);
+    show(Poly { c: y, size: l });
+}
+
+// Quotient and remainder; by 0 they are 0 and a.
 fn show_division(f: Field, a: Poly, b: Poly)
     requires { ⌜ IsField f ⌝ }
     requires { ⌜ Held f a ⌝ }
     requires { ⌜ Held f b ⌝ }
 {
-    let s = base_polynomial::division::div_rem(f, a, b);
-    let q = s.quo;
-    let r = s.rem;
-    show(q);
-    show(r);
+    if b.size == 0 {
+        show(zero());
+        show(a);
+    } else {
+        show_quotient(f, a, b);
+    }
 }
 
 // The greatest common divisor. Euclid's algorithm uses up what it is lent, so copies are lent.
@@ -115,9 +136,11 @@ fn show_common(f: Field, a: Poly, b: Poly, c: Poly)
     requires { ⌜ Held f b ⌝ }
     requires { ⌜ Held f c ⌝ }
 {
-    let x = base_polynomial::product::mul(f, a, c);
-    let y = base_polynomial::product::mul(f, b, c);
-    show_gcd(f, x, y);
+    let mut x = [0u32; 129];
+    let m = multiply(f, &a.c, a.size, &c.c, c.size, &mut x);
+    let mut y = [0u32; 129];
+    let n = multiply(f, &b.c, b.size, &c.c, c.size, &mut y);
+    show_gcd(f, Poly { c: x, size: m }, Poly { c: y, size: n });
 }
 
 // Of sample polynomials of m and n places, and one of 9.
@@ -136,7 +159,7 @@ fn samples(f: Field, m: usize, n: usize, seed: u32)
 fn run(q: u32, m: usize, n: usize, seed: u32)
     requires { ⌜ (m ≤ 65) × (n ≤ 65) × (seed < 1000) ⌝ }
 {
-    if base_field::primes::is_odd_prime(q) {
+    if base_primes::is_odd_prime(q) {
         samples(field_of(q), m, n, seed);
     }
 }

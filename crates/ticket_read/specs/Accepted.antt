@@ -4,7 +4,6 @@ use Prim.Native.Nat.{ℕ, suc, _+_, _≤_, _<_}
 use native.Mathlib.Omega.{arith}
 use mathlib.Core.Path.{_≡_, sym, ap, _∙_, subst}
 use mathlib.Core.List.{List}
-use lib.ListN.{length}
 use Rattle.spec_arithmetic.specs.Field.{FieldName}
 pub use Rattle.spec_definitions.specs.Ticket.{budgets}
 use Rattle.spec_definitions.specs.Ticket.{Ticket, ticket, genus, ticketOf, refusalOf}
@@ -12,7 +11,7 @@ use Rattle.spec_laws.specs.Admitted.{Admitted, is-field, admitted, passed, degr
 use Rattle.base_field.specs.Named.{name, IsField}
 use Rattle.base_polynomial.specs.Over.{Result, result}
 use Rattle.base_polynomial.specs.Whole.{poly, Held, Is}
-use Rattle.ticket_tests.specs.Radicand.{trim-lead-one}
+use Rattle.ticket_radicand.specs.Radicand.{trim-lead-one}
 use Rattle.ticket_read.specs.declared.Ticket.{Ticket as Said}
 use Rattle.ticket_read.specs.Read.{readOf, Stands, unless-none}
 

@@ -51,20 +51,20 @@ pub stands-path : {k j : ℕ} {t u : Ticket} {r : Said} → k ≡ j → t ≡ u 
 stands-path {r = r} e f s = subst₂ (λ (k : ℕ) (t : Ticket). Stands (read k t) r) e f s
 
 -- a refusal's zeros
-pub stands-refused : (k : ℕ) → (k ≡ 0 → ⊥) → {d : Poly} → Holds d [] → Refused k (record { number = k; field = record { q = 0; reciprocal = 0 }; n = 0; radicand = d; budget = 0 })
+pub stands-refused : (k : ℕ) → (k ≡ 0 → ⊥) → {radicand : Poly} → Holds radicand [] → Refused k (record { number = k; field = record { q = 0; reciprocal = 0 }; n = 0; radicand = radicand; budget = 0 })
 unfolding unless
 stands-refused zero h z t = absurd (h refl)
 stands-refused (suc k) h z t = record { number-is = refl; field-is = refl; n-is = refl; D-is = z (prime 0); b-is = refl; is-field = λ e. absurd (omega arith) }
 
 -- the values of a ticket that is accepted
-pub stands-accepted : {f : Field} → IsField f → {n : ℕ} {d : Poly} {D : List ℕ} → Is f d D → {b c : ℕ} → b ≡ c → {k : ℕ} → 0 ≡ k → Stands (read k (ticket (name f) n D c)) (record { number = 0; field = f; n = n; radicand = d; budget = b })
-stands-accepted {f} h {n} {d} {D} is {b} {c} e {k} z =
+pub stands-accepted : {f : Field} → IsField f → {n : ℕ} {radicand : Poly} {D : List ℕ} → Is f radicand D → {b c : ℕ} → b ≡ c → {k : ℕ} → 0 ≡ k → Stands (read k (ticket (name f) n D c)) (record { number = 0; field = f; n = n; radicand = radicand; budget = b })
+stands-accepted {f} h {n} {radicand} {D} is {b} {c} e {k} z =
     let s = unless-none k (ticket (name f) n D c) (sym z) in
     record {
       number-is = z;
       field-is = ap (λ (t : Ticket). t .field) (sym s);
       n-is = ap (λ (t : Ticket). t .n) (sym s);
-      D-is = subst (λ (t : Ticket). Is f d (t .D)) (sym s) is;
+      D-is = subst (λ (t : Ticket). Is f radicand (t .D)) (sym s) is;
       b-is = e ∙ ap (λ (t : Ticket). t .b) (sym s);
       is-field = λ z. h;
     }

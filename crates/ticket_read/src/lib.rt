@@ -7,18 +7,18 @@ ghost use lib.ListN.{length, getD};
 ghost use Rattle.spec_arithmetic.specs.Words.{value as valueOf};
 ghost use Rattle.spec_definitions.specs.Ticket.{ticket, firstOf};
 ghost use Rattle.base_field.specs.Named.{name, IsField};
-ghost use Rattle.ticket_tests.specs.Radicand.{coefficients};
-ghost use Rattle.ticket_tests.specs.Refusal.{radicandTests};
+ghost use Rattle.ticket_radicand.specs.Radicand.{coefficients};
+ghost use Rattle.ticket_radicand.specs.Refusal.{radicandTests};
 ghost use Rattle.ticket_read.specs.Read.{read, readOf, Stands, Refused};
 use base_field::Field;
 use base_field::field_of;
 use base_polynomial::Poly;
 use base_polynomial::linear::zero;
 use base_words::value;
-use ticket_tests::head::wrong_head;
-use ticket_tests::order::layout_refusal;
-use ticket_tests::radicand::radicand;
-use ticket_tests::radicand::radicand_refusal;
+use ticket_layout::head::wrong_head;
+use ticket_layout::order::layout_refusal;
+use ticket_radicand::radicand_of;
+use ticket_radicand::radicand_refusal;
 
 // What a ticket says. Invariant (`Stands`): `number` is that of the first refusal, 1 to 7, with all other
 // values zero, or 0; then the field is one, and D has the ticket's coefficients.
@@ -52,8 +52,8 @@ fn read_radicand(f: Field, n: usize, words: &[u32]) -> Ticket
     requires { ⌜ IsField f × (n ≤ 64) × (length (now words) ≡ n + 5) ⌝ }
     ensures { λ r. ⌜ Stands (read (firstOf (radicandTests (name f) n (coefficients n (now (words .entry))))) (ticket (name f) n (coefficients n (now (words .entry))) (valueOf (getD (now (words .entry)) (n + 3) 0)))) r ⌝ }
 {
-    let d = radicand(n, words);
-    let number = radicand_refusal(f, n, d);
+    let radicand = radicand_of(n, words);
+    let number = radicand_refusal(f, n, radicand);
     if number != 0 {
         return refused(number);
     }
@@ -62,7 +62,7 @@ fn read_radicand(f: Field, n: usize, words: &[u32]) -> Ticket
         number: 0,
         field: f,
         n,
-        radicand: d,
+        radicand,
         budget,
     }
 }

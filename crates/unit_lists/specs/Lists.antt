@@ -12,17 +12,15 @@ use Rattle.spec_arithmetic.specs.Polynomials.{pad}
 use Rattle.spec_definitions.specs.Ticket.{genus, ticket}
 use Rattle.spec_definitions.specs.Walk.{pBefore, sBefore, degreeBefore, unitOf}
 use Rattle.spec_definitions.specs.Answers.{rootOf}
-use Rattle.spec_definitions.specs.Units.{Lists, written, unitLists}
+use Rattle.spec_definitions.specs.Units.{written, unitLists}
 use Rattle.spec_laws.specs.Admitted.{Admitted, surd-of}
 use Rattle.spec_laws.specs.Convergents.{p-length, degree-least}
 use Rattle.walk_state.specs.State.{rootD}
-use Rattle.unit_recurrence.specs.Written.{Written, written-again, written-is}
-use Rattle.unit_recurrence.specs.Pair.{Pair, pair-long}
+use Rattle.unit_room.specs.Room.{Room, lists}
+use Rattle.unit_combine.specs.Written.{Written, written-again, written-is}
+use Rattle.unit_combine.specs.Pair.{Pair, pair-long}
 use Rattle.unit_recurrence.specs.Recurrence.{s-short}
-use Rattle.unit_recurrence.specs.Pairs.{Room, Pairs, Ended, pairs-first}
-
-abbrev pub lists : List ℕ → List ℕ → List ℕ → List ℕ → Lists
-lists p s x y = record { first = p; second = s; third = x; fourth = y }
+use Rattle.unit_recurrence.specs.Pairs.{Pairs, Ended, pairs-first}
 
 -- ---- two lists after their start
 module _ {t k : ℕ} {u v old-p old-x p x : List ℕ} (w : Pair t k u v old-p old-x p x) where

@@ -9,57 +9,13 @@ ghost use Rattle.base_field.specs.Named.{IsField, name, ops};
 ghost use Rattle.base_polynomial.specs.Record.{poly as polyAt, Held as HeldAt};
 ghost use Rattle.walk_state.specs.State.{rootD};
 ghost use Rattle.walk_state.specs.Start.{Prepared};
-ghost use Rattle.unit_recurrence.specs.Pairs.{Room, Ended};
-ghost use Rattle.unit_lists.specs.Lists.{lists};
+ghost use Rattle.unit_room.specs.Room.{Room, lists};
 use base_counters::Distance;
 use base_counters::Index;
 use base_field::Field;
-use unit_recurrence::combine::clear;
-use unit_recurrence::steps::start;
 use unit_recurrence::steps::steps;
-
-// The convergents of index m − 1 in p and s, those before them in x and y, each in the first `count` places.
-fn fill(
-    f: Field,
-    n: usize,
-    radicand: &[u32; 129],
-    size: usize,
-    inverses: &[u32; 4096],
-    d: &[u32; 129],
-    twice: &[u32; 129],
-    m: Index,
-    count: usize,
-    p: &mut [u32],
-    s: &mut [u32],
-    x: &mut [u32],
-    y: &mut [u32],
-)
-    requires { ⌜ IsField f ⌝ }
-    requires { ⌜ Admitted (name f) (genus n) (polyAt (now radicand) size) ⌝ }
-    requires { ⌜ HeldAt (name f) (now radicand) size × (2 ≤ n) × (m .0 < budgets) ⌝ }
-    requires { ⌜ Prepared (name f) (genus n) (polyAt (now radicand) size) (now inverses) (now d) (now twice) ⌝ }
-    requires { ⌜ degreeBefore (ops f) (polyAt (now radicand) size) (rootD (name f) (genus n) (polyAt (now radicand) size)) (m .0) + 1 ≡ count ⌝ }
-    requires { ⌜ Room count (now p) (now s) (now x) (now y) ⌝ }
-    ensures { λ _. ⌜ Ended (name f) (genus n) (polyAt (now (radicand .entry)) size) count (m .0) (now (p .entry)) (now (s .entry)) (now (x .entry)) (now (y .entry)) (now (p .exit)) (now (s .exit)) (now (x .exit)) (now (y .exit)) ⌝ }
-{
-    start(m.0, p, x, count);
-    start(m.0 + 1, s, y, count);
-    steps(
-        f,
-        n,
-        radicand,
-        size,
-        inverses,
-        d,
-        twice,
-        m,
-        count,
-        p,
-        s,
-        x,
-        y,
-    );
-}
+use unit_zeros::clear_work;
+use unit_zeros::start_lists;
 
 // The unit, of index m − 1 and degree r: p and s receive its coefficients in their places 0 to r, where x and
 // y end as zero. Later places are as they were. D, of degree n, is the first `size` places of `radicand`;
@@ -88,7 +44,8 @@ pub fn write_unit(
     ensures { λ _. ⌜ ((b : ℕ) → lists (now (p .exit)) (now (s .exit)) (now (x .exit)) (now (y .exit)) ≡ unitLists (ticket (name f) n (polyAt (now (radicand .entry)) size) b) (r .0) (m .0) (lists (now (p .entry)) (now (s .entry)) (now (x .entry)) (now (y .entry)))) ⌝ }
 {
     let count = r.0 as usize + 1;
-    fill(
+    start_lists(m, count, p, s, x, y);
+    steps(
         f,
         n,
         radicand,
@@ -103,6 +60,5 @@ pub fn write_unit(
         x,
         y,
     );
-    clear(x, count);
-    clear(y, count);
+    clear_work(x, y, count);
 }

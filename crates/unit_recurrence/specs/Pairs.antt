@@ -19,17 +19,11 @@ use Rattle.walk_state.specs.State.{rootD, quo-next}
 use Rattle.walk_state.specs.Start.{Prepared}
 use Rattle.walk_stride.specs.declared.Progress.{Progress}
 use Rattle.walk_stride.specs.Walked.{Walked, degree-next}
-use Rattle.unit_recurrence.specs.Written.{Written}
-use Rattle.unit_recurrence.specs.Sum.{BelowTo}
-use Rattle.unit_recurrence.specs.Pair.{Pair, Folded, pair-long, pair-below, pair-back, pair-next, pair-last}
+use Rattle.unit_room.specs.Room.{Room}
+use Rattle.unit_combine.specs.Written.{Written}
+use Rattle.unit_combine.specs.Sum.{BelowTo}
+use Rattle.unit_combine.specs.Pair.{Pair, Folded, pair-long, pair-below, pair-back, pair-next, pair-last}
 use Rattle.unit_recurrence.specs.Recurrence.{pOlder, sOlder, p-older-zero, s-older-zero, p-older-suc, s-older-suc, p-next, s-next, p-older-oks, s-older-oks, s-short, p-older-short, s-older-short}
-
--- each list has k places
-pub record Room (k : ℕ) (p s x y : List ℕ) : Type 0 where
-  pub p-room : k ≤ length p
-  pub s-room : k ≤ length s
-  pub x-room : k ≤ length x
-  pub y-room : k ≤ length y
 
 -- each of the first k places has an admissible coefficient
 pub record Reduced (f : FieldName) (k : ℕ) (p s x y : List ℕ) : Type 0 where

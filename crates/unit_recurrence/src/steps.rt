@@ -1,57 +1,25 @@
 // The steps of the convergents along the walk. The two last convergents of each kind stand in a pair of
 // lists, and each step adds a multiple of the one to the other.
 ghost use mathlib.Core.Path.{_≡_};
-ghost use mathlib.Core.List.{[], _∷_};
 ghost use Prim.Native.Nat.{_+_, _<_, _≤_};
-ghost use lib.ListN.{length, getD};
+ghost use lib.ListN.{getD};
 ghost use Rattle.spec_definitions.specs.Ticket.{genus, budgets};
 ghost use Rattle.spec_definitions.specs.Walk.{degreeBefore};
 ghost use Rattle.spec_laws.specs.Admitted.{Admitted};
 ghost use Rattle.base_field.specs.Named.{IsField, name, ops};
-ghost use Rattle.base_polynomial.specs.Places.{Places, Within};
+ghost use Rattle.base_polynomial.specs.Places.{Places};
 ghost use Rattle.base_polynomial.specs.Record.{poly as polyAt, Held as HeldAt};
 ghost use Rattle.walk_step.specs.Step.{stepQuo, Inverses, Division};
 ghost use Rattle.walk_state.specs.State.{rootD};
 ghost use Rattle.walk_state.specs.Start.{Prepared};
-ghost use Rattle.unit_recurrence.specs.Sum.{BelowTo};
-ghost use Rattle.unit_recurrence.specs.Pair.{Pair, Folded};
-ghost use Rattle.unit_recurrence.specs.Pairs.{Room, Reduced, Advanced, Pairs, Ended};
-use crate::combine::clear;
-use crate::combine::combine;
+ghost use Rattle.unit_room.specs.Room.{Room};
+ghost use Rattle.unit_recurrence.specs.Pairs.{Reduced, Advanced, Pairs, Ended};
 use base_counters::Index;
 use base_field::Field;
+use unit_combine::pair::fold;
 use walk_step::step::quotient;
 use walk_stride::begin;
 use walk_stride::turn;
-
-// Zeros and 1: with t steps to go, 1 in the list of the last convergent.
-pub fn start(t: u64, p: &mut [u32], x: &mut [u32], count: usize)
-    requires { ⌜ (0 < count) × (count ≤ length (now p)) × (count ≤ length (now x)) ⌝ }
-    ensures { λ _. ⌜ Pair t count (1 ∷ []) [] (now (p .entry)) (now (x .entry)) (now (p .exit)) (now (x .exit)) ⌝ }
-{
-    clear(p, count);
-    clear(x, count);
-    if t % 2 == 0 {
-        p[0] = 1;
-    } else {
-        x[0] = 1;
-    }
-}
-
-// With `left` steps to go, a times the last convergent is added to the one before it; a has l places.
-fn fold(f: Field, a: &[u32; 129], l: usize, left: u64, p: &mut [u32], x: &mut [u32], count: usize)
-    requires { ⌜ IsField f ⌝ }
-    requires { ⌜ (l ≤ 128) × (count ≤ length (now p)) × (count ≤ length (now x)) ⌝ }
-    requires { ⌜ Within (name f) (now a) l ⌝ }
-    requires { ⌜ BelowTo (name f) (now p) count × BelowTo (name f) (now x) count ⌝ }
-    ensures { λ _. ⌜ Folded (name f) left count (now (a .entry)) (now (p .entry)) (now (x .entry)) (now (p .exit)) (now (x .exit)) ⌝ }
-{
-    if left % 2 == 0 {
-        combine(f, a, l, p, x, count);
-    } else {
-        combine(f, a, l, x, p, count);
-    }
-}
 
 // a becomes the partial quotient, of twice − rest by Q.
 fn partial(

@@ -1,3 +1,1 @@
-pub mod Outcome
-pub mod Steps
 pub mod Found

@@ -4,7 +4,7 @@ use Prim.Native.Nat.{ℕ, _<_, _≤_}
 use native.Mathlib.Omega.{arith}
 use mathlib.Core.Path.{_≡_, refl, sym, ap, _∙_, subst}
 use mathlib.Core.List.{List}
-use lib.ListN.{length, getD, List·getD-eq-default}
+use lib.ListN.{length, getD}
 use Rattle.spec_arithmetic.specs.Field.{prime, modulo}
 use Rattle.spec_arithmetic.specs.Polynomials.{trim, add, sub, mul}
 use Rattle.spec_bridge.specs.Prime.{Prime}
@@ -14,12 +14,10 @@ use Rattle.base_polynomial.specs.Record.{Is}
 use Rattle.base_polynomial.specs.Held.{is-of}
 use Rattle.base_polynomial.specs.Places.{Places, Top}
 use Rattle.base_polynomial.specs.Linear.{is-result}
-use Rattle.walk_step.specs.Step.{stepQuo, nextRem, nextQ, Division, Ready, Moved, Stepped}
-use Rattle.walk_step.specs.Sizes.{positive, rem-short}
-use Rattle.walk_step.specs.Quotient.{next-cong}
-
-pub division : {q m n : ℕ} {s before b r : List ℕ} → Ready (prime q) m n s before b r → Division (prime q) m n s b r
-division g = record { twice-within = g .twice-within; rest-within = g .rest-within; current-within = g .current-within; lead-some = g .lead-some }
+use Rattle.walk_short.specs.Sizes.{positive, rem-short}
+use Rattle.walk_short.specs.Quotient.{next-cong}
+use Rattle.walk_step.specs.Step.{stepQuo, nextRem, nextQ, Ready, Moved, Stepped, next-past}
+pub use Rattle.walk_step.specs.Step.{division}
 
 module _ {q m n : ℕ} {s before b r : List ℕ} (p : Prime q) (g : Ready (prime q) m n s before b r) where
   pos : 0 < q
@@ -36,11 +34,8 @@ module _ {q m n : ℕ} {s before b r : List ℕ} (p : Prime q) (g : Ready (prime
     pub moved : {w : List ℕ} → Places w (λ i. getD (add (modulo q) before (mul (modulo q) a (sub (modulo q) z r))) i 0) → Moved (prime q) s before b r z w
     moved h = record { rem-places = zh; q-places = record { long = h .long; at = λ i. h .at i ∙ ap (λ (l : List ℕ). getD l i 0) same } }
 
-  pub next-past : (i : ℕ) → m ≤ i → getD (nextQ (prime q) s before b r) i 0 ≡ 0
-  next-past i l = List·getD-eq-default (nextQ (prime q) s before b r) 0 {n = i} (let e = g .short in omega arith)
-
   pub moved-past : {z w : List ℕ} → Moved (prime q) s before b r z w → (i : ℕ) → m ≤ i → getD w i 0 ≡ 0
-  moved-past h i l = h .q-places .at i ∙ next-past i l
+  moved-past h i l = h .q-places .at i ∙ next-past g i l
 
   next-trim : trim (modulo q) (nextQ (prime q) s before b r) ≡ nextQ (prime q) s before b r
   unfolding nextQ

@@ -11,10 +11,11 @@ ghost use Rattle.base_field.specs.Named.{IsField, name, ops};
 ghost use Rattle.base_polynomial.specs.Places.{Places, Within};
 ghost use Rattle.base_polynomial.specs.Row.{Bounded};
 ghost use Rattle.walk_step.specs.Step.{stepQuo, nextRem, Inverses, Division, Ready, Moved, Stepped};
-use crate::linear::linear;
 use base_field::Field;
 use base_field::reduce;
 use base_polynomial::product::excess;
+use walk_short::linear::linear;
+use walk_short::quadratic::quadratic;
 
 // The coefficient at k of twice − rest − x·Q, where x has l places and zeros before `from`. q − a stands for
 // −a, so that no sum goes below 0; 128 products of 4,095² are below 2³¹.
@@ -178,7 +179,7 @@ fn general(
     next(f, before, &a, top + 1 - size, remains, rest, top, after);
 }
 
-// One step, by the shorter way where the quotient has degree 1.
+// One step, by a shorter way where the quotient has degree 1 or 2.
 fn fill(
     f: Field,
     lead_inverse: u32,
@@ -199,6 +200,18 @@ fn fill(
 {
     if top == size + 1 {
         linear(
+            f,
+            lead_inverse,
+            twice,
+            before,
+            current,
+            size,
+            rest,
+            remains,
+            after,
+        );
+    } else if top == size + 2 {
+        quadratic(
             f,
             lead_inverse,
             twice,

@@ -1,6 +1,6 @@
 -- One step of the walk of √D, with top = g + 2: where the walk stands after it, and whether its Q is
 -- constant.
-use Prim.Native.Nat.{ℕ, suc, _+_, _-_, _≤_, _<_}
+use Prim.Native.Nat.{ℕ, suc, _+_, _-_, _<_}
 use native.Mathlib.Nat.{eq-or-lt-of-le}
 use native.Mathlib.Numerals.{add-one}
 use native.Mathlib.Omega.{arith}
@@ -12,7 +12,7 @@ use Rattle.spec_arithmetic.specs.Field.{prime, modulo}
 use Rattle.spec_definitions.specs.Walk.{Q, degreeBefore}
 use Rattle.spec_laws.specs.Admitted.{Admitted, surd-of}
 use Rattle.spec_laws.specs.Fraction.{Q-length}
-use Rattle.spec_laws.specs.QuasiPeriod.{Quasi, NoQuasi}
+use Rattle.spec_laws.specs.QuasiPeriod.{Quasi}
 use Rattle.base_polynomial.specs.Pad.{at-pad}
 use Rattle.walk_state.specs.State.{rootD, State, state-next}
 use Rattle.walk_state.specs.Start.{Prepared}

@@ -1,27 +1,23 @@
 -- Where the walk of √D stands: the state at its index and the degree of p_{i−1}. Whether a constant Q was met
 -- is told by the sizes.
 use Prim.Native.Nat.{ℕ, suc, _+_, _*_, _-_, _≤_, _<_}
-use native.Mathlib.Nat.{eq-or-lt-of-le, mul-le-mul}
-use native.Mathlib.Numerals.{add-one}
+use native.Mathlib.Nat.{mul-le-mul}
 use native.Mathlib.Omega.{arith}
 use mathlib.Core.Path.{_≡_, sym, ap, ap₂, _∙_, subst, subst₂}
-use mathlib.Core.Logic.{⊎-elim}
 use mathlib.Core.List.{List}
-use lib.ListN.{length, set}
 use Rattle.spec_arithmetic.specs.Field.{FieldName, prime, ops, modulo}
-use Rattle.spec_definitions.specs.Walk.{Q, degreeBefore}
+use Rattle.spec_definitions.specs.Walk.{degreeBefore}
 use Rattle.spec_definitions.specs.Ticket.{budgets, degrees}
 use Rattle.spec_laws.specs.Admitted.{Admitted, surd-of}
 use Rattle.spec_laws.specs.Convergents.{degree-zero, degree-suc, degree-most}
 use Rattle.spec_laws.specs.Fraction.{Q-some, Q-length}
-use Rattle.spec_laws.specs.QuasiPeriod.{Quasi, NoQuasi}
+use Rattle.spec_laws.specs.QuasiPeriod.{NoQuasi}
 use Rattle.base_polynomial.specs.Record.{poly, Held}
-use Rattle.base_polynomial.specs.Places.{zeros}
 use Rattle.walk_step.specs.Step.{Ready}
-use Rattle.walk_state.specs.State.{rootD, State, state-first, state-ready, state-next}
+use Rattle.walk_state.specs.State.{rootD, State, state-first, state-ready}
 use Rattle.walk_state.specs.Start.{Prepared, one-is}
 use Rattle.walk_stride.specs.declared.Progress.{Progress}
-use Rattle.walk_stride.specs.Progress.{Begun, Going, Taken, Turned}
+use Rattle.walk_stride.specs.Progress.{Begun, Going}
 
 pub record Walked (f : FieldName) (g : ℕ) (D before current rest : List ℕ) (at : Progress) : Type 0 where
   pub state : State f g D (at .index .0) before current rest (at .size)

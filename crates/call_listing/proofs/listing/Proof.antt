@@ -5,8 +5,8 @@ use native.Mathlib.Omega.{arith}
 use borrow.Author.Needs.{needs}
 use Rattle.spec_demands.specs.LeastAnswers.{t3-listing}
 use Rattle.ticket_read.specs.Accepted.{accepted, number-is}
-use Rattle.call_regulator.specs.Regulator.{refused-outcome, accepted-outcome}
-use Rattle.call_listing.specs.Listing.{walkable, kept-refused, words-answer}
+use Rattle.call_regulator.specs.Regulator.{walkable, refused-outcome, accepted-outcome}
+use Rattle.call_listing.specs.Listing.{kept-refused, words-answer}
 use Rattle.call_listing.proofs.listing.Statement.{statement}
 use Rattle.call_listing.proofs.listing.Tie as tie
 

@@ -3,8 +3,8 @@
 use mathlib.Core.Path.{sym, ap, _∙_}
 use native.Mathlib.Omega.{arith}
 use borrow.Author.Needs.{needs}
-use Rattle.walk_run.specs.Outcome.{meaning}
-use Rattle.walk_run.proofs.Kept.{not-found}
+use Rattle.walk_outcome.specs.Outcome.{meaning}
+use Rattle.walk_outcome.proofs.Kept.{not-found}
 use Rattle.call_listing.specs.Listing.{kept, from-outcome}
 use Rattle.call_listing.proofs.listing_of.Statement.{statement}
 use Rattle.call_listing.proofs.listing_of.Tie as tie

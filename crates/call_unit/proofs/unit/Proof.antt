@@ -4,8 +4,8 @@ use mathlib.Core.Path.{refl}
 use native.Mathlib.Omega.{arith}
 use borrow.Author.Needs.{needs}
 use Rattle.ticket_read.specs.Accepted.{accepted, number-is}
-use Rattle.call_regulator.specs.Regulator.{refused-outcome, accepted-outcome}
-use Rattle.call_unit.specs.Unit.{walkable, kept-refused, words-answer, least-written}
+use Rattle.call_regulator.specs.Regulator.{walkable, refused-outcome, accepted-outcome}
+use Rattle.call_unit.specs.Unit.{kept-refused, words-answer, least-written}
 use Rattle.call_unit.proofs.unit.Statement.{statement}
 use Rattle.call_unit.proofs.unit.Tie as tie
 

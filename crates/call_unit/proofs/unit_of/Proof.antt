@@ -1,12 +1,10 @@
 -- `unit_of` meets its contract: a spent budget leaves the lists as they are, a walk that is found goes to
 -- `unit_found`.
-use mathlib.Core.Path.{sym, ap, _∙_, subst}
+use mathlib.Core.Path.{sym, ap, _∙_}
 use native.Mathlib.Omega.{arith}
 use borrow.Author.Needs.{needs}
-use Rattle.spec_definitions.specs.Answers.{Outcome}
-use Rattle.spec_definitions.specs.Units.{unitFrom}
-use Rattle.walk_run.specs.Outcome.{meaning}
-use Rattle.walk_run.proofs.Kept.{not-found}
+use Rattle.walk_outcome.specs.Outcome.{meaning}
+use Rattle.walk_outcome.proofs.Kept.{not-found}
 use Rattle.call_unit.specs.Unit.{kept, from-outcome}
 use Rattle.call_unit.proofs.unit_of.Statement.{statement}
 use Rattle.call_unit.proofs.unit_of.Tie as tie

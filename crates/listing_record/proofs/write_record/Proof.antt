@@ -12,15 +12,18 @@ add-ideal-of : tie.Need-add-ideal-of
 add-ideal-of c = search needs
 
 ideal-of-requires : tie.Need-ideal-of-requires
-ideal-of-requires c κs = let s = c .before in let n = s .pre .1 .0 .1 in (s .pre .0, ((omega arith, s .pre .1 .0 .2), (s .pre .1 .1 .0, s .pre .1 .1 .1 .0)))
+ideal-of-requires c κs =
+    let s = c .before .before .before in
+    let n = s .pre .1 .0 .1 in
+    (s .pre .0, ((omega arith, s .pre .1 .0 .2), (s .pre .1 .1 .0, s .pre .1 .1 .1 .0)))
 
-sub-t18 : tie.Need-sub-t18
-sub-t18 c = search needs
+sub-t20 : tie.Need-sub-t20
+sub-t20 c = search needs
 
 put-record-requires : tie.Need-put-record-requires
 put-record-requires c κs =
-    let i = c .before .before .before .before .before .before .before .before .before in
-    let s = i .before .before in
+    let i = c .before .before .before .before .before in
+    let s = i .before .before .before .before in
     let x = i .ideal-of .ensures in
     let h = s .pre .1 .1 .1 .0 in
     let q-fits = value-fits _ _ _ (s .pre .0 .2) (monic-result _ _ _ h _ _ (x .0) .held) in
@@ -32,8 +35,8 @@ same-length c = search needs
 
 returns : tie.Need-returns
 returns c =
-    let i = c .before .before .before .before .before .before .before .before .before .before .before .before in
-    let s = i .before .before in
+    let i = c .before .before .before .before .before .before .before .before in
+    let s = i .before .before .before .before in
     let a = s .args in
     let x = i .ideal-of .ensures in
     record-written (a .f .q) (a .n) (a .r .0) (a .index .0) (a .distance .0) (a .d .now) (a .rest .now) (a .current .now) (a .size) _ _ _ (a .out .now) (a .at) (s .pre .1 .0 .1) (x .0 .places) (x .1 .places) (c .before .before .put-record .ensures (a .f .q))
@@ -44,7 +47,7 @@ write-record-spec =
     (tie.spec
     add-ideal-of
     ideal-of-requires
-    sub-t18
+    sub-t20
     put-record-requires
     same-length
     returns)

@@ -1,7 +1,7 @@
 -- What is printed lies within the buffer.
 use mathlib.Core.Path.{sym}
 use lib.Seq.{length-take-le}
-use Rattle.orders.specs.Printed.{program-within}
+use Rattle.out_program.specs.Program.{program-within}
 use borrow.Author.Needs.{needs}
 use Rattle.orders.proofs.main.Statement.{statement}
 use Rattle.orders.proofs.main.Tie as tie

@@ -8,19 +8,19 @@ use denote.Ref.{now}
 use borrow.Author.Needs.{needs}
 use Rattle.spec_definitions.specs.Ticket.{firstOf}
 use Rattle.base_field.specs.Named.{name}
-use Rattle.ticket_tests.specs.Radicand.{coefficients, radicand-size, radicand-poly, radicand-itself}
-use Rattle.ticket_tests.specs.Refusal.{radicandTests}
+use Rattle.ticket_radicand.specs.Radicand.{coefficients, radicand-size, radicand-poly, radicand-itself}
+use Rattle.ticket_radicand.specs.Refusal.{radicandTests}
 use Rattle.ticket_read.specs.Read.{stands-path, stands-accepted}
 use Rattle.ticket_read.proofs.read_radicand.Statement.{statement}
 use Rattle.ticket_read.proofs.read_radicand.Tie as tie
 
-radicand-requires : tie.Need-radicand-requires
-radicand-requires c κs = search needs
+radicand-of-requires : tie.Need-radicand-of-requires
+radicand-of-requires c κs = search needs
 
 radicand-refusal-requires : tie.Need-radicand-refusal-requires
 radicand-refusal-requires c κs =
     let s = c .before .before in
-    let is = c .radicand .ensures (name (s .args .f)) in
+    let is = c .radicand-of .ensures (name (s .args .f)) in
     let w : List ℕ = now (s .args .words) in
     (s .pre .0, ((s .pre .1, radicand-size _ w (s .pre .1) (omega arith) is), radicand-itself _ w (s .pre .1) (omega arith) is))
 
@@ -28,7 +28,7 @@ radicand-refusal-requires c κs =
 tested : (c : tie.After-radicand-refusal) → c .radicand-refusal .result ≡ firstOf (radicandTests (name (c .before .before .before .args .f)) (c .before .before .before .args .n) (coefficients (c .before .before .before .args .n) (now (c .before .before .before .args .words))))
 tested c =
     let s = c .before .before .before in
-    c .radicand-refusal .ensures ∙ ap (λ (D : List ℕ). firstOf (radicandTests (name (s .args .f)) (s .args .n) D)) (radicand-poly _ (now (s .args .words)) (s .pre .1) (omega arith) (c .before .radicand .ensures (name (s .args .f))))
+    c .radicand-refusal .ensures ∙ ap (λ (D : List ℕ). firstOf (radicandTests (name (s .args .f)) (s .args .n) D)) (radicand-poly _ (now (s .args .words)) (s .pre .1) (omega arith) (c .before .radicand-of .ensures (name (s .args .f))))
 
 refused-requires : tie.Need-refused-requires
 refused-requires c κs = search needs
@@ -56,13 +56,13 @@ returns-2 : tie.Need-returns-2
 returns-2 c =
     let t = c .before .before .before in
     let s = t .before .before .before in
-    stands-accepted (s .pre .0) (t .before .radicand .ensures _) (c .value .ensures) (sym (c .before .before .if1 .left) ∙ tested t)
+    stands-accepted (s .pre .0) (t .before .radicand-of .ensures _) (c .value .ensures) (sym (c .before .before .if1 .left) ∙ tested t)
 
 pub read-radicand-spec : {M : Type 1} → statement M
 read-radicand-spec =
     tie.close
     (tie.spec
-    radicand-requires
+    radicand-of-requires
     radicand-refusal-requires
     refused-requires
     returns

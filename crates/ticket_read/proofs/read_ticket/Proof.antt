@@ -11,11 +11,13 @@ use borrow.Author.Needs.{needs}
 use Rattle.spec_arithmetic.specs.Field.{FieldName, prime}
 use Rattle.spec_arithmetic.specs.Words.{value}
 use Rattle.spec_definitions.specs.Ticket.{ticket, wrongHead, firstOf}
-use Rattle.spec_laws.specs.Admitted.{field-of}
+use Rattle.spec_laws.specs.Admitted.{field-of, layout-length}
 use Rattle.base_field.specs.Named.{IsField, made}
-use Rattle.ticket_tests.specs.Radicand.{coefficients}
-use Rattle.ticket_tests.specs.Refusal.{radicandTests, LaidOut, laid-out, refused-1, refused-by-layout, refused-by-radicand, ticket-parts, head-long, degree-most, layout-length}
+use Rattle.ticket_layout.specs.Refusal.{LaidOut, laid-out, head-long, degree-most}
+use Rattle.ticket_radicand.specs.Radicand.{coefficients}
+use Rattle.ticket_radicand.specs.Refusal.{radicandTests}
 use Rattle.ticket_read.specs.Read.{stands-path}
+use Rattle.ticket_read.specs.Refusal.{refused-1, refused-by-layout, refused-by-radicand, ticket-parts}
 use Rattle.ticket_read.proofs.read_ticket.Statement.{statement}
 use Rattle.ticket_read.proofs.read_ticket.Tie as tie
 

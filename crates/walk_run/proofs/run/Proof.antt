@@ -13,7 +13,7 @@ seek-requires c κs =
     (s .pre .0, (s .pre .1 .0, (s .pre .1 .1, p .prepare .ensures)))
 
 returns : tie.Need-returns
-returns c = search needs
+returns c = c .seek .ensures
 
 pub run-spec : {M : Type 1} → statement M
 run-spec = tie.close (tie.spec prepare-requires seek-requires returns)

@@ -1,5 +1,6 @@
--- What a step asks for is asked for here.
+-- What a step asks for is asked for here, and the counts are as they are written.
 use native.Mathlib.Omega.{arith}
+use mathlib.Core.Path.{refl}
 use borrow.Author.Needs.{needs}
 use Rattle.walk_stride.proofs.stride.Statement.{statement}
 use Rattle.walk_stride.proofs.stride.Tie as tie
@@ -23,7 +24,7 @@ element-copy-out-t22 : tie.Need-element-copy-out-t22
 element-copy-out-t22 c = search needs
 
 returns : tie.Need-returns
-returns c = search needs
+returns c = record { stepped = search needs; index-is = refl; degree-is = refl; last-is = refl }
 
 pub stride-spec : {M : Type 1} → statement M
 stride-spec = tie.close (tie.spec step-requires add-t14 sub-t16 add-t18 element-copy-out-t22 returns)

@@ -5,7 +5,7 @@ use Rattle.base_places.specs.Places.{length-zeros, at-zeros}
 use Rattle.base_polynomial.specs.Linear.{held-within}
 use Rattle.base_places.specs.Held.{held-length}
 use Rattle.base_polynomial.specs.Result.{size-rem}
-use Rattle.base_euclid.specs.Divided.{quo-places, quo-within}
+use Rattle.base_division.specs.Divided.{quo-places, quo-within}
 use Rattle.base_euclid.specs.Turn.{last-gcd, last-u, last-v, one-gcd, one-u, one-v, turn-held, turn-gcd, turn-u, turn-v-held, turn-u-held, turn-fits, turn-v}
 use borrow.Author.Needs.{needs}
 use Prim.Native.Nat.{ℕ, _<_}
@@ -15,8 +15,8 @@ use Rattle.base_euclid.proofs.bezout.bezout.Reads as bezout
 use Rattle.base_euclid.proofs.bezout.bezout.Kinds as bezout-kinds
 use Rattle.base_euclid.proofs.bezout.+bezout.Lts-bezout as bezout-lts
 use Rattle.base_euclid.proofs.bezout.bezout_zero.Reads as bezout-zero-reads
-use Rattle.base_euclid.proofs.division.divide_cleared.Reads as divide-cleared-reads
-use Rattle.base_euclid.proofs.division.subtract_product.Reads as subtract-product-reads
+use Rattle.base_division.proofs.division.divide_cleared.Reads as divide-cleared-reads
+use Rattle.base_division.proofs.difference.subtract_product.Reads as subtract-product-reads
 use Rattle.base_places.proofs.product.excess.Reads as excess-reads
 use Rattle.base_euclid.proofs.bezout.+bezout.{statement}
 use Rattle.base_euclid.proofs.bezout.+bezout.Tie.{close}

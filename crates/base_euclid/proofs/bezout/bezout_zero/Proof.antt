@@ -6,7 +6,7 @@ use Rattle.spec_arithmetic.specs.Field.{modulo, prime}
 use Rattle.spec_arithmetic.specs.Polynomials.{trim}
 use Rattle.base_places.specs.Record.{Is}
 use Rattle.base_polynomial.specs.Linear.{is-zero}
-use Rattle.base_euclid.specs.Monic.{lead-inverse-less}
+use Rattle.base_polynomial.specs.Monic.{lead-inverse-less}
 use borrow.Author.Needs.{needs}
 use Rattle.base_euclid.proofs.bezout.bezout_zero.Statement.{statement}
 use Rattle.base_euclid.proofs.bezout.bezout_zero.Tie as tie

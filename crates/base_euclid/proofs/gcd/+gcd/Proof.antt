@@ -10,9 +10,8 @@ use borrow.Fn.PlainCycle.{Measures, is, falls, and}
 use Rattle.base_euclid.proofs.gcd.gcd.Reads as gcd
 use Rattle.base_euclid.proofs.gcd.gcd.Kinds as gcd-kinds
 use Rattle.base_euclid.proofs.gcd.+gcd.Lts-gcd as gcd-lts
-use Rattle.base_euclid.proofs.division.remainder.Reads as remainder-reads
-use Rattle.base_euclid.proofs.gcd.lead_inverse.Reads as lead-inverse-reads
-use Rattle.base_euclid.proofs.gcd.monic_by.Reads as monic-by-reads
+use Rattle.base_division.proofs.division.remainder.Reads as remainder-reads
+use Rattle.base_polynomial.proofs.arrays.monic.Reads as monic-reads
 use Rattle.base_euclid.proofs.gcd.+gcd.{statement}
 use Rattle.base_euclid.proofs.gcd.+gcd.Tie.{close}
 
@@ -25,59 +24,29 @@ gcd-at t = and 3 gcd-kinds.ps (is 3 gcd-kinds.ps μ-gcd t) gcd.Pre
 abbrev gcd-below : ℕ → In 3 gcd-kinds.ps
 gcd-below t = and 3 gcd-kinds.ps (falls 3 gcd-kinds.ps _<_ μ-gcd t) gcd.Pre
 
-gcd-lead-inverse-requires : (t : ℕ) → gcd-lts.Need-lead-inverse-requires (
-  lead-inverse-reads.Asked,
-  lead-inverse-reads.Learnt,
-  monic-by-reads.Asked,
-  monic-by-reads.Learnt,
+gcd-monic-requires : (t : ℕ) → gcd-lts.Need-monic-requires (
+  monic-reads.Asked,
+  monic-reads.Learnt,
   remainder-reads.Asked,
   remainder-reads.Learnt,
   gcd-below t,
   gcd.Post,
 ) (gcd-at t) gcd.Post
-gcd-lead-inverse-requires t c κs = search needs
+gcd-monic-requires t c κs = search needs
 
-gcd-monic-by-requires : (t : ℕ) → gcd-lts.Need-monic-by-requires (
-  lead-inverse-reads.Asked,
-  lead-inverse-reads.Learnt,
-  monic-by-reads.Asked,
-  monic-by-reads.Learnt,
+gcd-monic-requires-2 : (t : ℕ) → gcd-lts.Need-monic-requires-2 (
+  monic-reads.Asked,
+  monic-reads.Learnt,
   remainder-reads.Asked,
   remainder-reads.Learnt,
   gcd-below t,
   gcd.Post,
 ) (gcd-at t) gcd.Post
-gcd-monic-by-requires t c κs = search needs
-
-gcd-lead-inverse-requires-2 : (t : ℕ) → gcd-lts.Need-lead-inverse-requires-2 (
-  lead-inverse-reads.Asked,
-  lead-inverse-reads.Learnt,
-  monic-by-reads.Asked,
-  monic-by-reads.Learnt,
-  remainder-reads.Asked,
-  remainder-reads.Learnt,
-  gcd-below t,
-  gcd.Post,
-) (gcd-at t) gcd.Post
-gcd-lead-inverse-requires-2 t c κs = search needs
-
-gcd-monic-by-requires-2 : (t : ℕ) → gcd-lts.Need-monic-by-requires-2 (
-  lead-inverse-reads.Asked,
-  lead-inverse-reads.Learnt,
-  monic-by-reads.Asked,
-  monic-by-reads.Learnt,
-  remainder-reads.Asked,
-  remainder-reads.Learnt,
-  gcd-below t,
-  gcd.Post,
-) (gcd-at t) gcd.Post
-gcd-monic-by-requires-2 t c κs = search needs
+gcd-monic-requires-2 t c κs = search needs
 
 gcd-remainder-requires : (t : ℕ) → gcd-lts.Need-remainder-requires (
-  lead-inverse-reads.Asked,
-  lead-inverse-reads.Learnt,
-  monic-by-reads.Asked,
-  monic-by-reads.Learnt,
+  monic-reads.Asked,
+  monic-reads.Learnt,
   remainder-reads.Asked,
   remainder-reads.Learnt,
   gcd-below t,
@@ -86,10 +55,8 @@ gcd-remainder-requires : (t : ℕ) → gcd-lts.Need-remainder-requires (
 gcd-remainder-requires t c κs = search needs
 
 gcd-gcd-requires : (t : ℕ) → gcd-lts.Need-gcd-requires (
-  lead-inverse-reads.Asked,
-  lead-inverse-reads.Learnt,
-  monic-by-reads.Asked,
-  monic-by-reads.Learnt,
+  monic-reads.Asked,
+  monic-reads.Learnt,
   remainder-reads.Asked,
   remainder-reads.Learnt,
   gcd-below t,
@@ -105,38 +72,32 @@ gcd-gcd-requires t c κs =
     (omega arith, (s .pre .1 .0, (b, turn-held _ p a b (omega arith) r)))
 
 gcd-returns : (t : ℕ) → gcd-lts.Need-returns (
-  lead-inverse-reads.Asked,
-  lead-inverse-reads.Learnt,
-  monic-by-reads.Asked,
-  monic-by-reads.Learnt,
+  monic-reads.Asked,
+  monic-reads.Learnt,
   remainder-reads.Asked,
   remainder-reads.Learnt,
   gcd-below t,
   gcd.Post,
 ) (gcd-at t) gcd.Post
 gcd-returns t c =
-    let s = c .before .before .before .before .before .before in
-    gcd-last _ (s .pre .1 .0 .0) (s .pre .1 .1 .0) (s .pre .1 .1 .1) (search needs) _ _ (c .monic-by .ensures)
+    let s = c .before .before .before .before in
+    gcd-last _ (s .pre .1 .0 .0) (s .pre .1 .1 .0) (s .pre .1 .1 .1) (search needs) _ _ (c .monic .ensures)
 
 gcd-returns-2 : (t : ℕ) → gcd-lts.Need-returns-2 (
-  lead-inverse-reads.Asked,
-  lead-inverse-reads.Learnt,
-  monic-by-reads.Asked,
-  monic-by-reads.Learnt,
+  monic-reads.Asked,
+  monic-reads.Learnt,
   remainder-reads.Asked,
   remainder-reads.Learnt,
   gcd-below t,
   gcd.Post,
 ) (gcd-at t) gcd.Post
 gcd-returns-2 t c =
-    let s = c .before .before .before .before .before .before .before in
-    gcd-one _ (s .pre .1 .0 .0) (s .pre .1 .1 .0) (s .pre .1 .1 .1) (search needs) _ _ (c .monic-by2 .ensures)
+    let s = c .before .before .before .before .before in
+    gcd-one _ (s .pre .1 .0 .0) (s .pre .1 .1 .0) (s .pre .1 .1 .1) (search needs) _ _ (c .monic2 .ensures)
 
 gcd-returns-3 : (t : ℕ) → gcd-lts.Need-returns-3 (
-  lead-inverse-reads.Asked,
-  lead-inverse-reads.Learnt,
-  monic-by-reads.Asked,
-  monic-by-reads.Learnt,
+  monic-reads.Asked,
+  monic-reads.Learnt,
   remainder-reads.Asked,
   remainder-reads.Learnt,
   gcd-below t,
@@ -148,10 +109,8 @@ gcd-returns-3 t c =
 
 pub +gcd-spec : {M : Type 1} → statement M
 +gcd-spec = close μ-gcd λ t. gcd-lts.spec (
-  lead-inverse-reads.Asked,
-  lead-inverse-reads.Learnt,
-  monic-by-reads.Asked,
-  monic-by-reads.Learnt,
+  monic-reads.Asked,
+  monic-reads.Learnt,
   remainder-reads.Asked,
   remainder-reads.Learnt,
   gcd-below t,
@@ -159,10 +118,8 @@ pub +gcd-spec : {M : Type 1} → statement M
 )
     (gcd-at t)
     gcd.Post
-    (gcd-lead-inverse-requires t)
-    (gcd-monic-by-requires t)
-    (gcd-lead-inverse-requires-2 t)
-    (gcd-monic-by-requires-2 t)
+    (gcd-monic-requires t)
+    (gcd-monic-requires-2 t)
     (gcd-remainder-requires t)
     (gcd-gcd-requires t)
     (gcd-returns t)

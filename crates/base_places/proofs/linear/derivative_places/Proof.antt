@@ -2,7 +2,6 @@
 use Prim.Native.Nat.{_+_, _-_, _*_, _<_, _≤_}
 use native.Mathlib.Nat.{mul-le-mul}
 use native.Mathlib.Omega.{arith}
-use mathlib.Core.Path.{refl}
 use lib.ListN.{getD}
 use borrow.Author.Needs.{needs}
 use Rattle.spec_arithmetic.specs.Field.{modulo}
@@ -12,10 +11,10 @@ use Rattle.base_places.proofs.linear.derivative_places.Statement.{state
 use Rattle.base_places.proofs.linear.derivative_places.Tie as tie
 
 abbrev Inv-loop : tie.InvT-loop
-Inv-loop x n z₀ q i₀ z i = (i ≤ n) × Filled z (λ j. modulo q .mul (j + 1) (getD x (j + 1) 0)) i
+Inv-loop f x n z₀ i₀ z i = (i ≤ n) × Filled z (λ j. modulo (f .q) .mul (j + 1) (getD x (j + 1) 0)) i
 
 abbrev μ-loop : tie.MeasureT-loop
-μ-loop x n z₀ q i₀ z i = n - i
+μ-loop f x n z₀ i₀ z i = n - i
 
 loop-holds : tie.Need-loop-holds Inv-loop μ-loop
 loop-holds c = (search needs, filled-none _)
@@ -23,23 +22,23 @@ loop-holds c = (search needs, filled-none _)
 add-loop : tie.Need-add-loop Inv-loop μ-loop
 add-loop c = search needs
 
-add-z : tie.Need-add-z Inv-loop μ-loop
-add-z c = search needs
+add-reduce : tie.Need-add-reduce Inv-loop μ-loop
+add-reduce c = search needs
 
-cast-z : tie.Need-cast-z Inv-loop μ-loop
-cast-z c = search needs
+cast-reduce : tie.Need-cast-reduce Inv-loop μ-loop
+cast-reduce c = search needs
 
-add-z-2 : tie.Need-add-z-2 Inv-loop μ-loop
-add-z-2 c = search needs
+add-reduce-2 : tie.Need-add-reduce-2 Inv-loop μ-loop
+add-reduce-2 c = search needs
 
-mul-z : tie.Need-mul-z Inv-loop μ-loop
-mul-z c = search needs
+mul-reduce : tie.Need-mul-reduce Inv-loop μ-loop
+mul-reduce c = search needs
 
-element-copy-out-z : tie.Need-element-copy-out-z Inv-loop μ-loop
-element-copy-out-z c = search needs
+element-copy-out-reduce : tie.Need-element-copy-out-reduce Inv-loop μ-loop
+element-copy-out-reduce c = search needs
 
-mul-z-2 : tie.Need-mul-z-2 Inv-loop μ-loop
-mul-z-2 c =
+mul-reduce-2 : tie.Need-mul-reduce-2 Inv-loop μ-loop
+mul-reduce-2 c =
     let s = c .before .before .before .before in
     let i = c .before .before .loop .i in
     let w : getD (s .args .x .now) (i + 1) 0 < s .args .f .q = s .pre .1 .reduced (i + 1) in
@@ -48,11 +47,11 @@ mul-z-2 c =
     let m : (i + 1) * getD (s .args .x .now) (i + 1) 0 ≤ 528255 = mul-le-mul a b in
     omega arith
 
-rem-z : tie.Need-rem-z Inv-loop μ-loop
-rem-z c = omega (arith, c .before .before .before .before .pre .1 .reduced 0)
+reduce-requires : tie.Need-reduce-requires Inv-loop μ-loop
+reduce-requires c κs = search needs
 
-mul-z-3 : tie.Need-mul-z-3 Inv-loop μ-loop
-mul-z-3 c = search needs
+mul-z : tie.Need-mul-z Inv-loop μ-loop
+mul-z c = search needs
 
 element-write-z : tie.Need-element-write-z Inv-loop μ-loop
 element-write-z c = search needs
@@ -65,8 +64,8 @@ loop-less c = search needs
 
 loop-again : tie.Need-loop-again Inv-loop μ-loop
 loop-again c =
-    let l = c .before .before .loop in
-    (search needs, filled-more _ _ _ _ (l .inv .1) (omega arith) refl)
+    let l = c .before .before .before .loop in
+    (search needs, filled-more _ _ _ _ (l .inv .1) (omega arith) (c .reduce .ensures))
 
 returns : tie.Need-returns Inv-loop μ-loop
 returns c =
@@ -83,14 +82,14 @@ derivative-places-spec =
     μ-loop
     loop-holds
     add-loop
-    add-z
-    cast-z
-    add-z-2
+    add-reduce
+    cast-reduce
+    add-reduce-2
+    mul-reduce
+    element-copy-out-reduce
+    mul-reduce-2
+    reduce-requires
     mul-z
-    element-copy-out-z
-    mul-z-2
-    rem-z
-    mul-z-3
     element-write-z
     add-i
     loop-less

@@ -33,8 +33,8 @@ shared-slice-read-c c = search needs
 mul-c-2 : tie.Need-mul-c-2 Inv-loop μ-loop
 mul-c-2 c = search needs
 
-array-write-c : tie.Need-array-write-c Inv-loop μ-loop
-array-write-c c = search needs
+element-write-c : tie.Need-element-write-c Inv-loop μ-loop
+element-write-c c = search needs
 
 add-i : tie.Need-add-i Inv-loop μ-loop
 add-i c = search needs
@@ -50,9 +50,9 @@ top-requires c κs = (search needs, λ i h. c .before .before .loop .inv .1 .res
 
 returns : tie.Need-returns Inv-loop μ-loop
 returns c f zero below =
-    let w : List ℕ = now (c .before .before .before .before .before .args .words) in
+    let w : List ℕ = now (c .before .before .before .before .before .before .args .words) in
     let a = c .before .before .before .loop in
-    let p : Places (a .c) (λ i. getD w i 0) = filled-all _ _ _ (a .inv .1) (λ i h. List·getD-eq-default w 0 {n = i} (omega arith)) in
+    let p : Places (a .c) (λ i. getD w i 0) = filled-all _ _ _ (a .inv .1) (λ i h. List·getD-eq-default w 0 {n = i} (let e = c .before .before .loop-test .left in omega arith)) in
     is-result (f .q) zero _ _ _ (trim-idem (model (f .q) zero) w) (record { long = p .long; at = λ i. p .at i ∙ sym (at-trim (model (f .q) zero) w (below-of f zero w below) i) }) (c .top .ensures)
 
 pub load-spec : {M : Type 1} → statement M
@@ -65,7 +65,7 @@ load-spec =
     mul-c
     shared-slice-read-c
     mul-c-2
-    array-write-c
+    element-write-c
     add-i
     loop-less
     loop-again

@@ -11,7 +11,7 @@ use borrow.Author.Count.{below-more}
 use Rattle.spec_arithmetic.specs.Words.{someNot}
 use Rattle.spec_arithmetic.specs.Field.{fits}
 use Rattle.base_field.specs.Named.{name}
-use Rattle.ticket_tests.specs.Radicand.{take-none, take-at}
+use Rattle.spec_laws.specs.Coefficients.{take-none, take-at}
 use Rattle.ideal_pair.proofs.operand.some_from.Statement.{statement}
 use Rattle.ideal_pair.proofs.operand.some_from.Tie as tie
 

@@ -3,7 +3,7 @@
 use mathlib.Core.Path.{sym, subst}
 use Prim.Native.Nat.{ℕ, _<_}
 use Rattle.base_polynomial.specs.Held.{held-positive}
-use Rattle.listing_record.specs.Remainder.{past-places, result-places, monic-result, monic-size, remainder-is}
+use Rattle.listing_record.specs.Remainder.{past-places, result-places, monic-result, monic-size, monic-kept, remainder-is}
 use borrow.Author.Needs.{needs}
 use Rattle.listing_record.proofs.ideal.ideal_of.Statement.{statement}
 use Rattle.listing_record.proofs.ideal.ideal_of.Tie as tie
@@ -17,23 +17,29 @@ top-requires c κs =
     let positive = held-positive _ _ _ (s .pre .1 .1 .1) in
     (search needs, past-places _ positive (s .args .d .now) (s .args .rest .now) _ _ (c .before .sub-places .ensures) (s .pre .1 .1 .0 .0) (s .pre .1 .1 .0 .1))
 
-monic-requires : tie.Need-monic-requires
-monic-requires c κs = search needs
+lead-inverse-requires : tie.Need-lead-inverse-requires
+lead-inverse-requires c κs = search needs
 
-div-by-requires : tie.Need-div-by-requires
-div-by-requires c κs =
-    let s = c .before .before .before .before .before .before in
+monic-by-requires : tie.Need-monic-by-requires
+monic-by-requires c κs = search needs
+
+remainder-requires : tie.Need-remainder-requires
+remainder-requires c κs =
+    let s = c .before .before .before .before .before .before .before .before .before in
     let h = s .pre .1 .1 .1 in
-    let more = subst (λ (k : ℕ). 0 < k) (sym (monic-size _ _ _ h _ _ (c .monic .ensures) (s .pre .0 .0))) (s .pre .1 .0 .1) in
-    ((s .pre .0, more), (result-places _ (held-positive _ _ _ h) (s .args .d .now) (s .args .rest .now) _ _ (c .before .before .before .before .sub-places .ensures) (c .before .before .top .ensures) .held, monic-result _ _ _ h _ _ (c .monic .ensures) .held))
+    let q = c .before .before .monic-by .ensures in
+    let more = subst (λ (k : ℕ). 0 < k) (sym (monic-size _ _ _ h _ _ q (s .pre .0 .0))) (s .pre .1 .0 .1) in
+    let p = result-places _ (held-positive _ _ _ h) (s .args .d .now) (s .args .rest .now) _ _ (c .before .before .before .before .before .before .before .sub-places .ensures) (c .before .before .before .before .before .top .ensures) in
+    ((s .pre .0, more), (p .held, monic-result _ _ _ h _ _ q .held))
 
 returns : tie.Need-returns
 returns c =
-    let s = c .before .before .before .before .before .before .before .before in
+    let s = c .before .before .before .before .before .before .before .before .before .before in
     let h = s .pre .1 .1 .1 in
-    let p = result-places _ (held-positive _ _ _ h) (s .args .d .now) (s .args .rest .now) _ _ (c .before .before .before .before .before .before .sub-places .ensures) (c .before .before .before .before .top .ensures) in
-    (c .before .before .monic .ensures, remainder-is _ _ _ h _ _ (c .before .before .monic .ensures) _ _ _ _ _ p (c .before .div-by .ensures .1))
+    let q = c .before .before .before .monic-by .ensures in
+    let p = result-places _ (held-positive _ _ _ h) (s .args .d .now) (s .args .rest .now) _ _ (c .before .before .before .before .before .before .before .before .sub-places .ensures) (c .before .before .before .before .before .before .top .ensures) in
+    (monic-kept _ _ _ h _ _ q (s .pre .0 .0), remainder-is _ _ _ h _ _ q _ _ _ _ _ p (c .remainder .ensures))
 
 pub ideal-of-spec : {M : Type 1} → statement M
 ideal-of-spec =
-    tie.close (tie.spec sub-places-requires top-requires monic-requires div-by-requires returns)
+    tie.close (tie.spec sub-places-requires top-requires lead-inverse-requires monic-by-requires remainder-requires returns)

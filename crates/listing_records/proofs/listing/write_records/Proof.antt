@@ -1,5 +1,5 @@
 -- The invariant: the records of the indices 1 to the walk's are stored.
-use Prim.Native.Nat.{_+_, _-_, _/_, _≤_, _<_}
+use Prim.Native.Nat.{_-_, _≤_}
 use native.Mathlib.Omega.{arith}
 use Rattle.spec_arithmetic.specs.Field.{prime}
 use Rattle.base_polynomial.specs.Record.{poly}
@@ -32,20 +32,9 @@ loop-holds c =
     let i = c .begin .ensures .index-is in
     (omega arith, listed-first (s .args .radicand .now) (s .args .size) (s .pre .1 .0) (s .pre .1 .1 .0) (s .pre .1 .1 .1) (c .begin .ensures))
 
-add-t25 : tie.Need-add-t25 Inv-loop μ-loop
-add-t25 c =
+record-at-requires : tie.Need-record-at-requires Inv-loop μ-loop
+record-at-requires c κs =
     let t = c .before .before .before in
-    let l = t .before .before .before in
-    let s = start l in
-    let a = s .pre .1 .0 in
-    let p = s .pre .1 .1 .1 in
-    let v = l .loop .inv .1 in
-    let more = t .if1 .taken in
-    omega (arith, a .index-fits, more)
-
-write-record-requires : tie.Need-write-record-requires Inv-loop μ-loop
-write-record-requires c κs =
-    let t = c .before .before .before .before in
     let l = t .before .before .before in
     let s = start l in
     let a = s .pre .1 .0 in
@@ -58,7 +47,7 @@ write-record-requires c κs =
 
 add-place : tie.Need-add-place Inv-loop μ-loop
 add-place c =
-    let t = c .before .before .before .before .before .before .before in
+    let t = c .before .before .before .before .before .before in
     let l = t .before .before .before in
     let s = start l in
     let a = s .pre .1 .0 in
@@ -69,7 +58,7 @@ add-place c =
 
 add-place-2 : tie.Need-add-place-2 Inv-loop μ-loop
 add-place-2 c =
-    let t = c .before .before .before .before .before .before .before in
+    let t = c .before .before .before .before .before .before in
     let l = t .before .before .before in
     let s = start l in
     let a = s .pre .1 .0 in
@@ -80,7 +69,7 @@ add-place-2 c =
 
 turn-requires : tie.Need-turn-requires Inv-loop μ-loop
 turn-requires c κs =
-    let t = c .before .before .before .before .before .before .before .before .before .before in
+    let t = c .before .before .before .before .before .before .before .before .before in
     let l = t .before .before .before in
     let s = start l in
     let a = s .pre .1 .0 in
@@ -91,13 +80,13 @@ turn-requires c κs =
 
 loop-less : tie.Need-loop-less Inv-loop μ-loop
 loop-less c =
-    let t = c .before .before .before .before .before .before .before .before .before .before .before in
+    let t = c .before .before .before .before .before .before .before .before .before .before in
     omega (arith, t .if1 .taken, c .turn .ensures .taken .index-is)
 
 loop-again : tie.Need-loop-again Inv-loop μ-loop
 loop-again c =
     let w = c .before .before .before .before .before .before in
-    let t = w .before .before .before .before .before in
+    let t = w .before .before .before .before in
     let l = t .before .before .before in
     let s = start l in
     let a = s .pre .1 .0 in
@@ -105,7 +94,7 @@ loop-again c =
     let v = l .loop .inv .1 in
     let more = t .if1 .taken in
     let u = c .turn .ensures in
-    (omega (arith, more, u .taken .index-is), listed-next a p v (w .write-record .ensures) u)
+    (omega (arith, more, u .taken .index-is), listed-next a p v (w .record-at .ensures) u)
 
 same-length : tie.Need-same-length Inv-loop μ-loop
 same-length c = c .before .before .before .loop .inv .1 .long
@@ -124,8 +113,7 @@ write-records-spec =
     add-top
     begin-requires
     loop-holds
-    add-t25
-    write-record-requires
+    record-at-requires
     add-place
     add-place-2
     turn-requires

@@ -1,8 +1,9 @@
--- The unit stands in p and s; the work lists are cleared in the places that it took.
+-- The pairs of lists as they start, and the steps from there: the unit stands in p and s. The work lists are
+-- cleared in the places that it took.
 use Prim.Native.Nat.{ℕ, _+_}
 use native.Mathlib.Omega.{arith}
 use mathlib.Core.Path.{refl, sym, ap}
-use Rattle.unit_lists.specs.Lists.{unit-lists}
+use Rattle.unit_lists.specs.Lists.{start-pairs, start-room, start-ended, unit-lists}
 use borrow.Author.Needs.{needs}
 use Rattle.unit_lists.proofs.unit.write_unit.Statement.{statement}
 use Rattle.unit_lists.proofs.unit.write_unit.Tie as tie
@@ -10,22 +11,25 @@ use Rattle.unit_lists.proofs.unit.write_unit.Tie as tie
 add-count : tie.Need-add-count
 add-count c = search needs
 
-fill-requires : tie.Need-fill-requires
-fill-requires c κs =
-    let s = c .before .before .before .before .before .before .before .before in
-    (s .pre .0, (s .pre .1 .0, (s .pre .1 .1 .0, (s .pre .1 .1 .1 .0, (ap (λ (e : ℕ). e + 1) (sym (s .pre .1 .1 .1 .1 .0)), s .pre .1 .1 .1 .1 .1)))))
+start-lists-requires : tie.Need-start-lists-requires
+start-lists-requires c κs = search needs
 
-clear-requires : tie.Need-clear-requires
-clear-requires c κs =
-    let w = c .before .before .before .before .before .before .before .before .before in
-    let s = w .before .before .before .before .before .before .before .before .before in
-    omega (arith, s .pre .1 .1 .1 .1 .1 .x-room, w .fill .ensures .x-is .long)
+steps-requires : tie.Need-steps-requires
+steps-requires c κs =
+    let u = c .before .before .before .before .before .before .before .before .before .before .before .before in
+    let s = u .before .before .before .before .before .before .before .before .before in
+    let h = s .pre .1 .0 in
+    let e = u .start-lists .ensures in
+    (s .pre .0, (h, (s .pre .1 .1 .0, (s .pre .1 .1 .1 .0, (ap (λ (e : ℕ). e + 1) (sym (s .pre .1 .1 .1 .1 .0)), (start-room h (e .0) (e .1) (s .pre .1 .1 .1 .1 .1), start-pairs h (e .0) (e .1)))))))
 
-clear-requires-2 : tie.Need-clear-requires-2
-clear-requires-2 c κs =
-    let w = c .before .before .before .before .before .before .before .before .before .before .before .before .before in
-    let s = w .before .before .before .before .before .before .before .before .before in
-    omega (arith, s .pre .1 .1 .1 .1 .1 .y-room, w .fill .ensures .y-is .long)
+clear-work-requires : tie.Need-clear-work-requires
+clear-work-requires c κs =
+    let t = c .before .before .before .before .before .before .before .before .before .before in
+    let u = t .before .before .before .before .before .before .before .before .before .before .before .before .before in
+    let s = u .before .before .before .before .before .before .before .before .before in
+    let r = s .pre .1 .1 .1 .1 .1 in
+    let e = start-ended (s .pre .1 .0) (u .start-lists .ensures .0) (u .start-lists .ensures .1) (t .steps .ensures) in
+    (omega (arith, r .x-room, e .x-is .long), omega (arith, r .y-room, e .y-is .long))
 
 same-length : tie.Need-same-length
 same-length c = search needs
@@ -41,20 +45,21 @@ same-length-4 c = search needs
 
 returns : tie.Need-returns
 returns c =
-    let v = c .before .before in
-    let u = v .before .before .before .before in
-    let w = u .before .before .before .before .before .before .before .before .before .before in
-    let s = w .before .before .before .before .before .before .before .before .before in
-    unit-lists (s .args .n) (s .pre .1 .0) (w .fill .ensures) (u .clear .ensures) (v .clear2 .ensures) (s .pre .1 .1 .1 .1 .1) (s .args .r .0) (s .pre .1 .1 .1 .1 .0) refl
+    let v = c .before .before .before .before in
+    let t = v .before .before .before .before .before .before .before .before .before .before .before in
+    let u = t .before .before .before .before .before .before .before .before .before .before .before .before .before in
+    let s = u .before .before .before .before .before .before .before .before .before in
+    let e = start-ended (s .pre .1 .0) (u .start-lists .ensures .0) (u .start-lists .ensures .1) (t .steps .ensures) in
+    unit-lists (s .args .n) (s .pre .1 .0) e (v .clear-work .ensures .0) (v .clear-work .ensures .1) (s .pre .1 .1 .1 .1 .1) (s .args .r .0) (s .pre .1 .1 .1 .1 .0) refl
 
 pub write-unit-spec : {M : Type 1} → statement M
 write-unit-spec =
     tie.close
     (tie.spec
     add-count
-    fill-requires
-    clear-requires
-    clear-requires-2
+    start-lists-requires
+    steps-requires
+    clear-work-requires
     same-length
     same-length-2
     same-length-3

@@ -2,7 +2,7 @@
 use Prim.Native.Nat.{_<_}
 use native.Mathlib.Omega.{arith}
 use Rattle.walk_step.specs.Sizes.{quo-within}
-use Rattle.unit_recurrence.specs.Pair.{folded-cong}
+use Rattle.unit_combine.specs.Pair.{folded-cong}
 use borrow.Author.Needs.{needs}
 use Rattle.unit_recurrence.proofs.steps.advance.Statement.{statement}
 use Rattle.unit_recurrence.proofs.steps.advance.Tie as tie

@@ -1,5 +1,5 @@
 -- The state of the walk and the two pairs of lists at the walk's index, with m less it steps to go.
-use Prim.Native.Nat.{ℕ, suc, _+_, _-_, _/_, _≤_, _<_}
+use Prim.Native.Nat.{ℕ, suc, _+_, _-_, _/_, _≤_}
 use native.Mathlib.Omega.{arith}
 use mathlib.Core.Path.{_≡_, sym, subst, subst₂}
 use Rattle.spec_arithmetic.specs.Field.{prime}

@@ -1,7 +1,6 @@
 -- Quotient, remainder and next Q, one after the other.
-use native.Mathlib.Omega.{arith}
 use borrow.Author.Needs.{needs}
-use Rattle.walk_step.specs.Sizes.{quo-within, rem-within}
+use Rattle.walk_short.specs.Sizes.{quo-within, rem-within}
 use Rattle.walk_step.specs.Result.{division, next-short, moved}
 use Rattle.walk_step.proofs.step.general.Statement.{statement}
 use Rattle.walk_step.proofs.step.general.Tie as tie

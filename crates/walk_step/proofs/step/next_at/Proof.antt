@@ -5,7 +5,7 @@ use mathlib.Core.Path.{_∙_}
 use lib.ListN.{getD}
 use Rattle.spec_bridge.specs.Product.{dots}
 use Rattle.base_polynomial.specs.Product.{dots-all}
-use Rattle.walk_step.specs.Coefficients.{next-is}
+use Rattle.walk_short.specs.Coefficients.{next-is}
 use Rattle.walk_step.specs.Terms.{More, more-none, more-term, more-next}
 use borrow.Author.Needs.{needs}
 use Rattle.walk_step.proofs.step.next_at.Statement.{statement}
@@ -108,7 +108,7 @@ returns c =
     let a = s .args .a .now in
     let k = s .args .k in
     c .reduce .ensures
-    ∙ next-is (s .args .f .q) (omega arith) (s .args .before .now) a (s .args .remains .now) (s .args .rest .now) k (l .t) (dots a (s .args .remains .now) k (l .i)) (dots a (s .args .rest .now) k (l .i)) (l .inv .1 .count) (dots-all (s .args .f .q) (omega arith) a (s .args .remains .now) k (s .args .l) (l .i) (s .pre .1 .1 .1 .past) (omega arith) (omega arith)) (dots-all (s .args .f .q) (omega arith) a (s .args .rest .now) k (s .args .l) (l .i) (s .pre .1 .1 .1 .past) (omega arith) (omega arith)) (l .inv .1 .whole)
+    ∙ next-is (s .args .f .q) (omega arith) (s .args .before .now) a (s .args .remains .now) (s .args .rest .now) k (l .t) (dots a (s .args .remains .now) k (l .i)) (dots a (s .args .rest .now) k (l .i)) (dots-all (s .args .f .q) (omega arith) a (s .args .remains .now) k (s .args .l) (l .i) (s .pre .1 .1 .1 .past) (omega arith) (omega arith)) (dots-all (s .args .f .q) (omega arith) a (s .args .rest .now) k (s .args .l) (l .i) (s .pre .1 .1 .1 .past) (omega arith) (omega arith)) (l .inv .1 .sum)
 
 pub next-at-spec : {M : Type 1} → statement M
 next-at-spec =

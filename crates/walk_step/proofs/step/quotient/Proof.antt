@@ -9,10 +9,11 @@ use Rattle.spec_arithmetic.specs.Field.{prime, modulo}
 use Rattle.spec_arithmetic.specs.Polynomials.{sub, mul}
 use Rattle.spec_bridge.specs.Arithmetic.{oks-sub}
 use Rattle.spec_bridge.specs.Residues.{model, inverse-lt}
+use Rattle.base_places.specs.Places.{length-zeros, at-zeros}
+use Rattle.base_places.specs.Down.{Down, down-none, down-more, down-all}
 use Rattle.walk_step.specs.Step.{stepQuo}
-use Rattle.walk_step.specs.Down.{Down, down-none, down-more, down-all}
-use Rattle.walk_step.specs.Sizes.{positive, quo-past, quo-within-down}
-use Rattle.walk_step.specs.Quotient.{quo-at}
+use Rattle.walk_short.specs.Sizes.{positive, quo-past, quo-within-down}
+use Rattle.walk_short.specs.Quotient.{quo-at}
 use Rattle.walk_step.proofs.step.quotient.Statement.{statement}
 use Rattle.walk_step.proofs.step.quotient.Tie as tie
 
@@ -33,7 +34,7 @@ loop-holds c =
     let s = c .before in
     let p = s .pre .0 .0 in
     let d = s .pre .1 .1 .1 in
-    (omega arith, down-none _ _ (quo-past p d))
+    (omega arith, down-none _ _ _ length-zeros (λ i h. at-zeros i) (quo-past p d))
 
 sub-k : tie.Need-sub-k Inv-loop μ-loop
 sub-k c = search needs

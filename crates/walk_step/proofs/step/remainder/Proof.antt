@@ -6,8 +6,8 @@ use borrow.Author.Needs.{needs}
 use Rattle.spec_arithmetic.specs.Field.{prime}
 use Rattle.base_polynomial.specs.Places.{Filled, filled-none, filled-more, filled-all}
 use Rattle.walk_step.specs.Step.{nextRem}
-use Rattle.walk_step.specs.Sizes.{rem-past, quo-within}
-use Rattle.walk_step.specs.Quotient.{rem-at}
+use Rattle.walk_short.specs.Sizes.{rem-past, quo-within}
+use Rattle.walk_short.specs.Quotient.{rem-at}
 use Rattle.walk_step.proofs.step.remainder.Statement.{statement}
 use Rattle.walk_step.proofs.step.remainder.Tie as tie
 

@@ -5,7 +5,7 @@ use mathlib.Core.Path.{_∙_}
 use lib.ListN.{getD}
 use Rattle.spec_bridge.specs.Product.{dots}
 use Rattle.base_polynomial.specs.Product.{dots-all}
-use Rattle.walk_step.specs.Coefficients.{rest-is}
+use Rattle.walk_short.specs.Coefficients.{rest-is}
 use Rattle.walk_step.specs.Terms.{Less, less-none, less-term, less-next}
 use borrow.Author.Needs.{needs}
 use Rattle.walk_step.proofs.step.rest_at.Statement.{statement}
@@ -105,7 +105,7 @@ returns c =
     let l = c .before .before .loop in
     let h = s .pre .1 .1 .0 .1 (s .args .k) in
     c .reduce .ensures
-    ∙ rest-is (s .args .f .q) (omega arith) (s .args .twice .now) (s .args .rest .now) (s .args .x .now) (s .args .current .now) (s .args .k) (l .t) (dots (s .args .x .now) (s .args .current .now) (s .args .k) (l .i)) (l .inv .1 .count) h (dots-all (s .args .f .q) (omega arith) (s .args .x .now) (s .args .current .now) (s .args .k) (s .args .l) (l .i) (s .pre .1 .1 .1 .0 .past) (omega arith) (omega arith)) (l .inv .1 .whole)
+    ∙ rest-is (s .args .f .q) (omega arith) (s .args .twice .now) (s .args .rest .now) (s .args .x .now) (s .args .current .now) (s .args .k) (l .t) (dots (s .args .x .now) (s .args .current .now) (s .args .k) (l .i)) h (dots-all (s .args .f .q) (omega arith) (s .args .x .now) (s .args .current .now) (s .args .k) (s .args .l) (l .i) (s .pre .1 .1 .1 .0 .past) (omega arith) (omega arith)) (l .inv .1 .sum)
 
 pub rest-at-spec : {M : Type 1} → statement M
 rest-at-spec =

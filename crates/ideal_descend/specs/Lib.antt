@@ -1,0 +1,4 @@
+pub mod Difference
+pub mod Height
+pub mod Recurrence
+pub mod Turn

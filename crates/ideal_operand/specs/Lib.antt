@@ -1,0 +1,5 @@
+pub mod Operand
+pub mod Product
+pub mod Difference
+pub mod Upper
+pub mod Cofactor

@@ -1,0 +1,4 @@
+pub mod Sizes
+pub mod Multipliers
+pub mod Laws
+pub mod Shared

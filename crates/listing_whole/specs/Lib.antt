@@ -1,0 +1,2 @@
+pub mod Degrees
+pub mod Records

@@ -1,0 +1,4 @@
+pub mod Program
+pub mod Words
+pub mod Found
+pub mod FirstLine

@@ -1,0 +1,4 @@
+pub mod Pairs
+pub mod Lookups
+pub mod Records
+pub mod LentLists

@@ -1,0 +1,3 @@
+pub mod Radicand
+pub mod Refusal
+pub mod Squarefree
