@@ -1,11 +1,7 @@
 // What the contenders share: arguments, clock and report.
 // Each is called as  NAME q n steps c_0 .. c_n  and walks from index 0 for `steps` steps, past constants.
 // It prints the degree of the last p, the number of constants among Q_1 .. Q_steps, and the walk's processor seconds.
-#include <stdint.h>
-#include <stdio.h>
-#include <stdlib.h>
-#include <string.h>
-#include <time.h>
+#include "clock.h"
 
 static uint32_t q, n, D[80];
 static long steps;
@@ -15,12 +11,6 @@ static void arguments(int argc, char **argv) {
     q = atoi(argv[1]), n = atoi(argv[2]), steps = atol(argv[3]);
     if (n > 64 || argc != 5 + (int)n) exit(2);
     for (uint32_t i = 0; i <= n; i++) D[i] = atoi(argv[4 + i]);
-}
-
-static double seconds(void) {
-    struct timespec t;
-    clock_gettime(CLOCK_PROCESS_CPUTIME_ID, &t);
-    return t.tv_sec + 1e-9 * t.tv_nsec;
 }
 
 static void report(long degree, long constants, double time) {

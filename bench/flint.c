@@ -1,5 +1,5 @@
 // The walk by FLINT's nmod_poly with document 01's formulas.
-#include <flint/nmod_poly.h>
+#include "flint_root.h"
 #include "common.h"
 
 int main(int argc, char **argv) {
@@ -8,13 +8,7 @@ int main(int argc, char **argv) {
     nmod_poly_init(DD, q), nmod_poly_init(d, q), nmod_poly_init(P, q), nmod_poly_init(Q, q);
     nmod_poly_init(a, q), nmod_poly_init(t, q), nmod_poly_init(u, q);
     for (uint32_t i = 0; i <= n; i++) nmod_poly_set_coeff_ui(DD, i, D[i]);
-    int h = n / 2;
-    nmod_poly_set_coeff_ui(d, h, 1);
-    for (int k = h - 1; k >= 0; k--) {
-        nmod_poly_mul(t, d, d);
-        nmod_poly_sub(t, DD, t);
-        nmod_poly_set_coeff_ui(d, k, nmod_poly_get_coeff_ui(t, k + h) * ((q + 1) / 2) % q);
-    }
+    root_of(d, DD, n);
     nmod_poly_set_coeff_ui(Q, 0, 1);
     long degree = 0, constants = 0;
     double start = seconds();

@@ -5,11 +5,7 @@
 //   giant     the same for the giant step
 //   refused   the same for the call that reads ticket and pairs and then refuses them; the library alone
 // A couple's turns follow each other, so that all contenders have the same repetition.
-#include <stdint.h>
-#include <stdio.h>
-#include <stdlib.h>
-#include <string.h>
-#include <time.h>
+#include "clock.h"
 
 struct pair {
     uint32_t q[32], p[31];
@@ -44,10 +40,4 @@ static void input(void) {
     ticket[words++] = 4u << 28;
     ticket[words] = 15u << 28 | words;
     words++;
-}
-
-static double seconds(void) {
-    struct timespec t;
-    clock_gettime(CLOCK_PROCESS_CPUTIME_ID, &t);
-    return t.tv_sec + 1e-9 * t.tv_nsec;
 }

@@ -2,7 +2,7 @@
 // LITERAL: document 01's formulas as they are written. Else what need not be computed is left out: V; W and the
 // second greatest common divisor where the first is 1; P by a remainder modulo Q_2/S in place of Q; Q by (2-7) of
 // source 000 after the first division. In both, of the last partial quotient the degree is enough.
-#include <flint/nmod_poly.h>
+#include "flint_root.h"
 #include "ideals.h"
 
 struct ideal {
@@ -27,13 +27,7 @@ static void setup(void) {
         load(given[k / 2][k % 2].q, couples[k / 2][k % 2].q, n / 2);
         load(given[k / 2][k % 2].p, couples[k / 2][k % 2].p, n / 2 - 1);
     }
-    int h = n / 2;
-    nmod_poly_set_coeff_ui(d, h, 1);
-    for (int k = h - 1; k >= 0; k--) {
-        nmod_poly_mul(t, d, d);
-        nmod_poly_sub(t, DD, t);
-        nmod_poly_set_coeff_ui(d, k, nmod_poly_get_coeff_ui(t, k + h) * ((q + 1) / 2) % q);
-    }
+    root_of(d, DD, n);
 }
 
 #ifdef LITERAL

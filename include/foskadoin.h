@@ -132,10 +132,10 @@ struct foskadoin_giant_step_numbers foskadoin_giant_step(const uint32_t *ticket,
    memcpy and memset alone. So calls may run at the same time in several threads, as long as no list that one
    of them writes is passed to another.
 
-   Stack. The stored vectors (n up to 64) reach 54,000 bytes. Three functions are recursive: the greatest
+   Stack. The stored vectors (n up to 64) reach 39,000 bytes. Four functions are recursive: the greatest
    common divisor of D and its derivative (a level for each division, at most n), that of two Q with its
-   factors (likewise, at most n/2), and the inverse modulo q (at most 21 levels). A smaller stack is not
-   noticed: the call may then end in a fault of memory.
+   factors (likewise, at most n/2), the steps of a reduction (at most n/2) and the inverse modulo q (at most
+   21 levels). A smaller stack is not noticed: the call may then end in a fault of memory.
 
    Words. A word is a kind (a tag) times 2^28 plus a value, written kind|value.
    - A ticket (a job: the field, D and the step budget) is n + 5 words: 1|q, 2|n, then 3|c for each
