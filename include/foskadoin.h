@@ -14,8 +14,8 @@
 extern "C" {
 #endif
 
-/* The number of an answer: 0, or that of the first refusal that applies. 1 to 10 are refused because of the
-   input; 11 to 13 because of the state, which is tested after the input. */
+/* The number of an answer: 0, or that of the first refusal that applies. 1 to 10 and 14 are refused because of
+   the input, 14 first of all; 11 to 13 because of the state, which is tested after the input. */
 enum foskadoin_number {
     FOSKADOIN_FOUND = 0,             /* of a product or giant step: it is there */
     FOSKADOIN_WRONG_HEAD = 1,        /* fewer than 7 words, or the first two are not of the kinds 1 and 2 */
@@ -28,10 +28,12 @@ enum foskadoin_number {
     FOSKADOIN_WRONG_LISTING = 8,     /* foskadoin_lookup; it shows it by the empty part */
     FOSKADOIN_WRONG_PAIR = 9,        /* foskadoin_product, foskadoin_giant_step: a pair is not an ideal's */
     FOSKADOIN_WRONG_DISTANCE = 10,   /* foskadoin_giant_step: a distance is above 2^40 */
-    FOSKADOIN_SPENT = 11,            /* regulator, unit, listing: the quasi-period m is above the budget b. The
-                                        one refusal with counts: the steps made and the degree reached */
+    FOSKADOIN_SPENT = 11,            /* regulator, regulators, unit, listing: the quasi-period m is above the
+                                        budget b. The one refusal with counts: the steps made and the degree
+                                        reached */
     FOSKADOIN_SHORT_UNIT = 12,       /* foskadoin_unit: a list is shorter than R + 1 places */
-    FOSKADOIN_SHORT_LISTING = 13     /* foskadoin_listing: the list is shorter than m * (n + 4) words */
+    FOSKADOIN_SHORT_LISTING = 13,    /* foskadoin_listing: the list is shorter than m * (n + 4) words */
+    FOSKADOIN_WRONG_SHAPE = 14       /* foskadoin_regulators: the ticket's shape is wrong */
 };
 
 /* The answer of regulator, unit and listing. first, second and third are also named for what they are: the first
@@ -56,6 +58,11 @@ struct foskadoin_numbers {
     };
 };
 
+/* The answer of foskadoin_regulators beside its array: how many words the ticket has, and how many outcomes. */
+struct foskadoin_several {
+    uint64_t words, count;
+};
+
 /* A part of a list: how many words come before it, and how many it has. */
 struct foskadoin_part {
     uint64_t offset, length;
@@ -73,6 +80,16 @@ struct foskadoin_giant_step_numbers {
 
 /* The regulator. Refusals 1 to 7 and 11. */
 struct foskadoin_numbers foskadoin_regulator(const uint32_t *ticket, size_t ticket_length);
+
+/* The regulators of a D with integer coefficients at one to sixteen primes. The ticket has a format of its own,
+   under "Words" below. out is an array of 64 numbers, and every number of it is written: four for each outcome, in
+   the ticket's order of primes, number, first, second and third as in struct foskadoin_numbers; zeros past the last
+   outcome. 0 is also FOSKADOIN_FOUND: how many outcomes there are is told by count.
+   A ticket refused by 14, or else by 3, has one outcome, its refusal. Otherwise each prime has its outcome, each of
+   equal ones too: that of foskadoin_regulator with the coefficients reduced modulo q. Refusals 2, 6 and 7 and spent,
+   11, belong to a prime and do not stop the rest. No prime has 1, 3, 4, 5 or 14, so an array that begins with 3 or 14
+   is a refused ticket's. */
+struct foskadoin_several foskadoin_regulators(const uint32_t *ticket, size_t ticket_length, uint64_t *out);
 
 /* The unit p + s sqrt(D) in four lists of R + 1 places or more. Refusals 1 to 7, 11 and 12.
    Found: places 0 to R of p and s are the coefficients, from the constant term on, with zeros above the degree;
@@ -123,7 +140,8 @@ struct foskadoin_giant_step_numbers foskadoin_giant_step(const uint32_t *ticket,
    - A list is a pointer and a length. A length counts numbers of 32 bits, not bytes. A list of length 0 may
      have a null pointer; any other pointer is aligned as a uint32_t is, to 4 bytes.
    - An array (s, q and p of product and giant step) is a pointer to 129 numbers, aligned likewise and never
-     null.
+     null. The array out of foskadoin_regulators is a pointer to 64 numbers of 64 bits, aligned as a uint64_t
+     is, to 8 bytes, and never null.
    - No list or array that a call writes overlaps another one of the same call. A call keeps no pointer after
      it returns.
    Any words and any lengths, 2^32 and more too, have their answer: no call relies on its caller for more.
@@ -140,6 +158,10 @@ struct foskadoin_giant_step_numbers foskadoin_giant_step(const uint32_t *ticket,
    Words. A word is a kind (a tag) times 2^28 plus a value, written kind|value.
    - A ticket (a job: the field, D and the step budget) is n + 5 words: 1|q, 2|n, then 3|c for each
      coefficient of D from the constant term on, 4|b with the budget b, 15|n + 4.
+   - A ticket of foskadoin_regulators is n + 4 words and one for each prime: 2|n, then 12|c for each of the n + 1
+     coefficients of D from the constant term on, in 28-bit two's complement (c below 0 is written c + 2^28, so
+     c is from -2^27 to 2^27 - 1), 4|b, one to sixteen words 1|q, 15|the number of words before it. Refusal 14
+     is every other list, the empty one too, with the n of word 0 whatever it is; 3 is then tested.
    - A record of a listing is n + 4 words: 5|index, 6|distance div 2^28, 7|distance mod 2^28, 10|mirror div
      2^28, 11|mirror mod 2^28, 8|coefficient for each of Q (n/2), 9|coefficient for each of P (n/2 - 1), both
      from the constant term on with zeros above the degree.
@@ -153,6 +175,12 @@ struct foskadoin_giant_step_numbers foskadoin_giant_step(const uint32_t *ticket,
    Least degree. Of all polynomials p and s modulo q with s not 0 and p^2 - D s^2 a constant other than 0:
    where the answer is found, none has deg p < R, and where deg p = R they are the unit's times a constant, s
    perhaps with the other sign; where it is spent, none has deg p <= the degree reached.
+
+   Several primes. If p^2 - D s^2 = c has a solution with complex coefficients, s not 0 and c a constant other than
+   0, then R is the same at every prime that is not refused, the degree of p at its least. So a difference decides:
+   there is no such solution. An agreement is evidence and no proof. A refused prime counts for nothing; a spent one
+   only where its degree is at or above another prime's R, which is a difference. The outcome at each prime is proved;
+   that R is the same at all of them is a theorem of the literature. examples/regulators.c draws these conclusions.
 
    The listing. The record of index i, from 1 to m, has Q_(i-1) divided by its leading coefficient as Q,
    P_(i-1) mod Q as P, the distance deg p_(i-2) (0 for i = 1) and the mirror R less the distance, that is the

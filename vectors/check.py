@@ -1,8 +1,10 @@
 #!/usr/bin/env python3
-"""Checks every line of the vectors against document 01, followed word by word: its walk, its formulas, its order of refusals."""
+"""Checks every line of the vectors against documents 01 and 02, followed word by word: the walk, the formulas, the order of
+refusals."""
 import os
 import sys
 
+HERE = os.path.dirname(os.path.abspath(__file__))
 KIND = 1 << 28
 PRIMES = [q for q in range(3, 4096, 2) if all(q % p for p in range(3, q, 2) if p * p <= q)]
 
@@ -159,6 +161,34 @@ def regulator(w):
     return [r, 0, 0, 0] if r else walk(w)[0]
 
 
+# ---- several primes (R-1)
+
+def shape(w):
+    """14 or 3, or 0: "kind 2, then n+1 words of kind 12, kind 4, one to sixteen words of kind 1, then kind 15 with the number of
+    words before it"."""
+    n = w[0] % KIND if w else 0
+    primes = len(w) - (n + 4)
+    if not 1 <= primes <= 16 or [v // KIND for v in w] != [2] + [12] * (n + 1) + [4] + [1] * primes + [15] or w[-1] % KIND != len(w) - 1:
+        return 14
+    return 3 if n % 2 or n < 2 or n > 64 else 0
+
+
+def single(w, q):
+    """The words of the single job at q; 28-bit two's complement is read off the bytes. Modulo 0 nothing is reduced."""
+    n = w[0] % KIND
+    integers = [int.from_bytes((v << 4 & 0xffffffff).to_bytes(4, "big"), "big", signed=True) >> 4 for v in w[1:n + 2]]
+    return [KIND + q, 2 * KIND + n] + [3 * KIND + (c % q if q else c % KIND) for c in integers] + [w[n + 2], 15 * KIND + n + 4]
+
+
+def several(w):
+    """The number of outcomes, then the four numbers of each."""
+    r = shape(w)
+    if r:
+        return [1, r, 0, 0, 0]
+    primes = [v % KIND for v in w[w[0] % KIND + 3:-1]]
+    return [len(primes)] + [v for q in primes for v in regulator(single(w, q))]
+
+
 def pad(a, k):
     assert len(a) <= k
     return a + [0] * (k - len(a))
@@ -260,24 +290,25 @@ def expected(name, numbers):
         Q1, P1, y1 = numbers.counted(), numbers.counted(), numbers.wide()
         Q2, P2, y2 = numbers.counted(), numbers.counted(), numbers.wide()
         return combine(w, Q1, P1, y1, Q2, P2, y2)
-    return {"regulators": regulator, "units": unit, "listings": listing}[name](w)
+    return {"regulators": regulator, "several": several, "units": unit, "listings": listing}[name](w)
 
 
 def main():
-    here, wrong = os.path.dirname(os.path.abspath(__file__)), 0
-    for name in ["regulators", "units", "listings", "products"]:
+    wrong = 0
+    for name in ["regulators", "several", "units", "listings", "products", "samples/regulators", "samples/several"]:
         jobs = total = 0
         tally = {}
-        with open(os.path.join(here, name + ".txt")) as file:
+        with open(os.path.join(HERE, name + ".txt")) as file:
             for at, line in enumerate(file, 1):
                 numbers = Numbers(line)
                 total += len(numbers.rest)
                 jobs += 1
-                mine = expected(name, numbers)
-                tally[mine[0]] = tally.get(mine[0], 0) + 1
+                mine = expected(os.path.basename(name), numbers)
+                for kind in mine[1::4] if "several" in name else mine[:1]:
+                    tally[kind] = tally.get(kind, 0) + 1
                 if mine != numbers.rest:
                     wrong += 1
-                    print(f"{name}.txt:{at}: document 01 gives {mine}, the line has {numbers.rest}")
+                    print(f"{name}.txt:{at}: the documents give {mine}, the line has {numbers.rest}")
         print(f"{name}: {jobs} jobs, {total} numbers; by answer: " + ", ".join(f"{k}: {tally[k]}" for k in sorted(tally)))
     sys.exit(1 if wrong else 0)
 

@@ -1,5 +1,5 @@
 \\ The jobs of the vectors and their expected answers, as lines of numbers; README.md gives the layout of a line.
-\\ Each of regulators(), units(), listings(), products() prints one file.
+\\ Each of regulators(), several(), units(), listings(), products() prints one file.
 read("series.gp");
 
 line(v) = print(strjoin([Str(t) | t <- v], " "));
@@ -166,6 +166,114 @@ refusals() =
     c = numbers(poly(concat(chance(v[2] / v[1], v[1]), [1]), v[1])^v[1]);
     job(ticket(v[1], c, 3)); c[2] = 1; job(ticket(v[1], c, 3)));
   job(ticket(3, [1, 0, 0, 0, 0, 0, 1], 9)); job(ticket(3, [1, 1, 0, 0, 0, 0, 1], 9)); job(ticket(3, [1, 0, 0, 1, 0, 0, 1], 9)); job(ticket(3, [0, 0, 0, 0, 0, 0, 1], 9));
+};
+
+\\ ---- several primes: request R-1
+
+\\ The words for the integer coefficients c of D (constant term first), the budget b and the primes of a list.
+together(c, b, list) = concat([[word(2, #c - 1)], [word(12, v % 2^28) | v <- c], [word(4, b)], [word(1, q) | q <- list], [word(15, #c + 2 + #list)]]);
+
+\\ 14 or 3, or 0.
+shape(w) =
+{
+  my(n, k);
+  if (#w == 0, return(14));
+  n = value(w[1]); k = #w - n - 4;
+  if (k < 1 || k > 16, return(14));
+  if ([kind(v) | v <- w] != concat([[2], vector(n + 1, i, 12), [4], vector(k, i, 1), [15]]), return(14));
+  if (value(w[#w]) != #w - 1, return(14));
+  if (n % 2 || n < 2 || n > 64, return(3));
+  0;
+};
+
+\\ The integer of a word of kind 12; the answer of the single job at q.
+integer(w) = if (bittest(w, 27), value(w) - 2^28, value(w));
+at(q, c, b) = if (isprime(q), answer(ticket(q, [v % q | v <- c], b)), [2, 0, 0, 0]);
+
+outcomes(w) =
+{
+  my(r = shape(w), n, c);
+  if (r, return([[r, 0, 0, 0]]));
+  n = value(w[1]); c = [integer(v) | v <- w[2 .. n + 2]];
+  [at(value(v), c, value(w[n + 3])) | v <- w[n + 4 .. #w - 1]];
+};
+
+\\ No ticket twice.
+made = Map();
+severaljob(w) =
+{
+  my(a);
+  if (mapisdefined(made, w), return);
+  mapput(made, w, 1);
+  a = outcomes(w);
+  line(concat([[#w], w, [#a], concat(a)]));
+};
+
+\\ The primes of the list in tickets of sixteen.
+sixteens(c, b, list) = forstep (i = 1, #list, 16, severaljob(together(c, b, list[i .. min(i + 15, #list)])));
+
+\\ An integer polynomial that has a short quasi-period at each of the primes: their product is below 2^27.
+shortinteger(list, n) = centerlift(chinese([Mod(shortD(q, n, random(n / 2)), q) | q <- list]));
+
+\\ A coefficient of any size; a value that is no odd prime now and then.
+anyinteger() = random([-2^27, 2^27 - 1]) >> random(28);
+anyprime(most) = if (random(12) == 0, random(most + 3), my(q = 2); while (q == 2, q = randomprime(most + 1)); q);
+
+several() =
+{
+  my(c, q, m, list, odd = [0, 1, 2, 3, 4, 5, 9, 15, 4087, 4091, 4093, 4095, 4096, 4097, 4099, top]);
+  setrand(5);
+  \\ R = 8 at every prime from 5 on; and its neighbour, where R differs
+  foreach ([-71, -72], k, sixteens([k, -96, 10, 0, 1], 1000, primes([3, 199])));
+  \\ budgets about the quasi-period
+  foreach ([0, 1, 5, 6, 7, 8, top], b, foreach ([-71, -72], k, severaljob(together([k, -96, 10, 0, 1], b, [3, 5, 7, 11, 13, 17]))));
+  for (i = 1, 8, c = concat(vector(4, j, anyinteger()), [1]); list = vector(4, j, anyprime(60));
+    foreach (list, q, m = at(q, c, top)[3]; if (m, foreach ([m - 1, m, m + 1], b, severaljob(together(c, b, list))))));
+  \\ one prime and sixteen, equal ones, none, seventeen and more
+  c = [-71, -96, 10, 0, 1];
+  foreach ([0, 1, 2, 15, 16, 17, 18, 32, 100], k, severaljob(together(c, 7, vector(k, i, 5))); severaljob(together(c, 100, vector(k, i, prime(i + 1)))));
+  severaljob(together(c, 6, [5, 7, 5])); severaljob(together(c, 7, [3, 5, 3, 5, 4, 5]));
+  \\ q that is no odd prime below 4,096, alone and among primes
+  sixteens(c, 7, odd); sixteens(c, 7, Vecrev(odd));
+  foreach (odd, v, severaljob(together(c, 7, [v])); severaljob(together([1, 0, 0, 0, 3], 7, [5, v, 3])));
+  \\ the ends of the range, at every place
+  foreach ([-2^27, -2^27 + 1, -4093, -3, -1, 0, 1, 2, 3, 4093, 2^27 - 2, 2^27 - 1], v,
+    for (i = 1, 5, c = [1, 1, 0, 0, 1]; c[i] = v; severaljob(together(c, 30, [3, 5, 7, 31, 4093])));
+    severaljob(together(vector(5, i, v), 30, [3, 5, 7, 31, 4093])); severaljob(together(concat(vector(4, i, v), [1]), 30, [3, 5, 7, 31, 4093])));
+  \\ a leading coefficient that is 1 at some primes, 0 or another number at others
+  foreach ([106, -104, 2^27 - 1, -2^27, 3 * 5 * 4093, -3 * 5 * 4093 + 1], v, severaljob(together([1, 1, 0, 0, v], 40, [3, 5, 7, 11, 13, 53, 4093])));
+  severaljob(together(vector(5), 9, [3, 5])); severaljob(together([0, 0, 0, 0, 1], 9, [3, 5])); severaljob(together([0, 15, 0, 0, 1], 9, [3, 5, 7]));
+  \\ degrees: short quasi-periods at two or three primes, spent at the others
+  foreach ([2, 4, 6, 8, 16, 32, 62, 64], n, foreach ([[4091, 4093], [3, 5, 4093], [7, 11, 13, 31, 101]], v,
+    c = shortinteger(v, n); severaljob(together(c, n, v)); severaljob(together(c, 40, concat(v, [3, 17, 1009, 2])))));
+  \\ any D at any primes
+  foreach ([[2, 4095, 6], [4, 200, 24], [6, 17, 12], [8, 5, 6], [16, 4095, 4], [64, 4095, 4]], v, for (i = 1, v[3],
+    c = concat(vector(v[1], j, anyinteger()), [if (random(6), 1, anyinteger())]);
+    severaljob(together(c, if (v[1] > 8, 20, if (random(2), random(60), top)), vector(1 + random(16), j, anyprime(v[2]))))));
+  shapes();
+};
+
+\\ 14 and 3 beside each other.
+shapes() =
+{
+  my(w, c, good = together([-71, -96, 10, 0, 1], 7, [5, 7, 9]), small = together([2, 0, 1], 1, [5]), long = together(concat(vector(64, i, -i), [1]), 3, vector(16, i, 3)));
+  \\ the kind of each word in turn, 13 among them
+  foreach ([good, small], u, for (i = 1, #u, foreach ([0, 1, 2, 3, 4, 12, 13, 15], k, if (k != kind(u[i]), w = u; w[i] = word(k, value(u[i])); severaljob(w)))));
+  \\ every shorter list, one word more, the end word one off
+  foreach ([good, small], u, for (k = 0, #u, severaljob(u[1 .. k])));
+  foreach ([good, small, long], u,
+    severaljob(u); severaljob(u[1 .. #u - 1]); severaljob(u[2 .. #u]); severaljob(concat(u, [u[#u]])); severaljob(concat(u, [0])); severaljob(concat(u, u));
+    foreach ([-1, 1], k, w = u; w[#w] += k; severaljob(w); w = concat(u[1 .. #u - 1], [word(15, value(u[#u]) + k)]); if (k > 0, w = concat(w, [w[#w]])); severaljob(w));
+    severaljob(concat(u[1 .. #u - 1], [word(1, 5), word(15, #u)])); severaljob(concat(u[1 .. #u - 1], [word(1, 5), u[#u]]));
+    severaljob(concat([u[1 .. 2], u[4 .. #u - 1], [word(15, #u - 2)]])); severaljob(concat([u[1 .. 2], u[2 .. #u - 1], [word(15, #u)]]));
+    \\ the n of word 0 is that of the shape
+    foreach ([-2, -1, 1, 2], k, w = u; w[1] += k; severaljob(w)); w = u; w[1] = word(2, top); severaljob(w); w[1] = word(2, 0); severaljob(w));
+  severaljob(ticket(5, [4, 4, 0, 0, 1], 7)); severaljob([word(15, 0)]); severaljob([word(2, 0), word(15, 1)]);
+  \\ 3: the right shape with a wrong n, whatever the rest; 14 before it
+  foreach ([0, 1, 3, 5, 63, 65, 66, 67, 128], n, foreach ([[3], [9, 0], vector(16, i, 5)], list,
+    w = together(concat(vector(n, i, -i), [1]), 6, list); severaljob(w); severaljob(w[1 .. #w - 1]);
+    w[#w] -= 1; severaljob(w); w[#w] += 1; w[#w - 1] = word(13, 3); severaljob(w)));
+  severaljob(together(concat(vector(3), [1]), 6, vector(17, i, 5)));
 };
 
 \\ ---- units and listings

@@ -65,6 +65,38 @@ static void regulators(FILE *file) {
     }
 }
 
+// The words of the single job at q: each integer of 28 bits is moved to the top of a number of 32, sign and all.
+static size_t single(uint32_t *job, const uint32_t *ticket, uint32_t q) {
+    uint32_t n = ticket[0] & 0xfffffff;
+    job[0] = 1u << 28 | q, job[1] = 2u << 28 | n;
+    for (uint32_t i = 0; i <= n; i++) {
+        int64_t c = (int32_t)(ticket[i + 1] << 4) / 16, r = q ? c % (int64_t)q : 0;
+        job[i + 2] = 3u << 28 | (uint32_t)(r < 0 ? r + q : r);
+    }
+    job[n + 3] = ticket[n + 2], job[n + 4] = 15u << 28 | (n + 4);
+    return n + 5;
+}
+
+// All 64 numbers of the array, the words beside it, and each prime's outcome against the single job's.
+static void several(FILE *file) {
+    for (; next_line(file); jobs++) {
+        size_t words;
+        uint32_t *ticket = counted(&words), outcomes = number(), *want = line + at, job[69];
+        uint64_t *room = malloc(66 * sizeof *room), *out = room + 1, n = words ? ticket[0] & 0xfffffff : 0;
+        memset(room, 0xA5, 66 * sizeof *room);
+        struct foskadoin_several a = foskadoin_regulators(ticket, words, out);
+        expect(a.words == words && a.count == outcomes, "regulators");
+        for (size_t i = 0; i < 64; i++) expect(out[i] == (i < 4 * outcomes ? want[i] : 0), "outcomes");
+        expect(room[0] == room[65] && room[0] == 0xA5A5A5A5A5A5A5A5, "numbers beside the array");
+        int refused = out[0] == FOSKADOIN_WRONG_SHAPE || out[0] == FOSKADOIN_WRONG_DEGREE;
+        for (size_t i = 0; !refused && i < outcomes; i++) {
+            size_t length = single(job, ticket, ticket[n + 3 + i] & 0xfffffff);
+            expect(same(foskadoin_regulator(job, length), length, want + 4 * i), "the single job");
+        }
+        free(room), free(ticket);
+    }
+}
+
 // In lists of R + 1 places and 3 more, and with one of the four a place too short.
 static void units(FILE *file) {
     for (; next_line(file); jobs++) {
@@ -176,11 +208,17 @@ static void products(FILE *file) {
 int main(int argc, char **argv) {
     if (argc != 2) return 2;
     regulators(vectors(argv[1], "regulators.txt"));
+    regulators(vectors(argv[1], "samples/regulators.txt"));
+    several(vectors(argv[1], "several.txt"));
+    several(vectors(argv[1], "samples/several.txt"));
     units(vectors(argv[1], "units.txt"));
     listings(vectors(argv[1], "listings.txt"));
     products(vectors(argv[1], "products.txt"));
     expect(same(foskadoin_regulator(NULL, 0), 0, (uint32_t[]){FOSKADOIN_WRONG_HEAD, 0, 0, 0}), "no ticket");
+    uint64_t out[64] = {0};
+    struct foskadoin_several none = foskadoin_regulators(NULL, 0, out);
+    expect(none.words == 0 && none.count == 1 && out[0] == FOSKADOIN_WRONG_SHAPE && !out[1], "no ticket at several primes");
     printf("C: %zu jobs, %zu wrong\n", jobs, wrong);
     // every line of the files was read
-    return wrong != 0 || jobs != 1767;
+    return wrong != 0 || jobs != 2477;
 }

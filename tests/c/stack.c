@@ -9,12 +9,14 @@
 
 enum { STACK = 1 << 20, PAINT = 0xC3, WORDS = 256, PLACES = 1 << 16 };
 static uint32_t ticket[WORDS], lists[4][PLACES], Q[2][WORDS], P[2][WORDS];
+static uint64_t outcomes[64];
 static size_t words, sizes[4], listed, n;
 static struct foskadoin_part part;
 static unsigned char *stack;
 
 static void *no_job(void *none) { return none; }
 static void *regulator_job(void *none) { return foskadoin_regulator(ticket, words), none; }
+static void *regulators_job(void *none) { return foskadoin_regulators(ticket, words, outcomes), none; }
 static void *unit_job(void *none) { return foskadoin_unit(ticket, words, lists[0], PLACES, lists[1], PLACES, lists[2], PLACES, lists[3], PLACES), none; }
 static void *listing_job(void *none) {
     struct foskadoin_numbers a = foskadoin_listing(ticket, words, lists[0], PLACES);
@@ -36,8 +38,9 @@ static struct {
     const char *name;
     void *(*job)(void *);
     size_t most;
-} calls[] = {{"thread", no_job, 0},         {"regulator", regulator_job, 0}, {"unit", unit_job, 0},          {"listing", listing_job, 0},
-             {"lookup", lookup_job, 0},     {"product", product_job, 0},     {"giant step", giant_step_job, 0}};
+} calls[] = {{"thread", no_job, 0},   {"regulator", regulator_job, 0}, {"unit", unit_job, 0},
+             {"listing", listing_job, 0}, {"lookup", lookup_job, 0},   {"product", product_job, 0},
+             {"giant step", giant_step_job, 0}, {"regulators", regulators_job, 0}};
 
 static void measure(int call) {
     pthread_attr_t attributes;
@@ -78,7 +81,12 @@ int main(int argc, char **argv) {
         for (int i = 5; i < 7; i++) measure(i);
         if (fscanf(file, "%*[^\n]") != 0) return 2;
     }
-    int over = jobs != 1512 || found == 0;
+    file = vectors(argv[1], "several.txt");
+    for (; (words = counted(file, ticket)) != SIZE_MAX; jobs++) {
+        measure(7);
+        if (fscanf(file, "%*[^\n]") != 0) return 2;
+    }
+    int over = jobs != 2161 || found == 0;
     printf("stack, bytes, in %zu jobs:", jobs);
     for (size_t i = 0; i < sizeof calls / sizeof *calls; i++) {
         printf(" %s %zu", calls[i].name, calls[i].most);

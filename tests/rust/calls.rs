@@ -11,6 +11,12 @@ struct Numbers {
 }
 
 #[repr(C)]
+struct Several {
+    words: u64,
+    count: u64,
+}
+
+#[repr(C)]
 struct Part {
     offset: u64,
     length: u64,
@@ -39,6 +45,7 @@ extern "C" {
     fn foskadoin_product(ticket: *const u32, length: usize, q1: *const u32, q1n: usize, p1: *const u32, p1n: usize, q2: *const u32, q2n: usize, p2: *const u32, p2n: usize, s: &mut [u32; 129], q: &mut [u32; 129], p: &mut [u32; 129]) -> ProductNumbers;
     fn foskadoin_giant_step(ticket: *const u32, length: usize, q1: *const u32, q1n: usize, p1: *const u32, p1n: usize, d1: u64, q2: *const u32, q2n: usize, p2: *const u32, p2n: usize, d2: u64, q: &mut [u32; 129], p: &mut [u32; 129]) -> GiantStepNumbers;
     fn foskadoin_regulator(ticket: *const u32, length: usize) -> Numbers;
+    fn foskadoin_regulators(ticket: *const u32, length: usize, out: &mut [u64; 64]) -> Several;
     fn foskadoin_unit(ticket: *const u32, length: usize, p: *mut u32, pn: usize, s: *mut u32, sn: usize, x: *mut u32, xn: usize, y: *mut u32, yn: usize) -> Numbers;
     fn foskadoin_listing(ticket: *const u32, length: usize, out: *mut u32, n: usize) -> Numbers;
     fn foskadoin_lookup(list: *const u32, length: usize, n: u64, y: u64) -> Part;
@@ -47,6 +54,10 @@ extern "C" {
 // What a safe caller writes around the calls: slices do not overlap and carry their lengths.
 fn regulator(ticket: &[u32]) -> Numbers {
     unsafe { foskadoin_regulator(ticket.as_ptr(), ticket.len()) }
+}
+
+fn regulators(ticket: &[u32], out: &mut [u64; 64]) -> Several {
+    unsafe { foskadoin_regulators(ticket.as_ptr(), ticket.len(), out) }
 }
 
 fn unit(ticket: &[u32], l: &mut [Vec<u32>; 4]) -> Numbers {
@@ -101,13 +112,50 @@ fn says(a: &Numbers, ticket: &[u32], four: &[u32]) {
     assert_eq!([a.number, a.first, a.second, a.third], [four[0] as u64, four[1] as u64, four[2] as u64, four[3] as u64]);
 }
 
+// The words of the single job at q, from a ticket past 14 and 3.
+fn single(ticket: &[u32], q: u32) -> Vec<u32> {
+    let (n, values) = (ticket[0] % (1 << 28), 1 << 28);
+    let signed = |w: &u32| ((w << 4) as i32 >> 4) as i64;
+    let residue = |w: &u32| signed(w).checked_rem_euclid(q as i64).unwrap_or(0) as u32;
+    let mut words = vec![values + q, 2 * values + n];
+    words.extend(ticket[1..n as usize + 2].iter().map(|w| 3 * values + residue(w)));
+    words.extend([ticket[n as usize + 2], 15 * values + n + 4]);
+    words
+}
+
+// All 64 numbers of the array, with a number on either side of it, and each prime's outcome against the single job's.
+fn several(mut line: Line) {
+    let (ticket, count) = (line.counted(), line.take(1)[0] as usize);
+    let want = line.take(4 * count);
+    let mut room = [9; 66];
+    let a = regulators(&ticket, (&mut room[1..65]).try_into().unwrap());
+    assert_eq!([a.words, a.count], [ticket.len() as u64, count as u64]);
+    let places = want.iter().map(|v| *v as u64).chain(std::iter::repeat(0)).take(64);
+    assert!(room.into_iter().eq(std::iter::once(9).chain(places).chain([9])));
+    if want[0] != 3 && want[0] != 14 {
+        let first = ticket.len() - 1 - count;
+        for (word, four) in ticket[first..].iter().zip(want.chunks(4)) {
+            let job = single(&ticket, word % (1 << 28));
+            says(&regulator(&job), &job, four);
+        }
+    }
+}
+
 fn main() {
     let folder = std::env::args().nth(1).expect("the folder of the vectors");
     let mut jobs = 0;
-    for mut line in lines(&folder, "regulators.txt") {
-        let ticket = line.counted();
-        says(&regulator(&ticket), &ticket, &line.take(4));
-        jobs += 1;
+    for name in ["regulators.txt", "samples/regulators.txt"] {
+        for mut line in lines(&folder, name) {
+            let ticket = line.counted();
+            says(&regulator(&ticket), &ticket, &line.take(4));
+            jobs += 1;
+        }
+    }
+    for name in ["several.txt", "samples/several.txt"] {
+        for line in lines(&folder, name) {
+            several(line);
+            jobs += 1;
+        }
     }
     for mut line in lines(&folder, "units.txt") {
         let (ticket, four) = (line.counted(), line.take(4));
@@ -152,6 +200,6 @@ fn main() {
         assert_eq!(b.distance, sign * line.wide() as i64);
         jobs += 1;
     }
-    assert_eq!(jobs, 1767);
+    assert_eq!(jobs, 2477);
     println!("Rust: {jobs} jobs, 0 wrong");
 }

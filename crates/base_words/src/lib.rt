@@ -5,7 +5,7 @@ ghost use Rattle.spec_arithmetic.specs.Words.{values, kind as kindOf, value as 
 ghost use Rattle.base_words.specs.Numbers.{kinds, pairs};
 
 // How many values a word has: 2²⁸.
-const VALUES: u32 = 268435456;
+pub const VALUES: u32 = 268435456;
 
 // The kind of a word.
 pub fn kind(word: u32) -> u32

@@ -1,5 +1,5 @@
--- The outcome of a ticket's words, by whether they are refused, and what T3 says of an outcome that is said
--- as the definitions say it.
+-- A ticket that words are read as and its outcome; the outcome of words, by whether they are refused; what T3
+-- says of an outcome that is said as the definitions say it.
 use Prim.Native.Nat.{ℕ, zero, suc}
 use native.Mathlib.Omega.{arith}
 use mathlib.Core.Path.{_≡_, refl, sym, ap, _∙_, subst}
@@ -10,8 +10,17 @@ use Rattle.base_field.specs.Named.{name}
 use Rattle.base_polynomial.specs.Over.{poly}
 use Rattle.spec_demands.specs.LeastDegree.{Least, t3}
 use Rattle.ticket_read.specs.declared.Ticket.{Ticket as Said}
+use Rattle.ticket_read.specs.Read.{readOf, Stands}
 use Rattle.ticket_read.specs.Accepted.{Accepted}
 use Rattle.walk_run.specs.Found.{Walkable}
+
+-- t is what some words are read as
+abbrev pub IsRead : Said → Type 0
+IsRead t = (w : List ℕ) × Stands (readOf w) t
+
+-- x is the outcome of all words that are read as t
+abbrev pub OutcomeOf : Said → Outcome → Type 0
+OutcomeOf t x = (w : List ℕ) → Stands (readOf w) t → x ≡ wordsOutcome w
 
 -- what a ticket that is not refused gives a run
 pub walkable : {w : List ℕ} {t : Said} → Accepted w t → Walkable (t .field) (t .n) (t .radicand) (t .budget)

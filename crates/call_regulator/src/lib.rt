@@ -1,19 +1,21 @@
-// The call `regulator`: the outcome of a ticket of any words. What the calls on a ticket share.
+// The call `regulator`: the outcome of a ticket of any words. `regulators` has `outcome_of` from here.
 ghost use mathlib.Core.Path.{_≡_};
 ghost use lib.ListN.{length};
 ghost use Rattle.spec_definitions.specs.Answers.{said, regulatorOf};
 ghost use Rattle.spec_demands.specs.LeastDegree.{Least};
 ghost use Rattle.walk_outcome.specs.Outcome.{meaning};
+ghost use Rattle.call_regulator.specs.Regulator.{IsRead, OutcomeOf};
+use ticket_read::Ticket;
 use ticket_read::read_ticket;
 pub use walk_outcome::Answer;
 use walk_outcome::Outcome;
 use walk_run::run;
 
-// The outcome of a ticket: its first refusal, or what its walk finds within its budget.
-fn outcome(ticket: &[u32]) -> Outcome
-    ensures { λ r. ⌜ said (meaning r) ≡ regulatorOf (now (ticket .entry)) ⌝ }
+// The outcome of a ticket that is read: its refusal, or what its walk finds within its budget.
+pub fn outcome_of(t: Ticket) -> Outcome
+    requires { ⌜ IsRead t ⌝ }
+    ensures { λ r. ⌜ OutcomeOf t (meaning r) ⌝ }
 {
-    let t = read_ticket(ticket);
     if t.number != 0 {
         return Outcome::Refused(t.number);
     }
@@ -26,8 +28,9 @@ pub fn regulator(ticket: &[u32]) -> Answer
     ensures says { λ r. ⌜ said (meaning (r .outcome)) ≡ regulatorOf (now (ticket .entry)) ⌝ }
     ensures least { λ r. ⌜ Least (now (ticket .entry)) (meaning (r .outcome)) ⌝ }
 {
+    let t = read_ticket(ticket);
     Answer {
         words: ticket.len() as u64,
-        outcome: outcome(ticket),
+        outcome: outcome_of(t),
     }
 }

@@ -8,6 +8,12 @@ pub use call_regulator::Answer;
 pub use call_regulator::regulator;
 pub use walk_outcome::Outcome;
 
+pub mod regulators {
+    pub use call_regulators::AtPrime;
+    pub use call_regulators::SeveralAnswer;
+    pub use call_regulators::regulators;
+}
+
 pub mod unit {
     pub use call_unit::unit;
 }

@@ -1,6 +1,7 @@
 // The calls for C and Rust: lists are a pointer and a length, answers are plain numbers. None relies on its
 // caller.
 pub mod pairs;
+pub mod several;
 
 ghost use mathlib.Core.Path.{_≡_};
 ghost use lib.ListN.{length};

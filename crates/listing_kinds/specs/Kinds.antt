@@ -5,12 +5,12 @@ use native.Mathlib.Omega.{arith}
 use mathlib.Core.Path.{_≡_, refl, sym, ap, _∙_}
 use mathlib.Core.Bool.{Bool, true, false}
 use mathlib.Core.List.{List, _++_, map}
-use lib.ListN.{length, getD, take, drop, replicate, length-append, length-replicate, length-map, length-drop, getD-replicate, List·getD-append, List·getD-map}
-use lib.Seq.{ext-getD, getD-take, getD-drop, getD-append-add, length-take-le}
+use lib.ListN.{length, getD, take, drop, replicate, length-append, length-replicate, length-drop, getD-replicate, List·getD-append}
+use lib.Seq.{getD-take, getD-drop, getD-append-add, length-take-le}
 use Rattle.spec_arithmetic.specs.Words.{kind, same}
 use Rattle.spec_definitions.specs.Ticket.{wrongDegree, genus}
 use Rattle.spec_definitions.specs.Lookup.{recordKinds}
-use Rattle.spec_lists.specs.Same.{same-refl, same-not}
+use Rattle.spec_lists.specs.Kinds as lists
 use Rattle.listing_whole.specs.Degrees.{Allowed, allowed}
 
 module _ (n : ℕ) (h : wrongDegree n ≡ false) where
@@ -80,26 +80,21 @@ unfoldable pub kindsOk : List ℕ → ℕ → ℕ → Bool
 kindsOk l n at = same (map kind (take (n + 4) (drop at l))) (recordKinds n)
 
 module _ (l : List ℕ) (n at : ℕ) (h : wrongDegree n ≡ false) (fits : at + (n + 4) ≤ length l) where
-  kinds : List ℕ
-  kinds = map kind (take (n + 4) (drop at l))
+  words : List ℕ
+  words = take (n + 4) (drop at l)
 
-  length-kinds : length kinds ≡ n + 4
-  unfolding kinds
-  length-kinds =
-      length-map (take (n + 4) (drop at l)) kind
-      ∙ length-take-le (n + 4) (drop at l) (let e : length (drop at l) ≡ length l - at = length-drop at l in omega arith)
+  length-words : length words ≡ n + 4
+  unfolding words
+  length-words = length-take-le (n + 4) (drop at l) (let e : length (drop at l) ≡ length l - at = length-drop at l in omega arith)
 
-  at-kinds : (j : ℕ) → j < n + 4 → getD kinds j 0 ≡ kind (getD l (at + j) 0)
-  unfolding kinds kind
-  at-kinds j k = List·getD-map kind (take (n + 4) (drop at l)) j 0 ∙ ap kind (getD-take (n + 4) (drop at l) j 0 k ∙ getD-drop at l j 0)
+  kind-at : (j : ℕ) → j < n + 4 → kind (getD words j 0) ≡ kind (getD l (at + j) 0)
+  unfolding words
+  kind-at j k = ap kind (getD-take (n + 4) (drop at l) j 0 k ∙ getD-drop at l j 0)
 
   pub kinds-right : ((j : ℕ) → j < n + 4 → kind (getD l (at + j) 0) ≡ getD (recordKinds n) j 0) → kindsOk l n at ≡ true
-  unfolding kindsOk kinds
-  kinds-right r =
-      let e : length kinds ≡ n + 4 = length-kinds in
-      ap (λ (b : List ℕ). same kinds b) (sym (ext-getD 0 kinds (recordKinds n) (e ∙ sym (length-recordKinds n h)) (λ j k. at-kinds j (omega arith) ∙ r j (omega arith))))
-      ∙ same-refl kinds
+  unfolding kindsOk words
+  kinds-right r = lists.kinds-right words (recordKinds n) (length-words ∙ sym (length-recordKinds n h)) (λ j k. let b : j < n + 4 = omega (arith, length-words) in kind-at j b ∙ r j b)
 
   pub kinds-wrong : (j : ℕ) → j < n + 4 → (kind (getD l (at + j) 0) ≡ getD (recordKinds n) j 0 → ⊥) → kindsOk l n at ≡ false
-  unfolding kindsOk kinds
-  kinds-wrong j k w = same-not kinds (recordKinds n) (λ e. w (sym (at-kinds j k) ∙ ap (λ (b : List ℕ). getD b j 0) e))
+  unfolding kindsOk words
+  kinds-wrong j k w = lists.kinds-wrong words (recordKinds n) j (λ e. w (sym (kind-at j k) ∙ e))

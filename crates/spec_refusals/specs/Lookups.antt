@@ -15,14 +15,11 @@ use Rattle.spec_arithmetic.specs.Words.{kind, same}
 use Rattle.spec_definitions.specs.Ticket.{genus, wrongDegree}
 use Rattle.spec_definitions.specs.Lookup.{recordKinds, recordAt, distanceAt, recordCount, rightKinds, rising, wrongListing, lastWithin, lookupOf, placeOf}
 use Rattle.spec_laws.specs.Admitted.{degree-of}
+use Rattle.spec_sentences.specs.Sentences.{DegreeNotAllowed}
 use Rattle.spec_sentences.specs.Tests.{Tests, tests-lt, tests-eq, tests-not, tests-none, tests-stable, tests-or, tests-differ}
-use Rattle.spec_sentences.specs.Readings.{tests-odd}
+use Rattle.spec_sentences.specs.Readings.{tests-degree-of}
 
 module _ (l : List ℕ) (n : ℕ) where
-  -- "n is not allowed by 3"
-  abbrev pub DegreeNotAllowed : Type 0
-  DegreeNotAllowed = (n % 2 ≡ 1) ⊎ (n < 2) ⊎ (64 < n)
-
   -- "one or more whole records"
   abbrev pub WholeRecords : Type 0
   WholeRecords = (k : ℕ) × (0 < k) × (length l ≡ k * (n + 4))
@@ -41,7 +38,7 @@ module _ (l : List ℕ) (n : ℕ) where
   -- "8 (lookup only): n is not allowed by 3, or the words aren't one or more whole records of the kinds
   -- below, or the first distance isn't 0, or distances don't strictly rise"
   abbrev pub WrongListing : Type 0
-  WrongListing = DegreeNotAllowed ⊎ (¬ WholeRecords) ⊎ WrongKinds ⊎ (distanceAt l n 0 ≢ 0) ⊎ NotRising
+  WrongListing = DegreeNotAllowed n ⊎ (¬ WholeRecords) ⊎ WrongKinds ⊎ (distanceAt l n 0 ≢ 0) ⊎ NotRising
 
 -- "Lookup has only refusal 8 and shows it by the empty part at the start of its list"
 abbrev pub T1Lookups : Type 0
@@ -73,10 +70,6 @@ tests-then false false false {P = P} {Q = Q} s t u = (λ e. inr (inr (u p q .0 e
     q x = absurd (false≢true (t .1 x))
 
 module _ (l : List ℕ) (n : ℕ) where
-  tests-allowed : Tests (wrongDegree n) (DegreeNotAllowed l n)
-  unfolding wrongDegree
-  tests-allowed = tests-or (Iff·trans (tests-not (tests-eq (n % 2) 0)) (tests-odd n)) (λ _. tests-lt n 2) (tests-lt 64 n)
-
   -- ---- whole records
   split : length l / (n + 4) * (n + 4) + length l % (n + 4) ≡ length l
   split = div-add-mod' (length l) (n + 4)
@@ -147,7 +140,7 @@ module _ (l : List ℕ) (n : ℕ) where
 
   pub tests-listing : Tests (wrongListing l n) (WrongListing l n)
   unfolding wrongListing
-  tests-listing = tests-then (wrongDegree n) (eqb (length l) 0) (not (eqb (length l % (n + 4)) 0)) tests-allowed tests-whole (λ a b. tests-or (tests-kinds (tests-none tests-allowed a) (rest b) (recordCount l n) (omega arith)) (λ _. tests-not (tests-eq (distanceAt l n 0) 0)) rising-all)
+  tests-listing = tests-then (wrongDegree n) (eqb (length l) 0) (not (eqb (length l % (n + 4)) 0)) (tests-degree-of n) tests-whole (λ a b. tests-or (tests-kinds (tests-none (tests-degree-of n) a) (rest b) (recordCount l n) (omega arith)) (λ _. tests-not (tests-eq (distanceAt l n 0) 0)) rising-all)
     where
       rest : ¬ ¬ WholeRecords l n → length l % (n + 4) ≡ 0
       rest b = go (eqb (length l % (n + 4)) 0) (tests-eq (length l % (n + 4)) 0)

@@ -19,7 +19,7 @@ use Rattle.spec_lists.specs.Same.{one-of-one}
 use Rattle.spec_laws.specs.Layout.{length-later, later-coefficient, later-budget, later-end}
 use Rattle.spec_bridge.specs.Prime.{OddPrime, odd-prime-true, prime-odd-prime, odd-prime-more, prime-divisor, prime-of-divisors}
 use Rattle.spec_fields.specs.Named.{IsField}
-use Rattle.spec_sentences.specs.Sentences.{kindAt, valueAt, q, field, n, TooLarge, coefficient, D, AllowedPrime, AllowedField, WrongHead, WrongPrime, WrongDegree, WrongKind, WrongLayout, WrongCoefficient, WrongLead}
+use Rattle.spec_sentences.specs.Sentences.{kindAt, valueAt, q, field, n, TooLarge, coefficient, D, AllowedPrime, AllowedField, DegreeNotAllowed, WrongHead, WrongPrime, WrongDegree, WrongKind, WrongLayout, WrongCoefficient, WrongLead}
 use Rattle.spec_sentences.specs.Tests.{Tests, tests-lt, tests-eq, tests-not, tests-none, tests-stable, tests-or, tests-some, tests-differ}
 
 pub prime-allowed : (p : ℕ) → OddPrime p ↔ AllowedPrime p
@@ -36,6 +36,10 @@ pub fits-large : (f : FieldName) (x : ℕ) → (fits f x ≡ false) ↔ TooLarge
 unfolding fits
 fits-large f x = (ltb-false x (f .q), λ h. tests-none (tests-lt x (f .q)) (λ l. omega arith))
 
+pub tests-degree-of : (m : ℕ) → Tests (wrongDegree m) (DegreeNotAllowed m)
+unfolding wrongDegree
+tests-degree-of m = tests-or (Iff·trans (tests-not (tests-eq (m % 2) 0)) (tests-odd m)) (λ _. tests-lt m 2) (tests-lt 64 m)
+
 module _ (w : List ℕ) where
   pub tests-head : Tests (wrongHead (1 ∷ []) w) (WrongHead w)
   unfolding wrongHead
@@ -46,8 +50,7 @@ module _ (w : List ℕ) where
   tests-prime = tests-not (Iff·trans (odd-prime-true (q w), prime-odd-prime (q w)) (prime-allowed (q w)))
 
   pub tests-degree : Tests (wrongDegree (n w)) (WrongDegree w)
-  unfolding wrongDegree
-  tests-degree = tests-or (Iff·trans (tests-not (tests-eq (n w % 2) 0)) (tests-odd (n w))) (λ _. tests-lt (n w) 2) (tests-lt 64 (n w))
+  tests-degree = tests-degree-of (n w)
 
   -- ---- the words after the first two
   kind-at : (i : ℕ) → getD (map kind (drop 2 w)) i 0 ≡ kindAt w (i + 2)

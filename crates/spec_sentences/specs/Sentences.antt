@@ -65,6 +65,10 @@ pub record SquareDivides (f : FieldName) (D : List ℕ) : Type 0 where
   pub degree : 2 ≤ size (ops f) h
   pub product : Same f D (mul (ops f) (mul (ops f) h h) e)
 
+-- "n is odd, below 2 or above 64"
+abbrev pub DegreeNotAllowed : ℕ → Type 0
+DegreeNotAllowed m = (m % 2 ≡ 1) ⊎ (m < 2) ⊎ (64 < m)
+
 -- "a coefficient is q or more"
 abbrev pub TooLarge : FieldName → ℕ → Type 0
 TooLarge f x = f .q ≤ x
@@ -80,7 +84,7 @@ module _ (w : List ℕ) where
 
   -- "3: n is odd, below 2 or above 64"
   abbrev pub WrongDegree : Type 0
-  WrongDegree = (n w % 2 ≡ 1) ⊎ (n w < 2) ⊎ (64 < n w)
+  WrongDegree = DegreeNotAllowed (n w)
 
   -- a word after the first two has another kind than n+1 coefficients, the budget and the end have, in this
   -- order

@@ -26,6 +26,7 @@ use Rattle.spec_definitions.specs.Walk as walk
 use Rattle.spec_definitions.specs.Answers.{found, said, opsOf, rootOf, wordsOutcome}
 use Rattle.spec_definitions.specs.Listing.{recordOf, listingOf, listingAnswer}
 use Rattle.spec_definitions.specs.Lookup.{recordKinds, recordAt}
+use Rattle.spec_lists.specs.Words.{word-unique, value-less}
 use Rattle.spec_bridge.specs.Model.{Model, series}
 use Rattle.spec_bridge.specs.Trim.{below-size, size-is, size-series, lead-is}
 use Rattle.spec_bridge.specs.Arithmetic.{series-sub, series-scale}
@@ -51,15 +52,6 @@ abbrev pub ListingOnly : Type 0
 ListingOnly = (w old : List ℕ) (R m c : ℕ) → listingAnswer w old .says ≡ said (found R m c) → (l : List ℕ) → ((j : ℕ) → j < m → RecordRead (ticketOf w) R j l) → KeepsFrom (m * (ticketOf w .n + 4)) old l → l ≡ listingAnswer w old .list
 
 -- ---- the proof
--- a word is its kind and its value
-word-unique : (x y : ℕ) → kind x ≡ kind y → value x ≡ value y → x ≡ y
-unfolding kind value
-word-unique x y e f = sym (div-add-mod' x values) ∙ ap₂ (λ (a b : ℕ). a * values + b) e f ∙ div-add-mod' y values
-
-value-less : (x : ℕ) → value x < values
-unfolding value
-value-less x = mod-lt x (omega arith)
-
 joined-parts : (a b c d : ℕ) → b < values → d < values → joined a b ≡ joined c d → (a ≡ c) × (b ≡ d)
 unfolding joined
 joined-parts a b c d h k e = (omega arith, omega arith)

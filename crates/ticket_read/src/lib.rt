@@ -7,6 +7,7 @@ ghost use lib.ListN.{length, getD};
 ghost use Rattle.spec_arithmetic.specs.Words.{value as valueOf};
 ghost use Rattle.spec_definitions.specs.Ticket.{ticket, firstOf};
 ghost use Rattle.base_field.specs.Named.{name, IsField};
+ghost use Rattle.base_polynomial.specs.Whole.{poly, Is};
 ghost use Rattle.ticket_radicand.specs.Radicand.{coefficients};
 ghost use Rattle.ticket_radicand.specs.Refusal.{radicandTests};
 ghost use Rattle.ticket_read.specs.Read.{read, readOf, Stands, Refused};
@@ -31,7 +32,7 @@ pub struct Ticket {
 }
 
 // A refusal, with zeros.
-fn refused(number: u32) -> Ticket
+pub fn refused(number: u32) -> Ticket
     requires { ⌜ 0 < number ⌝ }
     ensures { λ r. ⌜ Refused number r ⌝ }
 {
@@ -47,17 +48,17 @@ fn refused(number: u32) -> Ticket
     }
 }
 
-// D and the budget, from words that passed the tests 1 to 4; the tests 5 to 7 on D.
-fn read_radicand(f: Field, n: usize, words: &[u32]) -> Ticket
-    requires { ⌜ IsField f × (n ≤ 64) × (length (now words) ≡ n + 5) ⌝ }
-    ensures { λ r. ⌜ Stands (read (firstOf (radicandTests (name f) n (coefficients n (now (words .entry))))) (ticket (name f) n (coefficients n (now (words .entry))) (valueOf (getD (now (words .entry)) (n + 3) 0)))) r ⌝ }
+// The ticket of these parts, past the tests 1 to 4: the tests 5 to 7 on D.
+pub fn admit(f: Field, n: usize, radicand: Poly, budget: u64) -> Ticket
+    requires { ⌜ IsField f ⌝ }
+    requires { ⌜ (n ≤ 64) × (radicand .size ≡ n + 1) ⌝ }
+    requires { ⌜ Is f radicand (poly radicand) ⌝ }
+    ensures { λ r. ⌜ Stands (read (firstOf (radicandTests (name f) n (poly radicand))) (ticket (name f) n (poly radicand) budget)) r ⌝ }
 {
-    let radicand = radicand_of(n, words);
     let number = radicand_refusal(f, n, radicand);
     if number != 0 {
         return refused(number);
     }
-    let budget = value(words[n + 3]) as u64;
     Ticket {
         number: 0,
         field: f,
@@ -65,6 +66,16 @@ fn read_radicand(f: Field, n: usize, words: &[u32]) -> Ticket
         radicand,
         budget,
     }
+}
+
+// D and the budget, from words that passed the tests 1 to 4; the tests 5 to 7 on D.
+fn read_radicand(f: Field, n: usize, words: &[u32]) -> Ticket
+    requires { ⌜ IsField f × (n ≤ 64) × (length (now words) ≡ n + 5) ⌝ }
+    ensures { λ r. ⌜ Stands (read (firstOf (radicandTests (name f) n (coefficients n (now (words .entry))))) (ticket (name f) n (coefficients n (now (words .entry))) (valueOf (getD (now (words .entry)) (n + 3) 0)))) r ⌝ }
+{
+    let radicand = radicand_of(n, words);
+    let budget = value(words[n + 3]) as u64;
+    admit(f, n, radicand, budget)
 }
 
 // The ticket that words of any number and any values say.

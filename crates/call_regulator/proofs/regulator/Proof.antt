@@ -2,15 +2,20 @@
 -- so.
 use mathlib.Core.Path.{refl}
 use borrow.Author.Needs.{needs}
-use Rattle.call_regulator.specs.Regulator.{least}
+use Rattle.call_regulator.specs.Regulator.{outcome-said, least}
 use Rattle.call_regulator.proofs.regulator.Statement.{statement}
 use Rattle.call_regulator.proofs.regulator.Tie as tie
 
-outcome-requires : tie.Need-outcome-requires
-outcome-requires c κs = search needs
+read-ticket-requires : tie.Need-read-ticket-requires
+read-ticket-requires c κs = search needs
+
+outcome-of-requires : tie.Need-outcome-of-requires
+outcome-of-requires c κs = (_, c .read-ticket .ensures)
 
 returns : tie.Need-returns
-returns c = (refl, (c .outcome .ensures, least _ _ (c .outcome .ensures)))
+returns c =
+    let e = outcome-said _ _ (c .outcome-of .ensures _ (c .before .read-ticket .ensures)) in
+    (refl, (e, least _ _ e))
 
 pub regulator-spec : {M : Type 1} → statement M
-regulator-spec = tie.close (tie.spec outcome-requires returns)
+regulator-spec = tie.close (tie.spec read-ticket-requires outcome-of-requires returns)

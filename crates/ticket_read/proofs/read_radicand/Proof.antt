@@ -1,41 +1,20 @@
--- The record of D has the words' coefficients, so that the tests on it are the definition's; where none
--- applies each value is the ticket's.
+-- The record of D has the words' coefficients, so that the tests on it are the definition's.
 use Prim.Native.Nat.{ℕ}
 use native.Mathlib.Omega.{arith}
-use mathlib.Core.Path.{_≡_, refl, sym, ap, _∙_}
+use mathlib.Core.Path.{ap, ap₂}
 use mathlib.Core.List.{List}
 use denote.Ref.{now}
 use borrow.Author.Needs.{needs}
-use Rattle.spec_definitions.specs.Ticket.{firstOf}
+use Rattle.spec_definitions.specs.Ticket.{ticket, firstOf}
 use Rattle.base_field.specs.Named.{name}
-use Rattle.ticket_radicand.specs.Radicand.{coefficients, radicand-size, radicand-poly, radicand-itself}
+use Rattle.ticket_radicand.specs.Radicand.{radicand-size, radicand-poly, radicand-itself}
 use Rattle.ticket_radicand.specs.Refusal.{radicandTests}
-use Rattle.ticket_read.specs.Read.{stands-path, stands-accepted}
+use Rattle.ticket_read.specs.Read.{stands-path}
 use Rattle.ticket_read.proofs.read_radicand.Statement.{statement}
 use Rattle.ticket_read.proofs.read_radicand.Tie as tie
 
 radicand-of-requires : tie.Need-radicand-of-requires
 radicand-of-requires c κs = search needs
-
-radicand-refusal-requires : tie.Need-radicand-refusal-requires
-radicand-refusal-requires c κs =
-    let s = c .before .before in
-    let is = c .radicand-of .ensures (name (s .args .f)) in
-    let w : List ℕ = now (s .args .words) in
-    (s .pre .0, ((s .pre .1, radicand-size _ w (s .pre .1) (omega arith) is), radicand-itself _ w (s .pre .1) (omega arith) is))
-
--- the number is that of the tests on the words' coefficients
-tested : (c : tie.After-radicand-refusal) → c .radicand-refusal .result ≡ firstOf (radicandTests (name (c .before .before .before .args .f)) (c .before .before .before .args .n) (coefficients (c .before .before .before .args .n) (now (c .before .before .before .args .words))))
-tested c =
-    let s = c .before .before .before in
-    c .radicand-refusal .ensures ∙ ap (λ (D : List ℕ). firstOf (radicandTests (name (s .args .f)) (s .args .n) D)) (radicand-poly _ (now (s .args .words)) (s .pre .1) (omega arith) (c .before .radicand-of .ensures (name (s .args .f))))
-
-refused-requires : tie.Need-refused-requires
-refused-requires c κs = search needs
-
-returns : tie.Need-returns
-returns c =
-    stands-path (tested (c .before .before)) refl (c .refused .ensures _)
 
 add-value : tie.Need-add-value
 add-value c = search needs
@@ -52,23 +31,37 @@ value-requires c κs = search needs
 cast-budget : tie.Need-cast-budget
 cast-budget c = search needs
 
-returns-2 : tie.Need-returns-2
-returns-2 c =
-    let t = c .before .before .before in
-    let s = t .before .before .before in
-    stands-accepted (s .pre .0) (t .before .radicand-of .ensures _) (c .value .ensures) (sym (c .before .before .if1 .left) ∙ tested t)
+admit-requires : tie.Need-admit-requires
+admit-requires c κs =
+    let t = c .before .before in
+    let s = t .before .before in
+    let is = t .radicand-of .ensures (name (s .args .f)) in
+    let w : List ℕ = now (s .args .words) in
+    (s .pre .0, ((s .pre .1, radicand-size _ w (s .pre .1) (omega arith) is), radicand-itself _ w (s .pre .1) (omega arith) is))
+
+returns : tie.Need-returns
+returns c =
+    let v = c .before in
+    let t = v .before .before in
+    let s = t .before .before in
+    let f = name (s .args .f) in
+    let n = s .args .n in
+    let w : List ℕ = now (s .args .words) in
+    let same = radicand-poly n w (s .pre .1) (omega arith) (t .radicand-of .ensures f) in
+    stands-path
+    (ap (λ (D : List ℕ). firstOf (radicandTests f n D)) same)
+    (ap₂ (λ (D : List ℕ) (b : ℕ). ticket f n D b) same (v .value .ensures))
+    (c .admit .ensures)
 
 pub read-radicand-spec : {M : Type 1} → statement M
 read-radicand-spec =
     tie.close
     (tie.spec
     radicand-of-requires
-    radicand-refusal-requires
-    refused-requires
-    returns
     add-value
     mul-value
     shared-slice-read-value
     value-requires
     cast-budget
-    returns-2)
+    admit-requires
+    returns)

@@ -9,7 +9,7 @@ use borrow.Author.Needs.{needs}
 use borrow.Author.Count.{below-more}
 use Rattle.spec_arithmetic.specs.Words.{kind}
 use Rattle.spec_definitions.specs.Ticket.{laterKinds}
-use Rattle.ticket_layout.specs.Layout.{kinds-right, kinds-wrong}
+use Rattle.ticket_layout.specs.Layout.{later-right, later-wrong}
 use Rattle.ticket_layout.proofs.layout.wrong_kinds.Statement.{statement}
 use Rattle.ticket_layout.proofs.layout.wrong_kinds.Tie as tie
 
@@ -41,7 +41,7 @@ later-kind-requires : tie.Need-later-kind-requires Inv-loop μ-loop
 later-kind-requires c κs = search needs
 
 returns : tie.Need-returns Inv-loop μ-loop
-returns c = sym (ap not (kinds-wrong _ (now (c .before .before .before .before .before .before .before .args .words)) (c .before .before .before .before .before .before .before .pre .1) _ (λ h. c .if1 .taken (c .before .before .kind .ensures ∙ h ∙ sym (c .before .later-kind .ensures)))))
+returns c = sym (ap not (later-wrong _ (now (c .before .before .before .before .before .before .before .args .words)) (c .before .before .before .before .before .before .before .pre .1) _ (λ h. c .if1 .taken (c .before .before .kind .ensures ∙ h ∙ sym (c .before .later-kind .ensures)))))
 
 add-i : tie.Need-add-i Inv-loop μ-loop
 add-i c = search needs
@@ -53,7 +53,7 @@ loop-again : tie.Need-loop-again Inv-loop μ-loop
 loop-again c = (search needs, below-more _ _ (c .before .before .before .before .before .loop .inv .1) (sym (c .before .before .kind .ensures) ∙ c .if1 .left ∙ c .before .later-kind .ensures))
 
 returns-2 : tie.Need-returns-2 Inv-loop μ-loop
-returns-2 c = sym (ap not (kinds-right _ (now (c .before .before .before .args .words)) (c .before .before .before .pre .1) (λ i h. c .before .loop .inv .1 i (omega arith))))
+returns-2 c = sym (ap not (later-right _ (now (c .before .before .before .args .words)) (c .before .before .before .pre .1) (λ i h. c .before .loop .inv .1 i (omega arith))))
 
 pub wrong-kinds-spec : {M : Type 1} → statement M
 wrong-kinds-spec =

@@ -1,0 +1,2 @@
+pub mod Regulators
+pub mod Filled

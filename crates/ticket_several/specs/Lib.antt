@@ -1,0 +1,3 @@
+pub mod Residues
+pub mod Shape
+pub mod Job
