@@ -16,10 +16,11 @@ pub shifted-next : (b : List ℕ) (k : ℕ) → shifted b 1 (k + 1) ≡ getD b k
 unfolding shifted
 shifted-next b k = rw add-one
 
-pub shifted-less : (q : ℕ) → 0 < q → (b : List ℕ) → ((i : ℕ) → getD b i 0 < q) → (k : ℕ) → shifted b 1 k < q
+pub shifted-less : (q : ℕ) → 0 < q → (b : List ℕ) → ((i : ℕ) → getD b i 0 < q) → (n k : ℕ) → shifted b n k < q
 unfolding shifted
-shifted-less q pos b h zero = pos
-shifted-less q pos b h (suc k) = h k
+shifted-less q pos b h zero k = h k
+shifted-less q pos b h (suc n) zero = pos
+shifted-less q pos b h (suc n) (suc k) = shifted-less q pos b h n k
 
 pub two-rows : (a b : List ℕ) (k : ℕ) → rows a b 2 k ≡ getD a 0 0 * getD b k 0 + getD a 1 0 * shifted b 1 k
 unfolding rows shifted

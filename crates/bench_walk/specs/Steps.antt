@@ -13,7 +13,7 @@ use Rattle.spec_definitions.specs.Answers.{rootOf}
 use Rattle.base_field.specs.Named.{name}
 use Rattle.base_polynomial.specs.Whole.{poly}
 use Rattle.walk_state.specs.State.{rootD}
-use Rattle.ticket_read.specs.declared.Ticket.{Ticket as Said}
+use Rattle.ticket_read.specs.declared.Ticket as code
 use Rattle.ticket_read.specs.Accepted.{Accepted}
 
 unfoldable pub degreeAfter : List ℕ → ℕ → ℕ
@@ -41,7 +41,7 @@ module _ (w : List ℕ) (steps : ℕ) where
       go zero z = absurd (n z)
       go (suc j) z = refl
 
-  pub accepted-steps : steps < budgets → {t : Said} → Accepted w t → (d : ℕ) → d ≡ degreeBefore (ops (name (t .field))) (poly (t .radicand)) (rootD (name (t .field)) (genus (t .n)) (poly (t .radicand))) steps → d ≡ degreeAfter w steps
+  pub accepted-steps : steps < budgets → {t : code.Ticket} → Accepted w t → (d : ℕ) → d ≡ degreeBefore (ops (name (t .field))) (poly (t .radicand)) (rootD (name (t .field)) (genus (t .n)) (poly (t .radicand))) steps → d ≡ degreeAfter w steps
   unfolding rootOf
   accepted-steps h a d e = e ∙ ap (λ (t : Ticket). degreeBefore (ops (t .field)) (t .D) (rootOf t) steps) (sym (a .ticket-is)) ∙ sym (few h ∙ go (refusalOf w) (a .passes))
     where

@@ -10,7 +10,7 @@ use lib.ListN.{length, take, drop}
 use borrow.Author.Tests.{eq-eqb, ne-eqb, eqb-true, eqb-false, not-false}
 use Rattle.spec_definitions.specs.Ticket.{wrongDegree}
 use Rattle.spec_definitions.specs.Lookup.{wrongListing, rightKinds, rising, recordCount, distanceAt, recordAt, lastWithin, lookupOf, placeOf}
-use Rattle.listing_whole.specs.Degrees.{or-false}
+use Rattle.spec_laws.specs.FirstTest.{neither}
 use Rattle.listing_whole.specs.Records.{Records}
 use Rattle.listing_distances.specs.Rising.{distanceFrom, distance-start}
 
@@ -43,8 +43,8 @@ module _ (l : List ℕ) (n : ℕ) where
   pub listing-records : wrongListing l n ≡ false → Records l n
   unfolding wrongListing
   listing-records h =
-      let a = or-false _ _ (listing-of _ _ h) in
-      let b = or-false _ _ (a .0) in
+      let a = neither _ _ (listing-of _ _ h) in
+      let b = neither _ _ (a .0) in
       let z : length l ≡ 0 → ⊥ = eqb-false (length l) 0 (b .1) in
       record { degree = b .0; some = omega arith; whole = eqb-true (length l % (n + 4)) 0 (not-false _ (a .1)) }
 

@@ -9,21 +9,21 @@ use Rattle.spec_definitions.specs.Answers.{Outcome, refused, said, said-injecti
 use Rattle.base_field.specs.Named.{name}
 use Rattle.base_polynomial.specs.Over.{poly}
 use Rattle.spec_demands.specs.LeastDegree.{Least, t3}
-use Rattle.ticket_read.specs.declared.Ticket.{Ticket as Said}
+use Rattle.ticket_read.specs.declared.Ticket as code
 use Rattle.ticket_read.specs.Read.{readOf, Stands}
 use Rattle.ticket_read.specs.Accepted.{Accepted}
 use Rattle.walk_run.specs.Found.{Walkable}
 
 -- t is what some words are read as
-abbrev pub IsRead : Said → Type 0
+abbrev pub IsRead : code.Ticket → Type 0
 IsRead t = (w : List ℕ) × Stands (readOf w) t
 
 -- x is the outcome of all words that are read as t
-abbrev pub OutcomeOf : Said → Outcome → Type 0
+abbrev pub OutcomeOf : code.Ticket → Outcome → Type 0
 OutcomeOf t x = (w : List ℕ) → Stands (readOf w) t → x ≡ wordsOutcome w
 
 -- what a ticket that is not refused gives a run
-pub walkable : {w : List ℕ} {t : Said} → Accepted w t → Walkable (t .field) (t .n) (t .radicand) (t .budget)
+pub walkable : {w : List ℕ} {t : code.Ticket} → Accepted w t → Walkable (t .field) (t .n) (t .radicand) (t .budget)
 walkable a = record { is-field = a .is-field; admitted = a .radicand; held = a .held; even = a .half; budget = a .budget }
 
 module _ (w : List ℕ) where
@@ -35,7 +35,7 @@ module _ (w : List ℕ) where
       go zero z = absurd (h z)
       go (suc j) z = ap refused z
 
-  pub accepted-outcome : {t : Said} (x : Outcome) → Accepted w t → x ≡ outcomeOf (ticket (name (t .field)) (t .n) (poly (t .radicand)) (t .budget)) → x ≡ wordsOutcome w
+  pub accepted-outcome : {t : code.Ticket} (x : Outcome) → Accepted w t → x ≡ outcomeOf (ticket (name (t .field)) (t .n) (poly (t .radicand)) (t .budget)) → x ≡ wordsOutcome w
   unfolding wordsOutcome
   accepted-outcome x a e = e ∙ ap outcomeOf (sym (a .ticket-is)) ∙ go (refusalOf w) (a .passes)
     where

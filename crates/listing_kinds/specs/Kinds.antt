@@ -11,7 +11,7 @@ use Rattle.spec_arithmetic.specs.Words.{kind, same}
 use Rattle.spec_definitions.specs.Ticket.{wrongDegree, genus}
 use Rattle.spec_definitions.specs.Lookup.{recordKinds}
 use Rattle.spec_lists.specs.Kinds as lists
-use Rattle.listing_whole.specs.Degrees.{Allowed, allowed}
+use Rattle.spec_laws.specs.Degrees.{Allowed, allowed}
 
 module _ (n : ℕ) (h : wrongDegree n ≡ false) where
   coefficients : List ℕ

@@ -1,5 +1,5 @@
 -- What the numbers of the places say is what the definitions say, and T3 holds of them.
-use Prim.Native.Nat.{ℕ, _<_}
+use Prim.Native.Nat.{ℕ, _*_, _<_}
 use native.Mathlib.Omega.{arith}
 use mathlib.Core.Path.{_≡_, sym, ap, _∙_, subst}
 use mathlib.Core.List.{List, map}
@@ -11,7 +11,7 @@ use Rattle.spec_several.specs.Regulators.{t1-several, several-numbered, places}
 use Rattle.call_regulators.specs.Regulators.{LeastEach}
 use Rattle.out_numbers.specs.Numbers.{plain-same}
 use Rattle.out_numbers.specs.Least.{least-plain}
-use Rattle.out_several.specs.Places.{InPlaces, PlainPlaces, LeastPlaces}
+use Rattle.out_several.specs.Places.{InPlaces, plainPlaces, LeastPlaces, in-places}
 
 -- outcomes l that are said as the definitions say them
 module _ (w : List ℕ) (l : List Outcome) (says : map said l ≡ severalAnswer w .says) where
@@ -21,8 +21,8 @@ module _ (w : List ℕ) (l : List Outcome) (says : map said l ≡ severalAnswer 
   pub said-sixteen : length l ≡ mostPrimes
   said-sixteen = sym (length-map l said) ∙ ap length says ∙ places w .sixteen
 
-  pub plain-places : (out : List ℕ) → InPlaces l out → PlainPlaces (severalAnswer w .says) out
-  plain-places out p i h = plain-same (said-at i) (p i h)
+  pub plain-places : (out : List ℕ) → length out ≡ 4 * mostPrimes → InPlaces l out → out ≡ plainPlaces (severalAnswer w .says)
+  plain-places out long p = in-places _ out (places w .sixteen) long (λ i h. plain-same (said-at i) (p i h))
 
   numbered-said : (i : ℕ) → i < severalAnswer w .count → Numbered (getD l i (refused 0))
   numbered-said i h =

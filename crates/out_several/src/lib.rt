@@ -36,7 +36,7 @@ fn put_outcome(outcome: Outcome, i: usize, out: &mut [u64; 64])
 pub fn put_outcomes(a: SeveralAnswer, out: &mut [u64; 64]) -> SeveralNumbers
     requires { ⌜ length (outcomes a) ≡ mostPrimes ⌝ }
     ensures { λ r. ⌜ (r .words ≡ a .words) × (r .count ≡ a .count) ⌝ }
-    ensures { λ r. ⌜ InPlaces (outcomes a) (now (out .exit)) ⌝ }
+    ensures { λ r. ⌜ (length (now (out .exit)) ≡ 4 * mostPrimes) × InPlaces (outcomes a) (now (out .exit)) ⌝ }
 {
     // Written whole, so that its length is known.
     *out = [0u64; 64];

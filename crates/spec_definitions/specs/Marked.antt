@@ -7,11 +7,11 @@ use mathlib.Core.Path.{_≡_, refl}
 use mathlib.Core.List.{List, [], _∷_, _++_, map}
 use lib.IntN.{ℤ, pos, negsuc}
 use lib.ListN.{length, take, drop, replicate}
-use Rattle.spec_arithmetic.specs.Field.{inverse, inverseIn, fits}
+use Rattle.spec_arithmetic.specs.Field.{prime, inverse, inverseIn, fits}
 use Rattle.spec_arithmetic.specs.Polynomials.{trim, size, deg, pad, zip, add, sub, scale, mul, lead, put, divide, quo, rem, monic, gcd, gcdIn, bezout, bezoutIn, times, timesFrom, derivative, monomial, root, rootIn}
 use Rattle.spec_arithmetic.specs.Primes.{oddPrime, noDivisor}
 use Rattle.spec_arithmetic.specs.Words.{kind, value, word, high, low, joined, same, someNot, oneOf}
-use Rattle.spec_definitions.specs.Ticket.{genus, ticketOf, wrongHead, wrongPrime, wrongDegree, laterKinds, wrongLayout, wrongCoefficient, wrongLead, notSquarefree, firstOf, testsOf, refusalOf}
+use Rattle.spec_definitions.specs.Ticket.{ticketWords, genus, ticketOf, wrongHead, wrongPrime, wrongDegree, laterKinds, wrongLayout, wrongCoefficient, wrongLead, notSquarefree, firstOf, testsOf, refusalOf}
 use Rattle.spec_definitions.specs.Walk.{Ideal, partial, nextP, next, steps, walk, pBefore, sBefore, constant?, firstFrom, quasiPeriod, degreeBefore, unitOf, constantOf}
 use Rattle.spec_definitions.specs.Answers.{Said, said, rootOf, outcomeOf, wordsOutcome, regulatorOf}
 use Rattle.spec_definitions.specs.Units.{UnitAnswer, longEnough, written, unitLists, unitFrom, unitAnswer}
@@ -32,7 +32,7 @@ pub data Job : Type 0 where
 
 -- the words of a ticket with the coefficients of D, constant term first
 abbrev pub ticket : ℕ → List ℕ → ℕ → List ℕ
-ticket q D b = word 1 q ∷ word 2 (length D - 1) ∷ (map (word 3) D ++ (word 4 b ∷ word 15 (length D + 3) ∷ []))
+ticket q D b = ticketWords (record { field = prime q; n = length D - 1; D = D; b = b })
 
 -- a word's four bytes, low byte first
 abbrev pub bytes : List ℕ → List ℕ

@@ -7,7 +7,7 @@ use lib.ListN.{length, getD, take, drop, replicate}
 use Rattle.spec_arithmetic.specs.Field.{FieldName, prime, ops, fits}
 use Rattle.spec_arithmetic.specs.Polynomials.{size, gcd, derivative}
 use Rattle.spec_arithmetic.specs.Primes.{oddPrime}
-use Rattle.spec_arithmetic.specs.Words.{values, kind, value, same, someNot, oneOf}
+use Rattle.spec_arithmetic.specs.Words.{values, kind, value, word, same, someNot, oneOf}
 
 -- the ticket is the job record: which field, which D, and how many steps at most "kind 1: q; kind 2: n; kind
 -- 3, n+1 words: the coefficients of D, constant term first; kind 4: the step budget b"
@@ -28,6 +28,11 @@ degrees = 32 * budgets
 -- the ticket of the parts
 abbrev pub ticket : FieldName → ℕ → List ℕ → ℕ → Ticket
 ticket f n D b = record { field = f; n = n; D = D; b = b }
+
+-- its words: "kind 1: q; kind 2: n; kind 3, n+1 words: the coefficients of D, constant term first; kind 4: the
+-- step budget b", and the end word, n+4
+abbrev pub ticketWords : Ticket → List ℕ
+ticketWords t = word 1 (t .field .q) ∷ word 2 (t .n) ∷ map (word 3) (t .D) ++ (word 4 (t .b) ∷ word 15 (t .n + 4) ∷ [])
 
 -- "Here g = n/2 − 1."
 unfoldable pub genus : ℕ → ℕ

@@ -5,12 +5,12 @@ use native.Mathlib.Nat.{mod-lt, div-add-mod}
 use native.Mathlib.Numerals.{add-one}
 use native.Mathlib.Omega.{arith}
 use mathlib.Core.Path.{_≡_, refl, sym, ap, _∙_}
-use mathlib.Core.Bool.{Bool, true, false, not, _||_, true≢false}
+use mathlib.Core.Bool.{Bool, true, false, not, true≢false}
 use mathlib.Core.List.{List, [], _∷_}
-use lib.Dec.{ltb, eqb}
+use lib.Dec.{eqb}
 use lib.ListN.{length, getD, take, drop, length-map, length-drop}
 use lib.Seq.{length-take-le}
-use borrow.Author.Tests.{ltb-false, eqb-true, not-false}
+use borrow.Author.Tests.{eqb-true, not-false}
 use Rattle.math_algebra.specs.Polynomial.{Monic}
 use Rattle.math_surd.specs.Root.{No-square}
 use Rattle.spec_arithmetic.specs.Field.{FieldName, ops, fits}
@@ -26,6 +26,7 @@ use Rattle.spec_fields.specs.Named.{IsField, Ok, arithmetic, fits-ok, ok-zero, 
 use Rattle.spec_laws.specs.Surd.{Surd}
 use Rattle.spec_laws.specs.NoSquare as squarefree
 use Rattle.spec_laws.specs.FirstTest.{neither, first-none}
+use Rattle.spec_laws.specs.Degrees.{Allowed, allowed}
 
 abbrev pub field-from : {f : FieldName} → Prime (f .q) → 2 < f .q → f .q < 4096 → IsField f
 field-from p l u = record { prime = p; odd = l; small = u }
@@ -92,13 +93,9 @@ prime-of q e = odd-prime-true q (not-false (oddPrime q) e)
 
 -- n = 2g + 2
 pub degree-of : (n : ℕ) → wrongDegree n ≡ false → (suc (genus n) + suc (genus n) ≡ n) × (genus n ≤ 31)
-unfolding wrongDegree genus
+unfolding genus
 degree-of n e =
-    let a = neither (not (eqb (n % 2) 0) || ltb n 2) (ltb 64 n) e in
-    let b = neither (not (eqb (n % 2) 0)) (ltb n 2) (a .0) in
-    let even : n % 2 ≡ 0 = eqb-true (n % 2) 0 (not-false (eqb (n % 2) 0) (b .0)) in
-    let low : 2 ≤ n = ltb-false n 2 (b .1) in
-    let high : n ≤ 64 = ltb-false 64 n (a .1) in
+    let a : Allowed n = allowed n e in
     let whole : 2 * (n / 2) + n % 2 ≡ n = div-add-mod n 2 in
     (omega arith, omega arith)
 

@@ -1,11 +1,16 @@
--- Tests that apply or do not: neither of two; the laws of `firstOf`, where the first of numbered tests that
+-- Tests that apply or do not: those on D; neither of two; the laws of `firstOf`, where the first of numbered tests that
 -- applies gives its number, and 0 says that none does.
 use Prim.Native.Nat.{ℕ, suc}
 use native.Mathlib.Omega.{arith}
 use mathlib.Core.Path.{_≡_, refl}
 use mathlib.Core.Bool.{Bool, true, false, _||_, true≢false}
 use mathlib.Core.List.{List, [], _∷_, _++_}
-use Rattle.spec_definitions.specs.Ticket.{firstOf}
+use Rattle.spec_arithmetic.specs.Field.{FieldName}
+use Rattle.spec_definitions.specs.Ticket.{wrongCoefficient, wrongLead, notSquarefree, firstOf}
+
+-- the tests of a ticket on D
+unfoldable pub radicandTests : FieldName → ℕ → List ℕ → List (ℕ × Bool)
+radicandTests f n D = (5, wrongCoefficient f D) ∷ (6, wrongLead n D) ∷ (7, notSquarefree f D) ∷ []
 
 pub neither : (s t : Bool) → (s || t) ≡ false → (s ≡ false) × (t ≡ false)
 neither true t e = absurd (true≢false e)

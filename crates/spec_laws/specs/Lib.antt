@@ -14,6 +14,7 @@ pub mod ReductionSizes
 pub mod Reduced
 pub mod Shift
 pub mod FirstTest
+pub mod Degrees
 pub mod Cases
 pub mod Admitted
 pub mod Coefficients

@@ -11,7 +11,7 @@ use Rattle.spec_arithmetic.specs.Words.{values, kind, value, word, same, someNo
 use Rattle.spec_definitions.specs.Ticket.{genus, ticketOf, wrongHead, wrongPrime, wrongDegree, laterKinds, wrongLayout, wrongCoefficient, wrongLead, notSquarefree, firstOf, testsOf, refusalOf}
 use Rattle.spec_definitions.specs.Walk.{partial, nextP, next, steps, walk, pBefore, constant?, firstFrom, quasiPeriod, degreeBefore, constantOf}
 use Rattle.spec_definitions.specs.Answers.{Outcome, found, spent, refused, said, rootOf, outcomeOf, wordsOutcome}
-use Rattle.spec_several.specs.Several.{negatives, severalKinds, degreeOf, primeCount, coefficientsOf, budgetOf, primesOf, wrongShape, severalRefusal, residue, ticketWords, jobAt, jobWords, severalOf, sixteenPlaces, severalAnswer}
+use Rattle.spec_several.specs.Several.{negatives, severalKinds, degreeOf, primeCount, coefficientsOf, budgetOf, primesOf, wrongShape, severalRefusal, residue, jobAt, jobWords, severalOf, sixteenPlaces, severalAnswer}
 
 -- the value that stands for −k
 abbrev minus : ℕ → ℕ
@@ -53,7 +53,7 @@ pub primes-computed : _≡_ {A = List (List Outcome)}
     ∷ (found 1 1 3 ∷ refused 7 ∷ [])
     ∷ replicate 16 (found 1 1 2)
     ∷ [])
-unfolding severalKinds degreeOf primeCount coefficientsOf budgetOf primesOf wrongShape severalRefusal residue ticketWords jobAt jobWords severalOf inverse inverseIn fits trim size deg zip add sub scale mul lead put divide quo rem monic gcd gcdIn times timesFrom derivative monomial root rootIn oddPrime noDivisor kind value word same someNot oneOf genus ticketOf wrongHead wrongPrime wrongDegree laterKinds wrongLayout wrongCoefficient wrongLead notSquarefree firstOf testsOf refusalOf partial nextP next steps walk pBefore constant? firstFrom quasiPeriod degreeBefore constantOf rootOf outcomeOf wordsOutcome
+unfolding severalKinds degreeOf primeCount coefficientsOf budgetOf primesOf wrongShape severalRefusal residue jobAt jobWords severalOf inverse inverseIn fits trim size deg zip add sub scale mul lead put divide quo rem monic gcd gcdIn times timesFrom derivative monomial root rootIn oddPrime noDivisor kind value word same someNot oneOf genus ticketOf wrongHead wrongPrime wrongDegree laterKinds wrongLayout wrongCoefficient wrongLead notSquarefree firstOf testsOf refusalOf partial nextP next steps walk pBefore constant? firstFrom quasiPeriod degreeBefore constantOf rootOf outcomeOf wordsOutcome
 primes-computed = refl
 
 -- seventeen primes, none, no word at all, a prime's word of kind 13, n = 3 without a prime; then n = 3 and

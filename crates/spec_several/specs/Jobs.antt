@@ -9,9 +9,9 @@ use lib.Seq.{getD-take, getD-drop, getD-append-add}
 use Rattle.spec_arithmetic.specs.Words.{values, value, word}
 use Rattle.spec_lists.specs.Words.{value-less}
 use Rattle.spec_lists.specs.Mapped.{getD-map-within}
-use Rattle.spec_definitions.specs.Ticket.{Ticket}
+use Rattle.spec_definitions.specs.Ticket.{Ticket, ticketWords}
 use Rattle.spec_sentences.specs.Sentences.{valueAt}
-use Rattle.spec_several.specs.Several.{degreeOf, coefficientsOf, residue, ticketWords, jobAt}
+use Rattle.spec_several.specs.Several.{degreeOf, coefficientsOf, residue, jobAt}
 use Rattle.spec_several.specs.Residues.{residue-fits}
 use Rattle.spec_several.specs.Shape.{RightShape}
 
@@ -24,26 +24,21 @@ module _ (t : Ticket) (size : length (t .D) ≡ t .n + 1) where
   ending = word 4 (t .b) ∷ word 15 (t .n + 4) ∷ []
 
   pub length-ticket : length v ≡ t .n + 5
-  unfolding ticketWords
   length-ticket = omega (arith, length-append (map (word 3) (t .D)) ending, length-map (t .D) (word 3), size)
 
   pub word-prime : getD v 0 0 ≡ word 1 (t .field .q)
-  unfolding ticketWords
   word-prime = refl
 
   pub word-degree : getD v 1 0 ≡ word 2 (t .n)
-  unfolding ticketWords
   word-degree = refl
 
   pub word-coefficient : (i : ℕ) → i ≤ t .n → getD v (i + 2) 0 ≡ word 3 (getD (t .D) i 0)
-  unfolding ticketWords
   word-coefficient i h =
       ap (λ (j : ℕ). getD v j 0) (let e : i + 2 ≡ suc (suc i) = omega arith in e)
       ∙ List·getD-append (map (word 3) (t .D)) ending 0 i (omega (arith, length-map (t .D) (word 3), size))
       ∙ getD-map-within (word 3) (t .D) i 0 0 (omega (arith, size))
 
   word-after : (i j : ℕ) → i ≡ t .n + 3 + j → getD v i 0 ≡ getD ending j 0
-  unfolding ticketWords
   word-after i j e =
       let l = length-map (t .D) (word 3) in
       let f : i ≡ suc (suc (length (map (word 3) (t .D)) + j)) = omega (arith, size) in

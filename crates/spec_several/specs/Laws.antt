@@ -8,17 +8,18 @@ use mathlib.Core.Bool.{true, false}
 use mathlib.Core.List.{List, [], _∷_, _++_, map}
 use lib.ListN.{length, getD, take, drop, replicate, length-append, length-replicate, length-map, length-take, length-drop, List·getD-map}
 use lib.Seq.{getD-take, getD-drop}
+use Rattle.spec_arithmetic.specs.Field.{prime}
 use Rattle.spec_arithmetic.specs.Words.{values, value}
 use Rattle.spec_definitions.specs.Ticket.{Ticket, ticketOf, wrongPrime, wrongDegree, firstOf, refusalOf}
 use Rattle.spec_definitions.specs.Answers.{Outcome, refused, wordsOutcome}
 use Rattle.spec_lists.specs.Mapped.{getD-map-within}
-use Rattle.spec_laws.specs.FirstTest.{first-none}
+use Rattle.spec_laws.specs.FirstTest.{radicandTests, first-none}
 use Rattle.spec_laws.specs.Admitted.{degree-of}
 use Rattle.spec_several.specs.Several.{mostPrimes, degreeOf, primeCount, primesOf, wrongShape, severalRefusal, jobAt, jobWords, severalOf, sixteenPlaces}
 pub use Rattle.spec_several.specs.Kinds.{kinds-length, kinds-first, kinds-coefficient, kinds-budget, kinds-prime, kinds-end}
 use Rattle.spec_several.specs.Shape.{RightShape, right-shape}
 use Rattle.spec_several.specs.Jobs.{job-length}
-use Rattle.spec_several.specs.Single.{SingleJob, laterTests, single-job, job-said, single-refused-2, single-refusal}
+use Rattle.spec_several.specs.Single.{SingleJob, single-job, job-said, single-refused-2, single-refusal}
 
 -- ---- the outcomes by the ticket's refusal
 module _ (w : List ℕ) where
@@ -116,8 +117,8 @@ module _ (w : List ℕ) (none : severalRefusal w ≡ 0) where
     unfolding degreeOf
     job-refused-2 = single-refused-2 w q (jobWords w q) job degree-right
 
-    pub job-refusal : wrongPrime q ≡ false → refusalOf (jobWords w q) ≡ firstOf (laterTests (jobAt w q))
-    unfolding degreeOf
+    pub job-refusal : wrongPrime q ≡ false → refusalOf (jobWords w q) ≡ firstOf (radicandTests (prime q) (degreeOf w) (jobAt w q .D))
+    unfolding degreeOf jobAt
     job-refusal e =
         single-refusal w q (jobWords w q) job degree-right e
-        ∙ ap (λ (t : Ticket). firstOf (laterTests t)) job-words
+        ∙ ap (λ (t : Ticket). firstOf (radicandTests (t .field) (t .n) (t .D))) job-words

@@ -6,8 +6,8 @@ use mathlib.Core.List.{List, [], _∷_, _++_, map}
 use lib.Dec.{ltb, eqb}
 use lib.ListN.{length, getD, take, drop, replicate}
 use Rattle.spec_arithmetic.specs.Field.{prime, modulo}
-use Rattle.spec_arithmetic.specs.Words.{values, kind, value, word, same}
-use Rattle.spec_definitions.specs.Ticket.{Ticket, ticket, wrongDegree, firstOf}
+use Rattle.spec_arithmetic.specs.Words.{values, kind, value, same}
+use Rattle.spec_definitions.specs.Ticket.{Ticket, ticket, ticketWords, wrongDegree, firstOf}
 use Rattle.spec_definitions.specs.Answers.{Outcome, refused, Said, said, wordsOutcome}
 
 -- 2^27: a value of 28 bits from here on stands for a negative number
@@ -59,11 +59,6 @@ module _ (w : List ℕ) where
 -- "28-bit two's complement": the value v stands for v, or for v − 2^28 from 2^27 on; its residue modulo q
 unfoldable pub residue : ℕ → ℕ → ℕ
 residue q v = elim (ltb v negatives) [ true ↦ v % q | false ↦ modulo q .sub v values ]
-
--- the words of a ticket of document 01: "kind 1: q; kind 2: n; kind 3, n+1 words: the coefficients of D, constant
--- term first; kind 4: the step budget b", and the end word n+4
-unfoldable pub ticketWords : Ticket → List ℕ
-ticketWords t = word 1 (t .field .q) ∷ word 2 (t .n) ∷ map (word 3) (t .D) ++ (word 4 (t .b) ∷ word 15 (t .n + 4) ∷ [])
 
 -- "a single regulator job with the reduced coefficients", at the prime q
 unfoldable pub jobAt : List ℕ → ℕ → Ticket

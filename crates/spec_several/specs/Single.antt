@@ -5,15 +5,15 @@ use native.Mathlib.Nat.{eq-or-lt-of-le}
 use native.Mathlib.Omega.{arith}
 use mathlib.Core.Path.{_≡_, sym, ap, _∙_, subst}
 use mathlib.Core.Logic.{⊎-elim}
-use mathlib.Core.Bool.{Bool, true, false}
+use mathlib.Core.Bool.{true, false}
 use mathlib.Core.List.{List, [], _∷_}
 use lib.ListN.{length, getD}
 use lib.Seq.{ext-getD}
 use Rattle.math_ring.specs.Order.{le-or-lt}
 use Rattle.spec_arithmetic.specs.Words.{values, kind, value, word}
 use Rattle.spec_lists.specs.Words.{kind-word, value-word, word-unique, value-less}
-use Rattle.spec_definitions.specs.Ticket.{Ticket, ticketOf, wrongHead, wrongPrime, wrongDegree, wrongCoefficient, wrongLead, notSquarefree, firstOf, testsOf, refusalOf}
-use Rattle.spec_laws.specs.FirstTest.{first-applies, first-passes}
+use Rattle.spec_definitions.specs.Ticket.{ticketOf, wrongHead, wrongPrime, wrongDegree, firstOf, testsOf, refusalOf}
+use Rattle.spec_laws.specs.FirstTest.{radicandTests, first-applies, first-passes}
 use Rattle.spec_laws.specs.Admitted.{degree-of}
 use Rattle.spec_sentences.specs.Sentences.{kindAt, valueAt, coefficient, D, WrongHead, WrongKind, WrongLayout, WrongCoefficient}
 use Rattle.spec_sentences.specs.Tests.{tests-none}
@@ -33,14 +33,6 @@ pub record SingleJob (w : List ℕ) (q : ℕ) (v : List ℕ) : Type 0 where
   pub reduced : 0 < q → (j : ℕ) → j ≤ valueAt w 0 → IsResidue q (valueAt w (j + 1)) (coefficient v j)
   pub budget-word : (kindAt v (valueAt w 0 + 3) ≡ 4) × (valueAt v (valueAt w 0 + 3) ≡ valueAt w (valueAt w 0 + 2))
   pub end-word : (kindAt v (valueAt w 0 + 4) ≡ 15) × (valueAt v (valueAt w 0 + 4) ≡ valueAt w 0 + 4)
-
--- the tests of a ticket that are about D
-abbrev pub laterTests : Ticket → List (ℕ × Bool)
-laterTests t =
-    (5, wrongCoefficient (t .field) (t .D))
-    ∷ (6, wrongLead (t .n) (t .D))
-    ∷ (7, notSquarefree (t .field) (t .D))
-    ∷ []
 
 -- ---- the proof
 -- what a word of kind k and value x says
@@ -145,8 +137,8 @@ module _ (w : List ℕ) (q : ℕ) (v : List ℕ) (s : SingleJob w q v) where
     unfolding refusalOf testsOf ticketOf
     single-refused-2 e = first-passes 1 _ head-passes ∙ first-applies 2 _ (ap wrongPrime (s .prime-word .1) ∙ e)
 
-    pub single-refusal : wrongPrime q ≡ false → refusalOf v ≡ firstOf (laterTests (ticketOf v))
-    unfolding refusalOf testsOf ticketOf
+    pub single-refusal : wrongPrime q ≡ false → refusalOf v ≡ firstOf (radicandTests (ticketOf v .field) (ticketOf v .n) (ticketOf v .D))
+    unfolding refusalOf testsOf ticketOf radicandTests
     single-refusal e =
         first-passes 1 _ head-passes
         ∙ first-passes 2 _ (ap wrongPrime (s .prime-word .1) ∙ e)

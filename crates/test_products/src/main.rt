@@ -160,17 +160,31 @@ fn step(ticket: &[u32], x: Operand, y: Operand) -> GiantStepAnswer
     )
 }
 
-// A job after its ticket. The line of one that differs has the number that its product said, or its giant
-// step.
+// The line of a product, or of a giant step, that differs has the number that it said.
+fn compare_product(job: u32, ticket: &[u32], x: Operand, y: Operand) -> u32
+    requires { ⌜ (x .qsize ≤ length (x .q)) × (x .psize ≤ length (x .p)) × (y .qsize ≤ length (y .q)) × (y .psize ≤ length (y .p)) ⌝ }
+    ensures { λ r. ⌜ r ≤ 1 ⌝ }
+{
+    let a = multiply(ticket, x, y);
+    differs(same_product(a), job, refused(a.number))
+}
+
+fn compare_step(job: u32, ticket: &[u32], x: Operand, y: Operand) -> u32
+    requires { ⌜ (x .qsize ≤ length (x .q)) × (x .psize ≤ length (x .p)) × (y .qsize ≤ length (y .q)) × (y .psize ≤ length (y .p)) ⌝ }
+    ensures { λ r. ⌜ r ≤ 1 ⌝ }
+{
+    let a = step(ticket, x, y);
+    differs(same_giant_step(a), job, refused(a.number))
+}
+
+// A job after its ticket.
 fn compare(job: u32, ticket: &[u32]) -> u32
     ensures { λ r. ⌜ r ≤ 1 ⌝ }
 {
     let x = read_operand();
     let y = read_operand();
-    let product = multiply(ticket, x, y);
-    let a = differs(same_product(product), job, refused(product.number));
-    let step = step(ticket, x, y);
-    let b = differs(same_giant_step(step), job, refused(step.number));
+    let a = compare_product(job, ticket, x, y);
+    let b = compare_step(job, ticket, x, y);
     if a + b > 0 { 1 } else { 0 }
 }
 

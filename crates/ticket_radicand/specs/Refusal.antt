@@ -1,14 +1,11 @@
 -- The tests on D one after the other: the first that applies gives the number.
 use Prim.Native.Nat.{ℕ}
 use mathlib.Core.Path.{_≡_, _∙_}
-use mathlib.Core.Bool.{Bool, true, false}
-use mathlib.Core.List.{List, [], _∷_}
+use mathlib.Core.Bool.{true, false}
+use mathlib.Core.List.{List}
 use Rattle.spec_arithmetic.specs.Field.{FieldName}
 use Rattle.spec_definitions.specs.Ticket.{wrongCoefficient, wrongLead, notSquarefree, firstOf}
-use Rattle.spec_laws.specs.FirstTest.{first-applies, first-passes, first-nil}
-
-unfoldable pub radicandTests : FieldName → ℕ → List ℕ → List (ℕ × Bool)
-radicandTests f n D = (5, wrongCoefficient f D) ∷ (6, wrongLead n D) ∷ (7, notSquarefree f D) ∷ []
+use Rattle.spec_laws.specs.FirstTest.{radicandTests, first-applies, first-passes, first-nil}
 
 module _ (f : FieldName) (n : ℕ) (D : List ℕ) where
   pub refused-5 : wrongCoefficient f D ≡ true → firstOf (radicandTests f n D) ≡ 5

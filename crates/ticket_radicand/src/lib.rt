@@ -6,7 +6,7 @@ ghost use Rattle.spec_definitions.specs.Ticket.{wrongCoefficient, wrongLead, no
 ghost use Rattle.base_field.specs.Named.{name, IsField};
 ghost use Rattle.base_polynomial.specs.Whole.{poly, Held, Is, Holds};
 ghost use Rattle.ticket_radicand.specs.Radicand.{coefficients};
-ghost use Rattle.ticket_radicand.specs.Refusal.{radicandTests};
+ghost use Rattle.spec_laws.specs.FirstTest.{radicandTests};
 use base_euclid::gcd::gcd;
 use base_field::Field;
 use base_places::linear::derivative_places;

@@ -12,10 +12,10 @@ use Rattle.base_field.specs.Named.{name, IsField}
 use Rattle.base_polynomial.specs.Over.{Result, result}
 use Rattle.base_polynomial.specs.Whole.{poly, Held, Is}
 use Rattle.ticket_radicand.specs.Radicand.{trim-lead-one}
-use Rattle.ticket_read.specs.declared.Ticket.{Ticket as Said}
+use Rattle.ticket_read.specs.declared.Ticket as code
 use Rattle.ticket_read.specs.Read.{readOf, Stands, unless-none}
 
-pub record Accepted (w : List ℕ) (t : Said) : Type 0 where
+pub record Accepted (w : List ℕ) (t : code.Ticket) : Type 0 where
   pub passes : refusalOf w ≡ 0
   pub is-field : IsField (t .field)
   pub ticket-is : ticketOf w ≡ ticket (name (t .field)) (t .n) (poly (t .radicand)) (t .budget)
@@ -24,13 +24,13 @@ pub record Accepted (w : List ℕ) (t : Said) : Type 0 where
   pub budget : t .budget < budgets
   pub half : suc (genus (t .n)) + suc (genus (t .n)) ≡ t .n
 
-pub degree-two : {w : List ℕ} {t : Said} → Accepted w t → 2 ≤ t .n
+pub degree-two : {w : List ℕ} {t : code.Ticket} → Accepted w t → 2 ≤ t .n
 degree-two a = let h = a .half in omega arith
 
 ticket-path : {t : Ticket} {f : FieldName} {n : ℕ} {D : List ℕ} {b : ℕ} → f ≡ t .field → n ≡ t .n → D ≡ t .D → b ≡ t .b → t ≡ ticket f n D b
 ticket-path e f g h = λ i. record { field = sym e i; n = sym f i; D = sym g i; b = sym h i }
 
-module _ (w : List ℕ) {t : Said} (s : Stands (readOf w) t) where
+module _ (w : List ℕ) {t : code.Ticket} (s : Stands (readOf w) t) where
   pub number-is : t .number ≡ refusalOf w
   number-is = s .number-is
 

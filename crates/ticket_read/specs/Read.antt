@@ -10,7 +10,7 @@ use Rattle.base_field.specs.Named.{name, IsField}
 use Rattle.base_polynomial.specs.declared.Poly.{Poly}
 use Rattle.base_polynomial.specs.Whole.{Is, Holds}
 use Rattle.base_field.specs.declared.Field.{Field}
-use Rattle.ticket_read.specs.declared.Ticket.{Ticket as Said}
+use Rattle.ticket_read.specs.declared.Ticket as code
 
 pub record Read : Type 0 where
   pub number : ℕ
@@ -29,7 +29,7 @@ abbrev pub readOf : List ℕ → Read
 readOf w = read (refusalOf w) (ticketOf w)
 
 -- the values are those of the reading r; where it is accepted the field is one
-pub record Stands (r : Read) (t : Said) : Type 0 where
+pub record Stands (r : Read) (t : code.Ticket) : Type 0 where
   pub number-is : t .number ≡ r .number
   pub field-is : name (t .field) ≡ r .ticket .field
   pub n-is : t .n ≡ r .ticket .n
@@ -38,7 +38,7 @@ pub record Stands (r : Read) (t : Said) : Type 0 where
   pub is-field : t .number ≡ 0 → IsField (t .field)
 
 -- whatever the ticket is, k refuses it
-abbrev pub Refused : ℕ → Said → Type 0
+abbrev pub Refused : ℕ → code.Ticket → Type 0
 Refused k r = (t : Ticket) → Stands (read k t) r
 
 pub unless-none : (k : ℕ) (t : Ticket) → k ≡ 0 → unless k t ≡ t
@@ -47,7 +47,7 @@ unless-none zero t e = refl
 unless-none (suc k) t e = absurd (omega arith)
 
 -- another name for the same reading
-pub stands-path : {k j : ℕ} {t u : Ticket} {r : Said} → k ≡ j → t ≡ u → Stands (read k t) r → Stands (read j u) r
+pub stands-path : {k j : ℕ} {t u : Ticket} {r : code.Ticket} → k ≡ j → t ≡ u → Stands (read k t) r → Stands (read j u) r
 stands-path {r = r} e f s = subst₂ (λ (k : ℕ) (t : Ticket). Stands (read k t) r) e f s
 
 -- a refusal's zeros

@@ -8,10 +8,9 @@ use lib.ListN.{getD}
 use Rattle.spec_arithmetic.specs.Field.{prime}
 use Rattle.spec_arithmetic.specs.Words.{value}
 use Rattle.spec_definitions.specs.Ticket.{ticket, ticketOf, wrongHead, firstOf, testsOf, refusalOf}
-use Rattle.spec_laws.specs.FirstTest.{first-applies, first-passes, first-some}
+use Rattle.spec_laws.specs.FirstTest.{radicandTests, first-applies, first-passes, first-some}
 use Rattle.ticket_layout.specs.Refusal.{layoutTests, LaidOut}
 use Rattle.ticket_radicand.specs.Radicand.{coefficients}
-use Rattle.ticket_radicand.specs.Refusal.{radicandTests}
 
 pub refused-1 : (w : List ℕ) → wrongHead (1 ∷ []) w ≡ true → refusalOf w ≡ 1
 unfolding refusalOf testsOf

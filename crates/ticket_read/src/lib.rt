@@ -9,7 +9,7 @@ ghost use Rattle.spec_definitions.specs.Ticket.{ticket, firstOf};
 ghost use Rattle.base_field.specs.Named.{name, IsField};
 ghost use Rattle.base_polynomial.specs.Whole.{poly, Is};
 ghost use Rattle.ticket_radicand.specs.Radicand.{coefficients};
-ghost use Rattle.ticket_radicand.specs.Refusal.{radicandTests};
+ghost use Rattle.spec_laws.specs.FirstTest.{radicandTests};
 ghost use Rattle.ticket_read.specs.Read.{read, readOf, Stands, Refused};
 use base_field::Field;
 use base_field::field_of;

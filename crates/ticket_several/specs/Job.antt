@@ -14,8 +14,8 @@ use Rattle.spec_several.specs.Jobs.{residuesIn, length-residues}
 use Rattle.spec_several.specs.Laws as several
 use Rattle.base_polynomial.specs.declared.Poly.{Poly}
 use Rattle.base_polynomial.specs.Over.{poly, Is, is-poly}
-use Rattle.ticket_radicand.specs.Refusal.{radicandTests}
-use Rattle.ticket_read.specs.declared.Ticket.{Ticket as Said}
+use Rattle.spec_laws.specs.FirstTest.{radicandTests}
+use Rattle.ticket_read.specs.declared.Ticket as code
 use Rattle.ticket_read.specs.Read.{read, readOf, Stands, stands-path}
 
 module _ (w : List ℕ) (none : severalRefusal w ≡ 0) (n : ℕ) (n-is : n ≡ degreeOf w) where
@@ -39,14 +39,14 @@ module _ (w : List ℕ) (none : severalRefusal w ≡ 0) (n : ℕ) (n-is : n ≡ 
 
     module _ (q : ℕ) (p-is : p ≡ q) (fits : q < values) (allowed : wrongPrime q ≡ false) where
       job-refusal : firstOf (radicandTests (prime p) n (residuesIn p n w)) ≡ refusalOf (jobWords w q)
-      unfolding radicandTests jobAt coefficientsOf
+      unfolding jobAt coefficientsOf
       job-refusal = ap₂ (λ (p m : ℕ). firstOf (radicandTests (prime p) m (residuesIn p m w))) p-is n-is ∙ sym (several.job-refusal w none q fits allowed)
 
       job-ticket : ticket (prime p) n (residuesIn p n w) (value (getD w (n + 2) 0)) ≡ ticketOf (jobWords w q)
       unfolding jobAt coefficientsOf budgetOf
       job-ticket = ap₂ (λ (p m : ℕ). ticket (prime p) m (residuesIn p m w) (value (getD w (m + 2) 0))) p-is n-is ∙ sym (several.job-words w none q fits)
 
-      pub job-stands : {radicand : Poly} → Is (prime p) radicand (residuesIn p n w) → {b : ℕ} → b ≡ value (getD w (n + 2) 0) → {t : Said} → Stands (read (firstOf (radicandTests (prime p) n (poly radicand))) (ticket (prime p) n (poly radicand) b)) t → Stands (readOf (jobWords w q)) t
+      pub job-stands : {radicand : Poly} → Is (prime p) radicand (residuesIn p n w) → {b : ℕ} → b ≡ value (getD w (n + 2) 0) → {t : code.Ticket} → Stands (read (firstOf (radicandTests (prime p) n (poly radicand))) (ticket (prime p) n (poly radicand) b)) t → Stands (readOf (jobWords w q)) t
       job-stands is b-is s =
           stands-path
           (ap (λ (D : List ℕ). firstOf (radicandTests (prime p) n D)) (job-poly is) ∙ job-refusal)

@@ -10,19 +10,13 @@ use Rattle.spec_arithmetic.specs.Field.{prime, inverse}
 use Rattle.spec_bridge.specs.Prime.{Prime}
 use Rattle.spec_bridge.specs.Product.{shifted}
 use Rattle.spec_bridge.specs.Residues.{inverse-lt}
-use Rattle.base_places.specs.Row.{Bounded}
+use Rattle.base_places.specs.TwoRows.{shifted-less}
 use Rattle.walk_short.specs.Step.{stepQuo, nextRem, nextQ, Division}
 use Rattle.walk_short.specs.Sizes.{positive, some, quo-past, quo-reduced}
 use Rattle.walk_short.specs.Sums.{lessRows, moreRows}
 use Rattle.walk_short.specs.Coefficients.{rest-rows, next-rows}
 use Rattle.walk_short.specs.Quotient.{rem-at, next-cong}
 use Rattle.walk_short.specs.Above.{scaledAbove, quo-above}
-
-pub shifted-below : (q : ℕ) → 0 < q → (b : List ℕ) → Bounded q b → (n k : ℕ) → shifted b n k < q
-unfolding shifted
-shifted-below q pos b h zero k = h k
-shifted-below q pos b h (suc n) zero = pos
-shifted-below q pos b h (suc n) (suc k) = shifted-below q pos b h n k
 
 pub shifted-second : (b : List ℕ) (k : ℕ) → shifted b 2 (k + 1) ≡ shifted b 1 k
 unfolding shifted
@@ -75,7 +69,7 @@ module _ {q m n : ℕ} {s b r : List ℕ} (p : Prime q) (d : Division (prime q) 
   next-by : (l : ℕ) → m + 1 - n ≤ l → (before z : List ℕ) → ((i : ℕ) → getD z i 0 ≡ getD (nextRem (prime q) s b r) i 0) → (k v : ℕ) → v ≡ moreRows q (getD before k 0) (stepQuo (prime q) s b r) z r k l % q → v ≡ getD (nextQ (prime q) s before b r) k 0
   next-by l h before z rest k v e =
       let a : List ℕ = stepQuo (prime q) s b r in
-      e ∙ next-rows q (positive p d) before a z r k l (λ i w. quo-past p d i (omega arith)) (λ i. let w = shifted-below q (positive p d) r (d .rest-within .reduced) i k in omega arith)
+      e ∙ next-rows q (positive p d) before a z r k l (λ i w. quo-past p d i (omega arith)) (λ i. let w = shifted-less q (positive p d) r (d .rest-within .reduced) i k in omega arith)
       ∙ ap (λ (x : List ℕ). getD x k 0) (next-cong p d a (λ i. refl) before z rest)
 
   module _ (a0 a1 : ℕ) (is0 : a0 ≡ getD (stepQuo (prime q) s b r) 0 0) (is1 : a1 ≡ getD (stepQuo (prime q) s b r) 1 0) where

@@ -5,7 +5,7 @@ use mathlib.Core.Path.{sym, ap, _∙_}
 use mathlib.Core.Bool.{not}
 use borrow.Author.Needs.{needs}
 use borrow.Author.Tests.{not-true, not-false}
-use Rattle.listing_whole.specs.Degrees.{allowed}
+use Rattle.spec_laws.specs.Degrees.{allowed}
 use Rattle.listing_whole.specs.Records.{Records, first-fits}
 use Rattle.call_lookup.specs.Refusal.{not-not, refused-degree, refused-empty, refused-cut, refused-kinds, refused-first, rest-rising}
 use Rattle.call_lookup.proofs.listing_ok.Statement.{statement}

@@ -4,7 +4,7 @@ use native.Mathlib.Omega.{arith}
 use mathlib.Core.Path.{sym}
 use borrow.Author.Needs.{needs}
 use borrow.Author.Tests.{not-true, not-false}
-use Rattle.listing_whole.specs.Degrees.{allowed}
+use Rattle.spec_laws.specs.Degrees.{allowed}
 use Rattle.call_lookup.specs.Refusal.{not-not, listing-records, refused-place, found-place}
 use Rattle.call_lookup.specs.Part.{refused-length, found-length}
 use Rattle.call_lookup.proofs.place.Statement.{statement}

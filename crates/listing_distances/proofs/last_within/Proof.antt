@@ -4,7 +4,7 @@ use native.Mathlib.Omega.{arith}
 use mathlib.Core.Path.{_≡_, subst}
 use lib.ListN.{length}
 use borrow.Author.Needs.{needs}
-use Rattle.listing_whole.specs.Degrees.{Allowed, allowed}
+use Rattle.spec_laws.specs.Degrees.{Allowed, allowed}
 use Rattle.listing_whole.specs.Records.{first-fits}
 use Rattle.listing_distances.specs.Search.{Down, down-from-last, down-found, down-more, down-first, down-size}
 use Rattle.listing_distances.proofs.last_within.Statement.{statement}

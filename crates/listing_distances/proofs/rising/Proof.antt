@@ -6,7 +6,7 @@ use mathlib.Core.Bool.{true}
 use lib.ListN.{length}
 use borrow.Author.Needs.{needs}
 use Rattle.spec_definitions.specs.Lookup.{rising}
-use Rattle.listing_whole.specs.Degrees.{Allowed, allowed}
+use Rattle.spec_laws.specs.Degrees.{Allowed, allowed}
 use Rattle.listing_whole.specs.Records.{Start, first-start, first-fits, next-fits}
 use Rattle.listing_distances.specs.Rising.{rising-more, rising-refuse, rising-all}
 use Rattle.listing_distances.proofs.rising.Statement.{statement}

@@ -7,7 +7,7 @@ use lib.ListN.{length}
 use borrow.Author.Needs.{needs}
 use borrow.Author.Tests.{not-true, not-false}
 use Rattle.spec_definitions.specs.Lookup.{rightKinds}
-use Rattle.listing_whole.specs.Degrees.{Allowed, allowed}
+use Rattle.spec_laws.specs.Degrees.{Allowed, allowed}
 use Rattle.listing_whole.specs.Records.{Start, first-start, start-fits}
 use Rattle.listing_kinds.specs.Passed.{kinds-more, kinds-refuse, kinds-all}
 use Rattle.listing_kinds.proofs.kinds_ok.Statement.{statement}

@@ -8,7 +8,7 @@ use borrow.Author.Needs.{needs}
 use borrow.Author.Tests.{eqb-true, eqb-false, not-true, not-false}
 use Rattle.spec_arithmetic.specs.Words.{kind}
 use Rattle.spec_definitions.specs.Lookup.{recordKinds}
-use Rattle.listing_whole.specs.Degrees.{Allowed, allowed}
+use Rattle.spec_laws.specs.Degrees.{Allowed, allowed}
 use Rattle.listing_kinds.specs.Kinds.{kinds-right, kinds-wrong}
 use Rattle.listing_kinds.proofs.record_kinds_ok.Statement.{statement}
 use Rattle.listing_kinds.proofs.record_kinds_ok.Tie as tie

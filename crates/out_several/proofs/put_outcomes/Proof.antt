@@ -54,7 +54,7 @@ loop-again c =
     (search needs, h .long, below-more _ (l .i) (λ k b. h .earlier k b _ (l .inv .2 k b)) (plain-same (ap said (sym (getD-map-within f places (l .i) _ (refused 0) within))) (h .here)))
 
 returns : tie.Need-returns Inv-loop μ-loop
-returns c = ((refl, refl), λ i h. c .before .loop .inv .2 i (omega arith))
+returns c = ((refl, refl), (c .before .loop .inv .1, λ i h. c .before .loop .inv .2 i (omega arith)))
 
 pub put-outcomes-spec : {M : Type 1} → statement M
 put-outcomes-spec = tie.close (tie.spec Inv-loop μ-loop loop-holds mul-p array-copy-out-p put-outcome-requires add-i loop-less loop-again returns)

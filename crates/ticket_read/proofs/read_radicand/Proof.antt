@@ -8,7 +8,7 @@ use borrow.Author.Needs.{needs}
 use Rattle.spec_definitions.specs.Ticket.{ticket, firstOf}
 use Rattle.base_field.specs.Named.{name}
 use Rattle.ticket_radicand.specs.Radicand.{radicand-size, radicand-poly, radicand-itself}
-use Rattle.ticket_radicand.specs.Refusal.{radicandTests}
+use Rattle.spec_laws.specs.FirstTest.{radicandTests}
 use Rattle.ticket_read.specs.Read.{stands-path}
 use Rattle.ticket_read.proofs.read_radicand.Statement.{statement}
 use Rattle.ticket_read.proofs.read_radicand.Tie as tie

@@ -15,7 +15,7 @@ use Rattle.spec_laws.specs.Admitted.{field-of, layout-length}
 use Rattle.base_field.specs.Named.{IsField, made}
 use Rattle.ticket_layout.specs.Refusal.{LaidOut, laid-out, head-long, degree-most}
 use Rattle.ticket_radicand.specs.Radicand.{coefficients}
-use Rattle.ticket_radicand.specs.Refusal.{radicandTests}
+use Rattle.spec_laws.specs.FirstTest.{radicandTests}
 use Rattle.ticket_read.specs.Read.{stands-path}
 use Rattle.ticket_read.specs.Refusal.{refused-1, refused-by-layout, refused-by-radicand, ticket-parts}
 use Rattle.ticket_read.proofs.read_ticket.Statement.{statement}

@@ -34,7 +34,7 @@ less-two-requires c κs =
     let s = c .before .before .before .before .before in
     let w = s .pre .1 .0 in
     let u = s .pre .1 .1 in
-    let y = subst (λ (x : ℕ). x < s .args .f .q) (sym (c .before .before .before .before .below .ensures)) (shifted-less _ (omega arith) _ (u .reduced) (s .args .i)) in
+    let y = subst (λ (x : ℕ). x < s .args .f .q) (sym (c .before .before .before .before .below .ensures)) (shifted-less _ (omega arith) _ (u .reduced) 1 (s .args .i)) in
     (s .pre .0 .0, s .pre .0 .3, w .reduced 0, w .reduced 1, u .reduced (s .args .i), y)
 
 returns : tie.Need-returns

@@ -56,7 +56,7 @@ less-two-requires c κs =
       w .reduced _,
       w .reduced _,
       u .reduced (l .i),
-      subst (λ (x : ℕ). x < q) (sym (l .inv .1)) (shifted-less q (omega arith) _ (u .reduced) (l .i)),
+      subst (λ (x : ℕ). x < q) (sym (l .inv .1)) (shifted-less q (omega arith) _ (u .reduced) 1 (l .i)),
     )
 
 mul-v : tie.Need-mul-v Inv-loop μ-loop

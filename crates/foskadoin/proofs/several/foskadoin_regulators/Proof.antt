@@ -23,7 +23,7 @@ returns c =
     let n = c .put-outcomes .ensures in
     let out = c .put-outcomes .last .1 .0 in
     let count = n .0 .1 ∙ e .1 .0 in
-    (n .0 .0 ∙ e .0, (count, (plain-places _ l (e .1 .1 .0) out (n .1), least-places _ l (e .1 .1 .0) out (n .1) (e .1 .1 .1) _ count)))
+    (n .0 .0 ∙ e .0, (count, (plain-places _ l (e .1 .1 .0) out (n .1 .0) (n .1 .1), least-places _ l (e .1 .1 .0) out (n .1 .1) (e .1 .1 .1) _ count)))
 
 pub foskadoin-regulators-spec : {M : Type 1} → statement M
 foskadoin-regulators-spec = tie.close (tie.spec regulators-requires put-outcomes-requires returns)

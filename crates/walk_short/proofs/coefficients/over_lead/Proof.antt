@@ -4,7 +4,7 @@ use native.Mathlib.Nat.{mul-le-mul}
 use native.Mathlib.Omega.{arith}
 use mathlib.Core.Path.{ap, _∙_}
 use borrow.Author.Needs.{needs}
-use Rattle.walk_short.specs.Short.{shifted-below}
+use Rattle.base_places.specs.TwoRows.{shifted-less}
 use Rattle.walk_short.proofs.coefficients.over_lead.Statement.{statement}
 use Rattle.walk_short.proofs.coefficients.over_lead.Tie as tie
 
@@ -14,7 +14,7 @@ below-requires c κs = search needs
 mul-reduce : tie.Need-mul-reduce
 mul-reduce c =
     let s = c .before in
-    let hy : c .below .result < s .args .f .q = rw (c .below .ensures) (shifted-below (s .args .f .q) (omega arith) (s .args .current .now) (s .pre .3) 1 (s .args .k)) in
+    let hy : c .below .result < s .args .f .q = rw (c .below .ensures) (shifted-less (s .args .f .q) (omega arith) (s .args .current .now) (s .pre .3) 1 (s .args .k)) in
     let m : c .below .result * s .args .lead-inverse ≤ 4095 * 4095 = mul-le-mul {n₂ = 4095} {m₂ = 4095} (omega arith) (omega arith) in
     omega arith
 

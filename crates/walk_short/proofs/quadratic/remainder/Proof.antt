@@ -7,10 +7,10 @@ use borrow.Author.Needs.{needs}
 use Rattle.spec_arithmetic.specs.Field.{prime}
 use Rattle.spec_bridge.specs.Product.{shifted}
 use Rattle.base_places.specs.Places.{Filled, filled-none, filled-more, filled-all}
-use Rattle.base_places.specs.TwoRows.{shifted-next}
+use Rattle.base_places.specs.TwoRows.{shifted-next, shifted-less}
 use Rattle.walk_short.specs.Step.{nextRem}
 use Rattle.walk_short.specs.Sizes.{positive, rem-past, quo-reduced}
-use Rattle.walk_short.specs.Short.{shifted-below, shifted-second, rest-three}
+use Rattle.walk_short.specs.Short.{shifted-second, rest-three}
 use Rattle.walk_short.proofs.quadratic.remainder.Statement.{statement}
 use Rattle.walk_short.proofs.quadratic.remainder.Tie as tie
 
@@ -55,8 +55,8 @@ rest-of-requires c κs =
     let h0 : s .args .a0 < s .args .f .q = rw (s .pre .1 .1 .0 .0) (quo-reduced p d 0) in
     let h1 : s .args .a1 < s .args .f .q = rw (s .pre .1 .1 .0 .1) (quo-reduced p d 1) in
     let h2 : s .args .a2 < s .args .f .q = rw (s .pre .1 .1 .1) (quo-reduced p d 2) in
-    let hy : l .y < s .args .f .q = rw (l .inv .1) (shifted-below _ pos _ (d .current-within .reduced) 1 (l .k)) in
-    let hz : l .z < s .args .f .q = rw (l .inv .2) (shifted-below _ pos _ (d .current-within .reduced) 2 (l .k)) in
+    let hy : l .y < s .args .f .q = rw (l .inv .1) (shifted-less _ pos _ (d .current-within .reduced) 1 (l .k)) in
+    let hz : l .z < s .args .f .q = rw (l .inv .2) (shifted-less _ pos _ (d .current-within .reduced) 2 (l .k)) in
     (s .pre .0, (d .twice-within .reduced (l .k), d .rest-within .reduced (l .k), omega arith, omega arith, omega arith, d .current-within .reduced (l .k), omega arith, omega arith))
 
 mul-remains : tie.Need-mul-remains Inv-loop μ-loop

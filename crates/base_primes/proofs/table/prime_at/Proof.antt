@@ -3,8 +3,8 @@ use mathlib.Core.Path.{refl}
 use borrow.Author.Needs.{needs}
 use Rattle.spec_arithmetic.specs.Primes.{oddPrime, noDivisor}
 use Rattle.base_primes.specs.Primes.{primes, passing}
-use Rattle.base_primes.proofs.prime_at.Statement.{statement}
-use Rattle.base_primes.proofs.prime_at.Tie as tie
+use Rattle.base_primes.proofs.table.prime_at.Statement.{statement}
+use Rattle.base_primes.proofs.table.prime_at.Tie as tie
 
 mul-result : tie.Need-mul-result
 mul-result c = search needs
