@@ -1,10 +1,16 @@
 // The walk by the engine itself, linked from target/staticlib/libbench_walk.a: a proved run of the walk's step
-// that does not stop at constants.
+// that does not stop at constants. -DHALF: each step with the tests of half the walk, past every middle.
 #include <stddef.h>
 #include "common.h"
 
-// The degree of p_{steps-1}, the sum of deg a_0 .. a_{steps-1}; 0 where the ticket is refused.
+struct tried {
+    uint64_t degree, stops;
+};
+
+// The degree of p_{steps-1}, the sum of deg a_0 .. a_{steps-1}; 0 where the ticket is refused. bench_half also
+// counts how often the tests say that half the walk stops.
 extern uint64_t bench_walk(const uint32_t *ticket, size_t words, uint64_t steps);
+extern struct tried bench_half(const uint32_t *ticket, size_t words, uint64_t tries);
 
 int main(int argc, char **argv) {
     arguments(argc, argv);
@@ -14,7 +20,12 @@ int main(int argc, char **argv) {
     ticket[words] = 15u << 28 | words;
     words++;
     double start = seconds();
+#ifdef HALF
+    struct tried a = bench_half(ticket, words, steps);
+    report((long)a.degree, (long)a.stops, seconds() - start);
+#else
     uint64_t degree = bench_walk(ticket, words, steps);
     // it does not count constants
     report((long)degree, -1, seconds() - start);
+#endif
 }

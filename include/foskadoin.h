@@ -29,23 +29,23 @@ enum foskadoin_number {
     FOSKADOIN_WRONG_PAIR = 9,        /* foskadoin_product, foskadoin_giant_step: a pair is not an ideal's */
     FOSKADOIN_WRONG_DISTANCE = 10,   /* foskadoin_giant_step: a distance is above 2^40 */
     FOSKADOIN_SPENT = 11,            /* regulator, regulators, unit, listing: the quasi-period m is above the
-                                        budget b. The one refusal with counts: the steps made and the degree
-                                        reached */
+                                        budget b; half: above 2b. The one refusal with counts: the steps made
+                                        and the degree reached */
     FOSKADOIN_SHORT_UNIT = 12,       /* foskadoin_unit: a list is shorter than R + 1 places */
     FOSKADOIN_SHORT_LISTING = 13,    /* foskadoin_listing: the list is shorter than m * (n + 4) words */
     FOSKADOIN_WRONG_SHAPE = 14       /* foskadoin_regulators: the ticket's shape is wrong */
 };
 
-/* The answer of regulator, unit and listing. first, second and third are also named for what they are: the first
-   name is for any number, the second where it is found, the third where it is spent. After another refusal the
-   three are 0. */
+/* The answer of regulator, half, unit and listing. first, second and third are also named for what they are: the
+   first name is for any number, the second where it is found, the third where it is spent. After another refusal
+   the three are 0. */
 struct foskadoin_numbers {
     uint64_t words;  /* how many words the ticket has */
     uint64_t number; /* enum foskadoin_number */
     union {
         uint64_t first;
         uint64_t regulator; /* found: R = deg p */
-        uint64_t steps;     /* spent: the steps made, b */
+        uint64_t steps;     /* spent: the steps made, b; for half the indices tried, b */
     };
     union {
         uint64_t second;
@@ -54,7 +54,7 @@ struct foskadoin_numbers {
     };
     union {
         uint64_t third;
-        uint64_t constant; /* found: c = p^2 - D s^2, the norm of the unit, 1 to q - 1. Spent: 0 */
+        uint64_t constant; /* found: c = p^2 - D s^2, the norm of the unit, 1 to q - 1; for half 0. Spent: 0 */
     };
 };
 
@@ -90,6 +90,14 @@ struct foskadoin_numbers foskadoin_regulator(const uint32_t *ticket, size_t tick
    11, belong to a prime and do not stop the rest. No prime has 1, 3, 4, 5 or 14, so an array that begins with 3 or 14
    is a refused ticket's. */
 struct foskadoin_several foskadoin_regulators(const uint32_t *ticket, size_t ticket_length, uint64_t *out);
+
+/* The regulator by half the walk: the R and m of foskadoin_regulator in about half the steps, and no constant.
+   Refusals 1 to 7 and 11.
+   Found: first is R, second is m, third is 0. The budget b counts the indices tried ("Half the walk" below), so
+   every m up to 2b is found.
+   Spent: first is b, second is deg p_(b-1), third is 0. m is above 2b, and no solution ("Least degree" below) has
+   deg p up to deg p_(2b-1), which is at least deg p_(b-1). */
+struct foskadoin_numbers foskadoin_half(const uint32_t *ticket, size_t ticket_length);
 
 /* The unit p + s sqrt(D) in four lists of R + 1 places or more. Refusals 1 to 7, 11 and 12.
    Found: places 0 to R of p and s are the coefficients, from the constant term on, with zeros above the degree;
@@ -172,9 +180,14 @@ struct foskadoin_giant_step_numbers foskadoin_giant_step(const uint32_t *ticket,
    The quasi-period m is the least i from 1 on with Q_i constant, the regulator R = deg p_(m-1), and the unit
    (the fundamental unit up to a constant factor) is p = p_(m-1), s = s_(m-1).
 
+   Half the walk. foskadoin_half tries the indices i = 0 to b - 1. It stops at the first where Q_(i+1) is a
+   constant times Q_i, with m = 2i + 1 and R = 2 (deg a_1 + .. + deg a_i) + n/2, or else P_(i+1) = P_(i+2), with
+   m = 2i + 2 and R = 2 (deg a_1 + .. + deg a_(i+1)) + deg Q_(i+1).
+
    Least degree. Of all polynomials p and s modulo q with s not 0 and p^2 - D s^2 a constant other than 0:
    where the answer is found, none has deg p < R, and where deg p = R they are the unit's times a constant, s
-   perhaps with the other sign; where it is spent, none has deg p <= the degree reached.
+   perhaps with the other sign; where it is spent, none has deg p <= the degree reached, and where half is spent,
+   none has deg p <= deg p_(2b-1).
 
    Several primes. If p^2 - D s^2 = c has a solution with complex coefficients, s not 0 and c a constant other than
    0, then R is the same at every prime that is not refused, the degree of p at its least. So a difference decides:

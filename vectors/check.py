@@ -161,6 +161,32 @@ def regulator(w):
     return [r, 0, 0, 0] if r else walk(w)[0]
 
 
+# ---- half the walk (R-2)
+
+def half(w):
+    """Stops "at the first i from 0 up where Q_{i+1} is a constant times Q_i, giving m = 2i+1, or else where
+    P_{i+1} = P_{i+2}, giving m = 2i+2"; R by the duplication rules, 2(deg a_1 + .. + deg a_i) + deg d or
+    2(deg a_1 + .. + deg a_{i+1}) + deg Q_{i+1}."""
+    r = refusal(w)
+    if r:
+        return [r, 0, 0, 0]
+    q, g, D, b = read(w)
+    d = floor_root(q, g, D)
+    before = [1]
+    a, P, Q = step(q, D, d, [], before)
+    total = degree = 0
+    for i in range(b):
+        degree += deg(a)
+        if monic(q, Q) == monic(q, before):
+            return [0, 2 * total + deg(d), 2 * i + 1, 0]
+        a, after, next_Q = step(q, D, d, P, Q)
+        total += deg(a)
+        if P == after:
+            return [0, 2 * total + deg(Q), 2 * i + 2, 0]
+        before, P, Q = Q, after, next_Q
+    return [11, b, degree, 0]
+
+
 # ---- several primes (R-1)
 
 def shape(w):
@@ -290,12 +316,12 @@ def expected(name, numbers):
         Q1, P1, y1 = numbers.counted(), numbers.counted(), numbers.wide()
         Q2, P2, y2 = numbers.counted(), numbers.counted(), numbers.wide()
         return combine(w, Q1, P1, y1, Q2, P2, y2)
-    return {"regulators": regulator, "several": several, "units": unit, "listings": listing}[name](w)
+    return {"regulators": regulator, "half": half, "several": several, "units": unit, "listings": listing}[name](w)
 
 
 def main():
     wrong = 0
-    for name in ["regulators", "several", "units", "listings", "products", "samples/regulators", "samples/several"]:
+    for name in ["regulators", "half", "several", "units", "listings", "products", "samples/regulators", "samples/several", "samples/half"]:
         jobs = total = 0
         tally = {}
         with open(os.path.join(HERE, name + ".txt")) as file:

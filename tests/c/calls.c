@@ -1,4 +1,5 @@
-// Calls the static library from C: every stored vector, every lent list to its last place, and what a refusal leaves as it was.
+// Calls the static library from C: every stored vector, every lent list to its last place, what a refusal leaves as
+// it was, and half the walk against the whole.
 #include <inttypes.h>
 #include <string.h>
 #include "../../include/foskadoin.h"
@@ -6,7 +7,7 @@
 
 enum { MOST = 1 << 16, MARK = 0xA5A5A5A5 };
 static uint32_t line[MOST];
-static size_t count, at, jobs, wrong;
+static size_t count, at, jobs, compared, wrong;
 
 // The numbers of the next line.
 static int next_line(FILE *file) {
@@ -63,6 +64,64 @@ static void regulators(FILE *file) {
         expect(same(foskadoin_regulator(ticket, words), words, line + at), "regulator");
         free(ticket);
     }
+}
+
+static void half(FILE *file) {
+    for (; next_line(file); jobs++) {
+        size_t words;
+        uint32_t *ticket = counted(&words);
+        expect(same(foskadoin_half(ticket, words), words, line + at), "half");
+        free(ticket);
+    }
+}
+
+// Half the walk with budget b, as the whole walk with budget 2b has it: the same R and m, the same refusal, or spent
+// with b and the degree that the whole walk reaches with budget b. Answers the number.
+static uint64_t compare(uint32_t *ticket, size_t words, uint32_t b) {
+    uint32_t *budget = ticket + words - 2;
+    *budget = 4u << 28 | b;
+    struct foskadoin_numbers a = foskadoin_half(ticket, words), part = foskadoin_regulator(ticket, words);
+    *budget = 4u << 28 | 2 * b;
+    struct foskadoin_numbers whole = foskadoin_regulator(ticket, words);
+    uint32_t want[4] = {whole.number, whole.first, whole.second, 0};
+    if (whole.number == FOSKADOIN_SPENT) {
+        expect(part.number == FOSKADOIN_SPENT, "the whole walk with the smaller budget");
+        want[1] = b, want[2] = part.degree;
+    }
+    expect(same(a, words, want), "half against the whole");
+    compared++;
+    return a.number;
+}
+
+static uint32_t chance(uint32_t below) {
+    static uint64_t state = 1;
+    return ((state = state * 6364136223846793005u + 1442695040888963407u) >> 33) % below;
+}
+
+// A ticket with random coefficients, 1 for x^n; its last word but one is left for the budget.
+static size_t random_ticket(uint32_t *ticket, uint32_t q, uint32_t n) {
+    ticket[0] = 1u << 28 | q, ticket[1] = 2u << 28 | n, ticket[n + 2] = 3u << 28 | 1, ticket[n + 4] = 15u << 28 | (n + 4);
+    for (uint32_t i = 0; i < n; i++) ticket[i + 2] = 3u << 28 | chance(q);
+    return n + 5;
+}
+
+// Every monic D of degree 4 over F_3 with the budgets 0 to 12, and 2,000 tickets of other q and n.
+static void halves(void) {
+    uint32_t ticket[69], tally[16] = {0};
+    for (uint32_t k = 0; k < 81; k++) {
+        size_t words = random_ticket(ticket, 3, 4);
+        for (uint32_t i = 0, rest = k; i < 4; i++, rest /= 3) ticket[i + 2] = 3u << 28 | rest % 3;
+        for (uint32_t b = 0; b <= 12; b++) compare(ticket, words, b);
+    }
+    const uint32_t qs[] = {5, 7, 11, 13, 31, 101, 1009, 4093, 3, 9}, ns[] = {4, 6, 4, 2, 8, 16, 64};
+    for (uint32_t k = 0; k < 2000; k++) {
+        uint32_t q = qs[chance(chance(2) ? 3 : 10)], n = ns[chance(chance(2) ? 2 : 7)];
+        size_t words = random_ticket(ticket, q, n);
+        if (chance(50) == 0) ticket[chance(words - 2)] += 1;
+        tally[compare(ticket, words, chance(1u << chance(9)))]++;
+    }
+    expect(tally[FOSKADOIN_FOUND] > 500 && tally[FOSKADOIN_SPENT] > 500 && tally[FOSKADOIN_NOT_SQUAREFREE] > 20, "some of each answer");
+    expect(compared == 81 * 13 + 2000, "all are compared");
 }
 
 // The words of the single job at q: each integer of 28 bits is moved to the top of a number of 32, sign and all.
@@ -209,16 +268,20 @@ int main(int argc, char **argv) {
     if (argc != 2) return 2;
     regulators(vectors(argv[1], "regulators.txt"));
     regulators(vectors(argv[1], "samples/regulators.txt"));
+    half(vectors(argv[1], "half.txt"));
+    half(vectors(argv[1], "samples/half.txt"));
     several(vectors(argv[1], "several.txt"));
     several(vectors(argv[1], "samples/several.txt"));
     units(vectors(argv[1], "units.txt"));
     listings(vectors(argv[1], "listings.txt"));
     products(vectors(argv[1], "products.txt"));
     expect(same(foskadoin_regulator(NULL, 0), 0, (uint32_t[]){FOSKADOIN_WRONG_HEAD, 0, 0, 0}), "no ticket");
+    expect(same(foskadoin_half(NULL, 0), 0, (uint32_t[]){FOSKADOIN_WRONG_HEAD, 0, 0, 0}), "half of no ticket");
+    halves();
     uint64_t out[64] = {0};
     struct foskadoin_several none = foskadoin_regulators(NULL, 0, out);
     expect(none.words == 0 && none.count == 1 && out[0] == FOSKADOIN_WRONG_SHAPE && !out[1], "no ticket at several primes");
-    printf("C: %zu jobs, %zu wrong\n", jobs, wrong);
+    printf("C: %zu jobs, %zu tickets by half the walk and by the whole, %zu wrong\n", jobs, compared, wrong);
     // every line of the files was read
-    return wrong != 0 || jobs != 2477;
+    return wrong != 0 || jobs != 3067;
 }

@@ -16,6 +16,7 @@ static unsigned char *stack;
 
 static void *no_job(void *none) { return none; }
 static void *regulator_job(void *none) { return foskadoin_regulator(ticket, words), none; }
+static void *half_job(void *none) { return foskadoin_half(ticket, words), none; }
 static void *regulators_job(void *none) { return foskadoin_regulators(ticket, words, outcomes), none; }
 static void *unit_job(void *none) { return foskadoin_unit(ticket, words, lists[0], PLACES, lists[1], PLACES, lists[2], PLACES, lists[3], PLACES), none; }
 static void *listing_job(void *none) {
@@ -40,7 +41,7 @@ static struct {
     size_t most;
 } calls[] = {{"thread", no_job, 0},   {"regulator", regulator_job, 0}, {"unit", unit_job, 0},
              {"listing", listing_job, 0}, {"lookup", lookup_job, 0},   {"product", product_job, 0},
-             {"giant step", giant_step_job, 0}, {"regulators", regulators_job, 0}};
+             {"giant step", giant_step_job, 0}, {"regulators", regulators_job, 0}, {"half", half_job, 0}};
 
 static void measure(int call) {
     pthread_attr_t attributes;
@@ -86,7 +87,12 @@ int main(int argc, char **argv) {
         measure(7);
         if (fscanf(file, "%*[^\n]") != 0) return 2;
     }
-    int over = jobs != 2161 || found == 0;
+    file = vectors(argv[1], "half.txt");
+    for (; (words = counted(file, ticket)) != SIZE_MAX; jobs++) {
+        measure(8);
+        if (fscanf(file, "%*[^\n]") != 0) return 2;
+    }
+    int over = jobs != 2671 || found == 0;
     printf("stack, bytes, in %zu jobs:", jobs);
     for (size_t i = 0; i < sizeof calls / sizeof *calls; i++) {
         printf(" %s %zu", calls[i].name, calls[i].most);

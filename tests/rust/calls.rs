@@ -1,4 +1,4 @@
-// Calls the static library from Rust: every stored vector.
+// Calls the static library from Rust: every stored vector, and half the walk against the whole.
 use std::fs;
 
 #[repr(C)]
@@ -45,6 +45,7 @@ extern "C" {
     fn foskadoin_product(ticket: *const u32, length: usize, q1: *const u32, q1n: usize, p1: *const u32, p1n: usize, q2: *const u32, q2n: usize, p2: *const u32, p2n: usize, s: &mut [u32; 129], q: &mut [u32; 129], p: &mut [u32; 129]) -> ProductNumbers;
     fn foskadoin_giant_step(ticket: *const u32, length: usize, q1: *const u32, q1n: usize, p1: *const u32, p1n: usize, d1: u64, q2: *const u32, q2n: usize, p2: *const u32, p2n: usize, d2: u64, q: &mut [u32; 129], p: &mut [u32; 129]) -> GiantStepNumbers;
     fn foskadoin_regulator(ticket: *const u32, length: usize) -> Numbers;
+    fn foskadoin_half(ticket: *const u32, length: usize) -> Numbers;
     fn foskadoin_regulators(ticket: *const u32, length: usize, out: &mut [u64; 64]) -> Several;
     fn foskadoin_unit(ticket: *const u32, length: usize, p: *mut u32, pn: usize, s: *mut u32, sn: usize, x: *mut u32, xn: usize, y: *mut u32, yn: usize) -> Numbers;
     fn foskadoin_listing(ticket: *const u32, length: usize, out: *mut u32, n: usize) -> Numbers;
@@ -54,6 +55,10 @@ extern "C" {
 // What a safe caller writes around the calls: slices do not overlap and carry their lengths.
 fn regulator(ticket: &[u32]) -> Numbers {
     unsafe { foskadoin_regulator(ticket.as_ptr(), ticket.len()) }
+}
+
+fn half(ticket: &[u32]) -> Numbers {
+    unsafe { foskadoin_half(ticket.as_ptr(), ticket.len()) }
 }
 
 fn regulators(ticket: &[u32], out: &mut [u64; 64]) -> Several {
@@ -123,6 +128,48 @@ fn single(ticket: &[u32], q: u32) -> Vec<u32> {
     words
 }
 
+fn ticket(q: u32, coefficients: &[u32], b: u32) -> Vec<u32> {
+    let n = coefficients.len() as u32;
+    let mut words = vec![1 << 28 | q, 2 << 28 | n];
+    words.extend(coefficients.iter().map(|c| 3 << 28 | c));
+    words.extend([3 << 28 | 1, 4 << 28 | b, 15 << 28 | (n + 4)]);
+    words
+}
+
+// Half the walk with budget b against the whole walk with budget 2b, and with b for the degree of a spent answer. D is
+// x^n and the terms with these coefficients.
+fn compare(q: u32, coefficients: &[u32], b: u32) {
+    let [job, twice] = [b, 2 * b].map(|b| ticket(q, coefficients, b));
+    let whole = regulator(&twice);
+    let want = match whole.number {
+        11 => [11, b as u64, regulator(&job).second],
+        number => [number, whole.first, whole.second],
+    };
+    says(&half(&job), &job, &[want[0] as u32, want[1] as u32, want[2] as u32, 0]);
+}
+
+// Every monic D of degree 4 over F_3 with the budgets 0 to 12, and 2,000 tickets of other q and n.
+fn halves() -> usize {
+    for k in 0..81 {
+        for b in 0..=12 {
+            compare(3, &[k % 3, k / 3 % 3, k / 9 % 3, k / 27], b);
+        }
+    }
+    let mut state = 1u64;
+    let mut chance = |below: u32| {
+        state = state.wrapping_mul(6364136223846793005).wrapping_add(1442695040888963407);
+        (state >> 33) as u32 % below
+    };
+    for _ in 0..2000 {
+        let q = [5, 7, 11, 13, 17, 61, 1009, 4093, 15][chance(9) as usize];
+        let n = [2, 4, 4, 6, 6, 8, 12, 64][chance(8) as usize];
+        let coefficients: Vec<u32> = (0..n).map(|_| chance(q)).collect();
+        let size = chance(9);
+        compare(q, &coefficients, chance(1 << size));
+    }
+    81 * 13 + 2000
+}
+
 // All 64 numbers of the array, with a number on either side of it, and each prime's outcome against the single job's.
 fn several(mut line: Line) {
     let (ticket, count) = (line.counted(), line.take(1)[0] as usize);
@@ -151,6 +198,15 @@ fn main() {
             jobs += 1;
         }
     }
+    for name in ["half.txt", "samples/half.txt"] {
+        for mut line in lines(&folder, name) {
+            let ticket = line.counted();
+            says(&half(&ticket), &ticket, &line.take(4));
+            jobs += 1;
+        }
+    }
+    says(&half(&[]), &[], &[1, 0, 0, 0]);
+    let compared = halves();
     for name in ["several.txt", "samples/several.txt"] {
         for line in lines(&folder, name) {
             several(line);
@@ -200,6 +256,6 @@ fn main() {
         assert_eq!(b.distance, sign * line.wide() as i64);
         jobs += 1;
     }
-    assert_eq!(jobs, 2477);
-    println!("Rust: {jobs} jobs, 0 wrong");
+    assert_eq!(jobs, 3067);
+    println!("Rust: {jobs} jobs, {compared} tickets by half the walk and by the whole, 0 wrong");
 }

@@ -1,9 +1,14 @@
-// The run for measuring the time of a step: so many steps of a ticket's walk, past every constant Q.
+// The runs for measuring the time of a step: so many steps of a ticket's walk, past every constant Q; so many
+// indices tried as half the walk does, past every middle.
 pub mod advance;
+pub mod half;
 
 ghost use mathlib.Core.Path.{_≡_};
+ghost use Prim.Native.Nat.{_≤_};
 ghost use Rattle.bench_walk.specs.Steps.{degreeAfter};
 use crate::advance::run_on;
+use crate::half::Tried;
+use crate::half::half_on;
 use ticket_read::read_ticket;
 
 // How many budgets there are: 2²⁸.
@@ -24,4 +29,27 @@ pub extern "C" fn bench_walk(ticket: &[u32], steps: u64) -> u64
     }
     let d = run_on(t.field, t.n, t.radicand, steps);
     d.0
+}
+
+// The degree of p_{tries − 1}, or 0 as above, and how often the tests said that half the walk stops. The
+// ticket's budget has no part.
+#[no_mangle]
+pub extern "C" fn bench_half(ticket: &[u32], tries: u64) -> Tried
+    ensures degree { λ r. ⌜ r .degree ≡ degreeAfter (now (ticket .entry)) tries ⌝ }
+    ensures few { λ r. ⌜ r .stops ≤ tries ⌝ }
+{
+    if BUDGETS <= tries {
+        return Tried {
+            degree: 0,
+            stops: 0,
+        };
+    }
+    let t = read_ticket(ticket);
+    if t.number != 0 {
+        return Tried {
+            degree: 0,
+            stops: 0,
+        };
+    }
+    half_on(t.field, t.n, t.radicand, tries)
 }

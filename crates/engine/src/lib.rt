@@ -14,6 +14,12 @@ pub mod regulators {
     pub use call_regulators::regulators;
 }
 
+pub mod half {
+    pub use call_half::HalfAnswer;
+    pub use call_half::HalfOutcome;
+    pub use call_half::half;
+}
+
 pub mod unit {
     pub use call_unit::unit;
 }

@@ -25,7 +25,7 @@ module _ (t : Ticket) where
   Q = walk.Q (opsOf t) (t .D) (rootOf t)
 
   -- deg p_{i−1}
-  abbrev degreeAt : ℕ → ℕ
+  abbrev pub degreeAt : ℕ → ℕ
   degreeAt i = deg (opsOf t) (walk.pBefore (opsOf t) (t .D) (rootOf t) i)
 
   -- "found with R, m, c": R = deg p_{m−1} and c = (−1)^m·Q_m

@@ -27,10 +27,10 @@ use Rattle.spec_bridge.specs.Model.{Model, series}
 use Rattle.spec_bridge.specs.Trim.{below-size, size-le, size-is, size-series}
 use Rattle.spec_bridge.specs.Arithmetic.{series-add, series-sub, series-mul}
 use Rattle.spec_fields.specs.Named.{arithmetic, same-reading, reading-same, φ-first, one-first, reading-first}
-use Rattle.spec_bridge.specs.Degree.{monic-size, deg-is}
-use Rattle.spec_laws.specs.Surd.{Surd, Q-zero, Q-trim, a-trim, r-trim, r as remainder}
+use Rattle.spec_bridge.specs.Degree.{monic-size}
+use Rattle.spec_laws.specs.Surd.{Surd, Q-zero, Q-trim, r-trim, r as remainder}
 use Rattle.spec_laws.specs.Fraction.{Q-some, Q-length, divide}
-use Rattle.spec_laws.specs.Walk.{a-length, r-length}
+use Rattle.spec_laws.specs.Walk.{deg-Q, deg-a, r-length}
 use Rattle.spec_laws.specs.Convergents.{degree-zero, degree-suc}
 use Rattle.spec_laws.specs.Signs.{normOf}
 use Rattle.spec_laws.specs.Signs as signs
@@ -179,20 +179,13 @@ module _ {f : FieldName} {g : ℕ} {D : List ℕ} (h : Admitted f g D) where
   rest-less : (i : ℕ) → size (ops f) (rest i) < size (ops f) (walk.Q (ops f) D d i)
   rest-less i = let e = size-series M (rest i) (remainder z i) (rest-series i) in let k = size-is M (rest i) in let t = ap length (r-trim z i) in let l = r-length z i in let u = size-Q i in omega arith
 
-  deg-Q : (i : ℕ) → suc (deg (ops f) (walk.Q (ops f) D d i)) ≡ length (walk.Q (ops f) D d i)
-  deg-Q i = let e = deg-is K M (walk.Q (ops f) D d i) in let t = ap length (Q-trim z i) in let k = Q-some z i in omega arith
-
-  -- deg a_i = g + 1 − deg Q_i
-  deg-a : (i : ℕ) → deg (ops f) (walk.a (ops f) D d i) + length (walk.Q (ops f) D d i) ≡ suc (suc g)
-  deg-a i = let e = deg-is K M (walk.a (ops f) D d i) in let t = ap length (a-trim z i) in let u = a-length z i in let v = Q-length z i in omega arith
-
   degrees : (i : ℕ) → degreeBefore (ops f) D d (suc i) ≡ suc g + sumTo (λ j. deg (ops f) (walk.a (ops f) D d j)) i
   unfolding sumTo
   degrees zero = let e = degree-suc z 0 in let k = degree-zero z in let l : length (walk.Q (ops f) D d 0) ≡ 1 = ap length (Q-zero z) in omega arith
   degrees (suc i) =
       let e = degrees i in
       let k = degree-suc z (suc i) in
-      let l = deg-a (suc i) in
+      let l = deg-a z (suc i) in
       omega arith
 
   continued : Continued f D d g
@@ -201,9 +194,9 @@ module _ {f : FieldName} {g : ℕ} {D : List ℕ} (h : Admitted f g D) where
     root = root-of;
     root-only = only;
     Q-not-zero = λ i e. let k = Q-some z i in let l = size-Q i in omega arith;
-    Q-most = λ i. let e = deg-Q i in let l = Q-length z i in omega arith;
-    a-least = λ i. let e = deg-a i in let l = Q-length z i in omega arith;
-    a-degree = λ i. let e = deg-a i in let l = deg-Q i in omega arith;
+    Q-most = λ i. let e = deg-Q z i in let l = Q-length z i in omega arith;
+    a-least = λ i. let e = deg-a z i in let l = Q-length z i in omega arith;
+    a-degree = λ i. let e = deg-a z i in let l = deg-Q z i in omega arith;
     product = norms.Q-product z;
     sum = norms.P-product z;
     quotient = rest-less;

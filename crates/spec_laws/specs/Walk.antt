@@ -1,7 +1,7 @@
 -- The walk as equations of lists: the remainder r_i of P_i + d by Q_i gives the next P, and the quotient a_i
 -- the next Q with one product. How long each list is. Each equation is one of the continued fraction, and
 -- lists with no zero at the end are equal where their polynomials are.
-use Prim.Native.Nat.{ℕ, zero, suc, _-_ as _-ₙ_, _≤_, _<_}
+use Prim.Native.Nat.{ℕ, zero, suc, _+_ as _+ₙ_, _-_ as _-ₙ_, _≤_, _<_}
 use native.Mathlib.Omega.{arith}
 use mathlib.Core.Path.{_≡_, refl, sym, ap, _∙_, subst}
 use mathlib.Core.List.{List, [], _∷_}
@@ -14,11 +14,12 @@ use Rattle.math_algebra.specs.Polynomial.{F, Px, monic-deg}
 use Rattle.math_surd.specs.Walk.{P-rem, Q-rem, P-monic, a-deg}
 use Rattle.math_surd.specs.Walk as states
 use Rattle.spec_arithmetic.specs.Field.{Ops}
-use Rattle.spec_arithmetic.specs.Polynomials.{trim, add, sub, mul}
+use Rattle.spec_arithmetic.specs.Polynomials.{trim, deg, add, sub, mul}
 use Rattle.spec_definitions.specs.Walk as lists
 use Rattle.spec_bridge.specs.Model.{Model, series}
 use Rattle.spec_bridge.specs.Trim.{series-ext}
 use Rattle.spec_bridge.specs.Arithmetic.{oks-sub, oks-add, trim-sub, trim-add, series-add, series-sub, series-mul}
+use Rattle.spec_bridge.specs.Degree.{deg-is}
 use Rattle.spec_bridge.specs.Division.{rem-less}
 use Rattle.spec_laws.specs.Surd.{Surd, deg-length, Q-zero, P-zero, Q-trim, P-trim, a-trim, Q-oks}
 use Rattle.spec_laws.specs.Surd as surd
@@ -59,13 +60,23 @@ module _ {A B : Type 0} {o : Ops A} {K : Field B} {M : Model o (F K)} {g : ℕ} 
   P-length zero = subst (λ (l : List A). length l ≤ suc (suc g)) (sym (P-zero s)) (omega arith)
   P-length (suc i) = let e = P-suc-length i in omega arith
 
-  -- deg a_i = g + 1 − deg Q_i
   pub a-length : (i : ℕ) → length (a i) ≡ suc (suc (suc g)) -ₙ length (Q i)
   a-length i =
       let e = deg-length K M (a i) _ (a-trim s i) (a-deg K (fraction s) i) in
       let h = Q-some s i in
       let k = Q-length s i in
       omega arith
+
+  -- ---- degrees
+  pub deg-d : deg o d ≡ suc g
+  deg-d = deg-is K M d ∙ (let t = ap length (s .trimmed) in let e = d-length in omega arith)
+
+  pub deg-Q : (i : ℕ) → suc (deg o (Q i)) ≡ length (Q i)
+  deg-Q i = let e = deg-is K M (Q i) in let t = ap length (Q-trim s i) in let k = Q-some s i in omega arith
+
+  -- deg a_i = g + 1 − deg Q_i
+  pub deg-a : (i : ℕ) → deg o (a i) +ₙ length (Q i) ≡ suc (suc g)
+  deg-a i = let e = deg-is K M (a i) in let t = ap length (a-trim s i) in let u = a-length i in let v = Q-length s i in omega arith
 
   pub r-length : (i : ℕ) → length (r i) < length (Q i)
   r-length i =

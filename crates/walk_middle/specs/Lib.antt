@@ -1,0 +1,3 @@
+pub mod Middle
+pub mod Compared
+pub mod Strided
