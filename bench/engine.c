@@ -10,7 +10,7 @@ struct tried {
 // The degree of p_{steps-1}, the sum of deg a_0 .. a_{steps-1}; 0 where the ticket is refused. bench_half also
 // counts how often the tests say that half the walk stops.
 extern uint64_t bench_walk(const uint32_t *ticket, size_t words, uint64_t steps);
-extern struct tried bench_half(const uint32_t *ticket, size_t words, uint64_t tries);
+extern struct tried bench_half(const uint32_t *ticket, size_t words, uint64_t steps);
 
 int main(int argc, char **argv) {
     arguments(argc, argv);

@@ -1,14 +1,17 @@
-// The call foskadoin_half with budget b beside foskadoin_regulator with budget 2b, in turns; the best of each
-// counts.  cc -O2 -o half bench/half.c target/staticlib/libfoskadoin.a
-//          cat bench/jobs.txt bench/half_jobs.txt | ./half
-// b is half the steps of a line, or, where its D has a quasi-period m of at most these, the least b that finds it: both
-// calls then make their whole walk. In jobs.txt m is 3 at q = 3, n = 4 and 148 at q = 3, n = 16; half_jobs.txt has a D
-// with m = 11,280 for the second. For the first no D has a large m, here 6: the ticket and the table of inverses,
-// which both calls have, are nearly all of the time.
+// The call foskadoin_half with budget b beside foskadoin_regulator with budget 2b, in turns, at four places of the
+// stack 16 bytes apart: what a step has just stored may be slow to load at some of them. The best time at each counts.
+//     cc -O2 -o half bench/half.c target/staticlib/libfoskadoin.a
+//     cat bench/jobs.txt bench/half_jobs.txt | ./half
+// The times are those of the place with the least ratio; the last column is the greatest ratio.
+// b is half the steps of a line, or, where its D has a quasi-period m of at most these, the least b that finds it:
+// both calls then make their whole walk. In jobs.txt m is 3 at q = 3, n = 4 and 148 at q = 3, n = 16; half_jobs.txt
+// has a D with m = 11,280 for the second. For the first no D has a large m, here 6: the ticket and the table of
+// inverses, which both calls have, are nearly all of the time.
+#include <alloca.h>
 #include "../include/foskadoin.h"
 #include "clock.h"
 
-enum { TURNS = 9, MOST = 64 };
+enum { TURNS = 9, MOST = 64, PLACES = 4 };
 typedef struct foskadoin_numbers call(const uint32_t *ticket, size_t words);
 
 static uint32_t ticket[MOST + 5], n;
@@ -18,8 +21,10 @@ static struct foskadoin_numbers with_budget(call *make, uint32_t budget) {
     return make(ticket, n + 5);
 }
 
-// Seconds of one of COUNT calls.
-static double time_call(call *make, uint32_t budget, long count) {
+// Seconds of one of COUNT calls, with the stack lowered by so many bytes.
+static __attribute__((noinline)) double time_call(call *make, uint32_t budget, long count, size_t lowered) {
+    volatile char *space = alloca(lowered + 1);
+    *space = 0;
     double start = seconds();
     for (long i = 0; i < count; i++) with_budget(make, budget);
     return (seconds() - start) / count;
@@ -39,21 +44,37 @@ static int next_job(uint32_t *b) {
     return 1;
 }
 
+// The best times of both calls at one place of the stack.
+struct times {
+    double whole, half;
+};
+
+static struct times at_place(uint32_t b, long count, size_t lowered) {
+    struct times best = {1e9, 1e9};
+    for (int t = 0; t < TURNS; t++) {
+        double x = time_call(foskadoin_regulator, 2 * b, count, lowered), y = time_call(foskadoin_half, b, count, lowered);
+        if (x < best.whole) best.whole = x;
+        if (y < best.half) best.half = y;
+    }
+    return best;
+}
+
 int main(void) {
-    printf("%6s%4s%9s%10s%18s%18s%8s\n", "q", "n", "b", "m", "whole 2b, us", "half b, us", "ratio");
+    printf("%6s%4s%9s%10s%18s%18s%8s%8s\n", "q", "n", "b", "m", "whole 2b, us", "half b, us", "ratio", "most");
     for (uint32_t b; next_job(&b);) {
         struct foskadoin_numbers whole = with_budget(foskadoin_regulator, 2 * b), half = with_budget(foskadoin_half, b);
         if (whole.number != half.number) return 1;
-        long count = 1 + 200000 / (b + 100);
-        double best_whole = 1e9, best_half = 1e9;
-        for (int t = 0; t < TURNS; t++) {
-            double x = time_call(foskadoin_regulator, 2 * b, count), y = time_call(foskadoin_half, b, count);
-            if (x < best_whole) best_whole = x;
-            if (y < best_half) best_half = y;
+        struct times least = {1, 1e-9};
+        double most = 0;
+        for (int place = 0; place < PLACES; place++) {
+            struct times t = at_place(b, 1 + 200000 / (b + 100), 16 * place);
+            double ratio = t.whole / t.half;
+            if (ratio < least.whole / least.half) least = t;
+            if (ratio > most) most = ratio;
         }
         char m[24] = "above 2b";
         if (whole.number == FOSKADOIN_FOUND) snprintf(m, sizeof m, "%lu", whole.quasi_period);
-        printf("%6u%4u%9u%10s%18.2f%18.2f%8.2f\n", ticket[0] & 0xfffffff, n, b, m, 1e6 * best_whole, 1e6 * best_half, best_whole / best_half);
+        printf("%6u%4u%9u%10s%18.2f%18.2f%8.2f%8.2f\n", ticket[0] & 0xfffffff, n, b, m, 1e6 * least.whole, 1e6 * least.half, least.whole / least.half, most);
         fflush(stdout);
     }
 }

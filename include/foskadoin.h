@@ -29,8 +29,8 @@ enum foskadoin_number {
     FOSKADOIN_WRONG_PAIR = 9,        /* foskadoin_product, foskadoin_giant_step: a pair is not an ideal's */
     FOSKADOIN_WRONG_DISTANCE = 10,   /* foskadoin_giant_step: a distance is above 2^40 */
     FOSKADOIN_SPENT = 11,            /* regulator, regulators, unit, listing: the quasi-period m is above the
-                                        budget b; half: above 2b. The one refusal with counts: the steps made
-                                        and the degree reached */
+                                        budget b; half: above 2b. The one refusal with counts: the steps made,
+                                        for half the indices tried, and the degree reached */
     FOSKADOIN_SHORT_UNIT = 12,       /* foskadoin_unit: a list is shorter than R + 1 places */
     FOSKADOIN_SHORT_LISTING = 13,    /* foskadoin_listing: the list is shorter than m * (n + 4) words */
     FOSKADOIN_WRONG_SHAPE = 14       /* foskadoin_regulators: the ticket's shape is wrong */

@@ -1,5 +1,5 @@
-// The runs for measuring the time of a step: so many steps of a ticket's walk, past every constant Q; so many
-// indices tried as half the walk does, past every middle.
+// The runs for measuring the time of a step: so many steps of a ticket's walk, past every constant Q; so many with
+// the tests of half the walk after each, past every middle.
 pub mod advance;
 pub mod half;
 
@@ -31,14 +31,14 @@ pub extern "C" fn bench_walk(ticket: &[u32], steps: u64) -> u64
     d.0
 }
 
-// The degree of p_{tries − 1}, or 0 as above, and how often the tests said that half the walk stops. The
+// The degree of p_{steps − 1}, or 0 as above, and how often the tests said that half the walk stops. The
 // ticket's budget has no part.
 #[no_mangle]
-pub extern "C" fn bench_half(ticket: &[u32], tries: u64) -> Tried
-    ensures degree { λ r. ⌜ r .degree ≡ degreeAfter (now (ticket .entry)) tries ⌝ }
-    ensures few { λ r. ⌜ r .stops ≤ tries ⌝ }
+pub extern "C" fn bench_half(ticket: &[u32], steps: u64) -> Tried
+    ensures degree { λ r. ⌜ r .degree ≡ degreeAfter (now (ticket .entry)) steps ⌝ }
+    ensures few { λ r. ⌜ r .stops ≤ steps ⌝ }
 {
-    if BUDGETS <= tries {
+    if BUDGETS <= steps {
         return Tried {
             degree: 0,
             stops: 0,
@@ -51,5 +51,5 @@ pub extern "C" fn bench_half(ticket: &[u32], tries: u64) -> Tried
             stops: 0,
         };
     }
-    half_on(t.field, t.n, t.radicand, tries)
+    half_on(t.field, t.n, t.radicand, steps)
 }

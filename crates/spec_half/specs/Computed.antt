@@ -161,25 +161,25 @@ pub record NoTestHolds (f : FieldName) (g : ℕ) (D : List ℕ) (i : ℕ) : Type
 -- ---- the outcome of a ticket of budget b: R + (g + 1) = 2·deg p_i where the test of Q holds first at i, R +
 -- deg Q_{i+1} = 2·deg p_i where that of P does
 module _ {f : FieldName} (n : ℕ) {D : List ℕ} (h : Admitted f (genus n) D) (b : ℕ) where
-  abbrev e : List ℕ
-  e = root (ops f) D (suc (genus n))
+  abbrev root-d : List ℕ
+  root-d = root (ops f) D (suc (genus n))
 
-  stops : (x : Middle) (R : ℕ) → firstMiddle (ops f) D e b 0 ≡ some x → middleRegulator (ops f) D e x ≡ R → halfOf (ticket f n D b) ≡ halfFound R (middlePeriod x)
+  found-by : (x : Middle) (R : ℕ) → firstMiddle (ops f) D root-d b 0 ≡ some x → middleRegulator (ops f) D root-d x ≡ R → halfOf (ticket f n D b) ≡ halfFound R (middlePeriod x)
   unfolding halfOf rootOf
-  stops x R k r = rw (k, halfOf) (ap (λ (j : ℕ). halfFound j (middlePeriod x)) r)
+  found-by x R k r = rw (k, halfOf) (ap (λ (j : ℕ). halfFound j (middlePeriod x)) r)
 
   -- the search comes to i with the b − i indices from i up
-  search-to : (i k : ℕ) → i + k ≡ b → NoTestHolds f (genus n) D i → firstMiddle (ops f) D e b 0 ≡ firstMiddle (ops f) D e k i
-  search-to i k r m = ap (λ (j : ℕ). firstMiddle (ops f) D e j 0) (sym r) ∙ search-past (ops f) D e k i (λ j l. (m .no-Q j l, m .no-P j l))
+  search-to : (i k : ℕ) → i + k ≡ b → NoTestHolds f (genus n) D i → firstMiddle (ops f) D root-d b 0 ≡ firstMiddle (ops f) D root-d k i
+  search-to i k r m = ap (λ (j : ℕ). firstMiddle (ops f) D root-d j 0) (sym r) ∙ search-past (ops f) D root-d k i (λ j l. (m .no-Q j l, m .no-P j l))
 
-  pub half-by-Q : (i R : ℕ) → i < b → NoTestHolds f (genus n) D i → middleQ? (ops f) D e i ≡ true → R + suc (genus n) ≡ 2 * degreeBefore (ops f) D e (suc i) → halfOf (ticket f n D b) ≡ halfFound R (2 * i + 1)
+  pub half-by-Q : (i R : ℕ) → i < b → NoTestHolds f (genus n) D i → middleQ? (ops f) D root-d i ≡ true → R + suc (genus n) ≡ 2 * degreeBefore (ops f) D root-d (suc i) → halfOf (ticket f n D b) ≡ halfFound R (2 * i + 1)
   unfolding middlePeriod
-  half-by-Q i R l m t r = stops (byQ i) R (search-to i (suc (b - suc i)) (omega arith) m ∙ search-Q (ops f) D e (b - suc i) i t) (regulator-by-Q (surd-of h) i R r)
+  half-by-Q i R l m t r = found-by (byQ i) R (search-to i (suc (b - suc i)) (omega arith) m ∙ search-Q (ops f) D root-d (b - suc i) i t) (regulator-by-Q (surd-of h) i R r)
 
-  pub half-by-P : (i R : ℕ) → i < b → NoTestHolds f (genus n) D i → middleQ? (ops f) D e i ≡ false → middleP? (ops f) D e i ≡ true → R + deg (ops f) (Q (ops f) D e (suc i)) ≡ 2 * degreeBefore (ops f) D e (suc i) → halfOf (ticket f n D b) ≡ halfFound R (2 * i + 2)
+  pub half-by-P : (i R : ℕ) → i < b → NoTestHolds f (genus n) D i → middleQ? (ops f) D root-d i ≡ false → middleP? (ops f) D root-d i ≡ true → R + deg (ops f) (Q (ops f) D root-d (suc i)) ≡ 2 * degreeBefore (ops f) D root-d (suc i) → halfOf (ticket f n D b) ≡ halfFound R (2 * i + 2)
   unfolding middlePeriod
-  half-by-P i R l m t u r = stops (byP i) R (search-to i (suc (b - suc i)) (omega arith) m ∙ search-P (ops f) D e (b - suc i) i t u) (regulator-by-P (surd-of h) i R r)
+  half-by-P i R l m t u r = found-by (byP i) R (search-to i (suc (b - suc i)) (omega arith) m ∙ search-P (ops f) D root-d (b - suc i) i t u) (regulator-by-P (surd-of h) i R r)
 
-  pub half-none : NoTestHolds f (genus n) D b → halfOf (ticket f n D b) ≡ halfSpent b (degreeBefore (ops f) D e b)
+  pub half-none : NoTestHolds f (genus n) D b → halfOf (ticket f n D b) ≡ halfSpent b (degreeBefore (ops f) D root-d b)
   unfolding halfOf rootOf firstMiddle
-  half-none m = let k : firstMiddle (ops f) D e b 0 ≡ none = search-to b 0 (add-zero b) m in rw (k, halfOf) refl
+  half-none m = let k : firstMiddle (ops f) D root-d b 0 ≡ none = search-to b 0 (add-zero b) m in rw (k, halfOf) refl

@@ -1,5 +1,5 @@
--- Answers by computation: m = 1, m even and m odd, with a budget that is just enough and one that is one short; no
--- budget at all; refusals.
+-- Answers by computation: m = 1, m even and m odd, with a budget that is just enough and one that is one short;
+-- no budget at all; refusals.
 use Prim.Native.Nat.{ℕ}
 use mathlib.Core.Path.{_≡_, refl}
 use mathlib.Core.List.{List, [], _∷_, map}

@@ -1,8 +1,8 @@
 -- The demands for half the walk, for tickets of any words and any length. T1: it is refused as every ticket
 -- is. T2: it stops at the first i below b that the request names, with its m and R; it finds exactly where the
 -- quasi-period is at most 2b, with the R and m of the full walk of any budget, and is spent where it is not.
--- T3: what is found is least; where it is spent, no solution has a p of degree up to deg p_{2b−1}, which the call
--- does not reach. No other outcome satisfies T1 and T2.
+-- T3: what is found is least; where it is spent, no solution has a p of degree up to deg p_{2b−1}, which the
+-- call does not reach. No other outcome satisfies T1 and T2.
 use Prim.Native.Nat.{ℕ, zero, suc, _+_, _*_, _≤_, _<_}
 use native.Mathlib.Nat.{eq-zero-or-pos}
 use native.Mathlib.Omega.{arith}
@@ -86,8 +86,8 @@ module _ (t : Ticket) where
 
   -- "stops at the first i from 0 up where Q_{i+1} is a constant times Q_i, giving m = 2i+1, or else where
   -- P_{i+1} = P_{i+2}, giving m = 2i+2. R comes from the duplication rules of source document 003, section 4":
-  -- 2·(deg a_1 + .. + deg a_i) + deg d, or 2·(deg a_1 + .. + deg a_{i+1}) + deg Q_{i+1}. "It counts one step for
-  -- each i tried": i is below b
+  -- 2·(deg a_1 + .. + deg a_i) + deg d, or 2·(deg a_1 + .. + deg a_{i+1}) + deg Q_{i+1}. "It counts one step
+  -- for each i tried": i is below b
   pub record StopsFirst (R m : ℕ) : Type 0 where
     pub i : ℕ
     pub tried : i < t .b

@@ -16,11 +16,14 @@ use walk_middle::stops;
 use walk_stride::begin;
 use walk_stride::stride;
 
-// The steps from index 0 on, each followed by the tests, against the budget; D is the first `size` places of
-// `radicand`. The loop leaves with the test that holds first. No step is made twice: the remainder that the test
-// of P asks for is that of the next step, so that one step more is made than indices are tried, but where the test
-// of Q ends it. The arrays take turns, so that nothing is copied: Q stands in b, c, a and b again, the Q before it
-// in a, b, c and a, the remainder in x, y, z and x.
+// The steps from index 0 on, each followed by the tests at the index before the one that it starts from, against
+// the budget; D is the first `size` places of `radicand`. The loop leaves with the test that holds first. No step is
+// made twice: the remainder that the test of P asks for is that of the next step, so that one step more is made than
+// indices are tried. After the first step there is no index to try, and neither test holds: D, which stands before
+// Q_0 = 1, is longer than it, and the remainders d and 0 differ.
+// The arrays take turns, so that nothing is copied: Q stands in b, c, a and b again, the Q before it in a, b, c and a,
+// the remainder in x, y, z and x. So do the counts, in `at`, `second` and `third`: a copy right after a step would
+// wait for what the step has stored. `earlier` is the size of the Q before at the head of the loop.
 pub fn seek_middle(
     f: Field,
     n: usize,
@@ -45,20 +48,24 @@ pub fn seek_middle(
     let mut y = [0u32; 129];
     let mut z = [0u32; 129];
     let mut at = begin(radicand, d, &mut a, &mut b, &mut x);
-    let mut to = at;
+    let mut earlier = size;
     let by = loop {
-        to = stride(f, inverses, twice, top, &a, &b, &x, &mut y, &mut c, at);
-        let s = stops(f, top, budget, &b, &c, &x, &y, at, to); // Q in c
+        let second = stride(f, inverses, twice, top, &a, &b, &x, &mut y, &mut c, at);
+        let s = stops(f, top, budget, &a, &b, &x, &y, earlier, at); // Q in b
         let Stop::No = s else { break s };
-        at = to;
-        to = stride(f, inverses, twice, top, &b, &c, &y, &mut z, &mut a, at);
-        let s = stops(f, top, budget, &c, &a, &y, &z, at, to); // Q in a
-        let Stop::No = s else { break s };
-        at = to;
-        to = stride(f, inverses, twice, top, &c, &a, &z, &mut x, &mut b, at);
-        let s = stops(f, top, budget, &a, &b, &z, &x, at, to); // Q in b
-        let Stop::No = s else { break s };
-        at = to;
+        let third = stride(f, inverses, twice, top, &b, &c, &y, &mut z, &mut a, second);
+        let s = stops(f, top, budget, &b, &c, &y, &z, at.size, second); // Q in c
+        let Stop::No = s else {
+            at = second;
+            break s;
+        };
+        at = stride(f, inverses, twice, top, &c, &a, &z, &mut x, &mut b, third);
+        let s = stops(f, top, budget, &c, &a, &z, &x, second.size, third); // Q in a
+        let Stop::No = s else {
+            at = third;
+            break s;
+        };
+        earlier = third.size;
     };
-    ending(top, at, to, by)
+    ending(top, at, by)
 }

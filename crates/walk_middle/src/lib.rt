@@ -1,5 +1,5 @@
-// The tests of half the walk after a step from Q_i to Q_{i+1}: whether the two remainders are the same, whether
-// the budget is spent, whether Q_{i+1} is a constant times Q_i.
+// The tests of half the walk at an index i, after the step from Q_{i+1} to Q_{i+2}: whether Q_{i+1} is a constant
+// times Q_i, whether P_{i+1} = P_{i+2}, which the remainders tell, whether the budget is spent.
 ghost use mathlib.Core.Path.{_≡_};
 ghost use Prim.Native.Nat.{_<_, _≤_};
 ghost use lib.ListN.{length};
@@ -15,19 +15,19 @@ use walk_stride::Progress;
 // Whether half the walk stops, and by which test.
 pub enum Stop {
     No,
+    ByQ,
     ByP,
     Budget,
-    ByQ,
 }
 
-// Whether two arrays with zeros from n on are the same.
-fn same(x: &[u32; 129], y: &[u32; 129], n: usize) -> bool
-    requires { ⌜ (n ≤ 129) × (length (now x) ≡ 129) × (length (now y) ≡ 129) ⌝ }
-    requires { ⌜ Ends (now x) n × Ends (now y) n ⌝ }
+// Whether two arrays with zeros from top on are the same.
+fn same(x: &[u32; 129], y: &[u32; 129], top: usize) -> bool
+    requires { ⌜ (top ≤ 129) × (length (now x) ≡ 129) × (length (now y) ≡ 129) ⌝ }
+    requires { ⌜ Ends (now x) top × Ends (now y) top ⌝ }
     ensures { λ r. ⌜ Tests r (now (x .entry) ≡ now (y .entry)) ⌝ }
 {
     let mut i: usize = 0;
-    while i < n {
+    while i < top {
         if x[i] != y[i] {
             return false;
         }
@@ -36,8 +36,9 @@ fn same(x: &[u32; 129], y: &[u32; 129], n: usize) -> bool
     true
 }
 
-// Whether x is a constant times y, both of this size: each times the other's leading coefficient is the same. q − c
-// stands for −c, so that each place takes one reduction; two products of 4,095² are below 2³².
+// Whether x is a constant times y, both of this size: each times the other's leading coefficient is the same.
+// q − y[i] stands for −y[i], so that each place takes one reduction; two products, each at most 4,095², are together
+// below 2³².
 fn proportional(f: Field, x: &[u32; 129], y: &[u32; 129], size: usize) -> bool
     requires { ⌜ IsField f ⌝ }
     requires { ⌜ (0 < size) × (size ≤ 129) ⌝ }
@@ -57,10 +58,23 @@ fn proportional(f: Field, x: &[u32; 129], y: &[u32; 129], size: usize) -> bool
     true
 }
 
-// What the tests say where the walk has stepped from `at`, with Q in `before` and the remainder in `rest`, to
-// `to`, with Q in `current` and the remainder in `remains`. The remainders are the test of P at the index before that
-// of `at`, where Q is tested already, so that they come first; the budget is spent where every index before that of
-// `at` is tried; last is the test of Q at the index of `at`.
+// Whether the Q in x, of size `earlier`, is a constant times the one in y, of size `size`.
+fn multiple(f: Field, x: &[u32; 129], y: &[u32; 129], earlier: usize, size: usize) -> bool
+    requires { ⌜ IsField f ⌝ }
+    requires { ⌜ (0 < size) × (size ≤ 129) ⌝ }
+    requires { ⌜ Within (name f) (now x) earlier × Within (name f) (now y) size ⌝ }
+    ensures { λ r. ⌜ Tests r ((earlier ≡ size) × Proportional (name f) (now (x .entry)) (now (y .entry)) size) ⌝ }
+{
+    if earlier != size {
+        return false;
+    }
+    proportional(f, x, y, size)
+}
+
+// What the tests say at the index i before that of `at`, in the request's order: that of Q, then that of P. Last is
+// the budget b, spent where the index of `at` is b: the indices 0 to b − 1 are then tried. Q_i, of size `earlier`, is
+// in `before`, Q_{i+1} in `current`; `rest` and `remains` are the remainders before and after the step from `at` on.
+// Both Qs are of steps before that one: a Q just stored is slow to load.
 pub fn stops(
     f: Field,
     top: usize,
@@ -69,24 +83,21 @@ pub fn stops(
     current: &[u32; 129],
     rest: &[u32; 129],
     remains: &[u32; 129],
+    earlier: usize,
     at: Progress,
-    to: Progress,
 ) -> Stop
     requires { ⌜ IsField f ⌝ }
-    requires { ⌜ Tested (name f) top (now before) (now current) (now rest) (now remains) at to ⌝ }
-    ensures { λ r. ⌜ Stops (name f) budget (now (before .entry)) (now (current .entry)) (now (rest .entry)) (now (remains .entry)) at to r ⌝ }
+    requires { ⌜ Tested (name f) top (now before) (now current) (now rest) (now remains) earlier at ⌝ }
+    ensures { λ r. ⌜ Stops (name f) budget (now (before .entry)) (now (current .entry)) (now (rest .entry)) (now (remains .entry)) earlier at r ⌝ }
 {
+    if multiple(f, before, current, earlier, at.size) {
+        return Stop::ByQ;
+    }
     if same(rest, remains, top) {
         return Stop::ByP;
     }
     if at.index.0 == budget {
-        return Stop::Budget;
-    }
-    if at.size != to.size {
-        return Stop::No;
-    }
-    if proportional(f, before, current, at.size) {
-        Stop::ByQ
+        Stop::Budget
     } else {
         Stop::No
     }

@@ -12,10 +12,10 @@ use Rattle.walk_middle.proofs.same.Statement.{statement}
 use Rattle.walk_middle.proofs.same.Tie as tie
 
 abbrev Inv-loop : tie.InvT-loop
-Inv-loop x y n i₀ i = (i ≤ n) × ((k : ℕ) → k < i → getD x k 0 ≡ getD y k 0)
+Inv-loop x y top i₀ i = (i ≤ top) × ((k : ℕ) → k < i → getD x k 0 ≡ getD y k 0)
 
 abbrev μ-loop : tie.MeasureT-loop
-μ-loop x y n i₀ i = n - i
+μ-loop x y top i₀ i = top - i
 
 loop-holds : tie.Need-loop-holds Inv-loop μ-loop
 loop-holds c = search needs
@@ -51,7 +51,7 @@ returns-2 c =
     let s = c .before .before in
     let l = c .before .loop in
     let long = s .pre .0 in
-    (λ _. same-places _ _ (s .args .n) (long .1 ∙ sym (long .2)) (s .pre .1 .0) (s .pre .1 .1) (λ k h. l .inv .1 k (omega arith)), λ _. refl)
+    (λ _. same-places _ _ (s .args .top) (long .1 ∙ sym (long .2)) (s .pre .1 .0) (s .pre .1 .1) (λ k h. l .inv .1 k (omega arith)), λ _. refl)
 
 pub same-spec : {M : Type 1} → statement M
 same-spec =

@@ -1,4 +1,4 @@
--- What is prepared is what the tries ask for.
+-- What is prepared is what the steps ask for.
 use borrow.Author.Needs.{needs}
 use Rattle.bench_walk.proofs.half.half_on.Statement.{statement}
 use Rattle.bench_walk.proofs.half.half_on.Tie as tie

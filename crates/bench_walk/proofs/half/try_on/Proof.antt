@@ -7,17 +7,17 @@ use Rattle.spec_arithmetic.specs.Field.{prime}
 use Rattle.spec_definitions.specs.Ticket.{genus}
 use Rattle.base_polynomial.specs.Record.{poly}
 use Rattle.walk_state.specs.Start.{half-degree, top-is}
-use Rattle.walk_middle.specs.Strided.{strided-tested}
+use Rattle.walk_middle.specs.Strided.{Earlier, earlier-first, earlier-next, strided-tested}
 use Rattle.bench_walk.specs.Advance.{Advancing, advancing-first, advancing-going, advancing-next, advanced}
 use Rattle.bench_walk.proofs.half.try_on.Statement.{statement}
 use Rattle.bench_walk.proofs.half.try_on.Tie as tie
 
 abbrev Inv-loop : tie.InvT-loop
-Inv-loop f n radicand size inverses d twice tries top a₀ b₀ c₀ x₀ y₀ z₀ at₀ found₀ a b c x y z at found =
-    Advancing (prime (f .q)) (genus n) (poly radicand size) tries a b x at × (found ≤ at .index .0)
+Inv-loop f n radicand size inverses d twice steps top a₀ b₀ c₀ x₀ y₀ z₀ at₀ earlier₀ counted₀ a b c x y z at earlier counted =
+    Advancing (prime (f .q)) (genus n) (poly radicand size) steps a b x at × Earlier (prime (f .q)) (genus n) (poly radicand size) at earlier × (counted ≤ at .index .0)
 
 abbrev μ-loop : tie.MeasureT-loop
-μ-loop f n radicand size inverses d twice tries top a₀ b₀ c₀ x₀ y₀ z₀ at₀ found₀ a b c x y z at found = tries - at .index .0
+μ-loop f n radicand size inverses d twice steps top a₀ b₀ c₀ x₀ y₀ z₀ at₀ earlier₀ counted₀ a b c x y z at earlier counted = steps - at .index .0
 
 abbrev start : tie.At-loop Inv-loop μ-loop → tie.Start Inv-loop μ-loop
 start l = l .before .before .before .before .before
@@ -37,10 +37,10 @@ begin-requires c κs = search needs
 loop-holds : tie.Need-loop-holds Inv-loop μ-loop
 loop-holds c =
     let s = c .before .before .before .before in
-    (advancing-first (s .args .radicand .now) (s .args .size) (s .args .tries) (s .pre .1 .0) (s .pre .1 .1 .0 .0) (s .pre .1 .1 .1) (c .begin .ensures), omega arith)
+    (advancing-first (s .args .radicand .now) (s .args .size) (s .args .steps) (s .pre .1 .0) (s .pre .1 .1 .0 .0) (s .pre .1 .1 .1) (c .begin .ensures), earlier-first (s .args .radicand .now) (s .args .size) (s .pre .1 .0) (s .pre .1 .1 .0 .0) (c .begin .ensures), omega arith)
 
 returns : tie.Need-returns Inv-loop μ-loop
-returns c = let l = c .before .before in (advanced (l .loop .inv .0) (c .if1 .taken), omega (arith, l .loop .inv .1, c .if1 .taken))
+returns c = let l = c .before .before in (advanced (l .loop .inv .0) (c .if1 .taken), omega (arith, l .loop .inv .2, c .if1 .taken))
 
 stride-requires : tie.Need-stride-requires Inv-loop μ-loop
 stride-requires c κs =
@@ -62,7 +62,7 @@ tally-requires c κs =
     let p = s .pre .1 .1 .1 in
     let e = top-of s in
     let t2 = advancing-next h e p (l .loop .inv .0) (o1 .if1 .left) (k1 .stride .ensures) in
-    (s .pre .0, (strided-tested h e p (l .loop .inv .0 .walked) (t2 .walked), omega (arith, l .loop .inv .1, l .loop .inv .0 .reached, s .pre .1 .1 .0 .2)))
+    (s .pre .0, (strided-tested h e p (l .loop .inv .0 .walked) (l .loop .inv .1) (t2 .walked), omega (arith, l .loop .inv .2, l .loop .inv .0 .reached, s .pre .1 .1 .0 .2)))
 
 returns-2 : tie.Need-returns-2 Inv-loop μ-loop
 returns-2 c =
@@ -75,7 +75,7 @@ returns-2 c =
     let p = s .pre .1 .1 .1 in
     let e = top-of s in
     let t2 = advancing-next h e p (l .loop .inv .0) (o1 .if1 .left) (k1 .stride .ensures) in
-    (advanced t2 (c .if2 .taken), omega (arith, l .loop .inv .1, k1 .stride .ensures .index-is, j1 .tally .ensures, c .if2 .taken))
+    (advanced t2 (c .if2 .taken), omega (arith, l .loop .inv .2, k1 .stride .ensures .index-is, j1 .tally .ensures, c .if2 .taken))
 
 stride-requires-2 : tie.Need-stride-requires-2 Inv-loop μ-loop
 stride-requires-2 c κs =
@@ -105,7 +105,7 @@ tally-requires-2 c κs =
     let e = top-of s in
     let t2 = advancing-next h e p (l .loop .inv .0) (o1 .if1 .left) (k1 .stride .ensures) in
     let t3 = advancing-next h e p t2 (o2 .if2 .left) (k2 .stride2 .ensures) in
-    (s .pre .0, (strided-tested h e p (t2 .walked) (t3 .walked), omega (arith, l .loop .inv .1, k1 .stride .ensures .index-is, j1 .tally .ensures, t2 .reached, s .pre .1 .1 .0 .2)))
+    (s .pre .0, (strided-tested h e p (t2 .walked) (earlier-next h (l .loop .inv .0 .walked) (k1 .stride .ensures)) (t3 .walked), omega (arith, l .loop .inv .2, k1 .stride .ensures .index-is, j1 .tally .ensures, t2 .reached, s .pre .1 .1 .0 .2)))
 
 returns-3 : tie.Need-returns-3 Inv-loop μ-loop
 returns-3 c =
@@ -122,7 +122,7 @@ returns-3 c =
     let e = top-of s in
     let t2 = advancing-next h e p (l .loop .inv .0) (o1 .if1 .left) (k1 .stride .ensures) in
     let t3 = advancing-next h e p t2 (o2 .if2 .left) (k2 .stride2 .ensures) in
-    (advanced t3 (c .if3 .taken), omega (arith, l .loop .inv .1, k1 .stride .ensures .index-is, j1 .tally .ensures, k2 .stride2 .ensures .index-is, j2 .tally2 .ensures, c .if3 .taken))
+    (advanced t3 (c .if3 .taken), omega (arith, l .loop .inv .2, k1 .stride .ensures .index-is, j1 .tally .ensures, k2 .stride2 .ensures .index-is, j2 .tally2 .ensures, c .if3 .taken))
 
 stride-requires-3 : tie.Need-stride-requires-3 Inv-loop μ-loop
 stride-requires-3 c κs =
@@ -160,7 +160,7 @@ tally-requires-3 c κs =
     let t2 = advancing-next h e p (l .loop .inv .0) (o1 .if1 .left) (k1 .stride .ensures) in
     let t3 = advancing-next h e p t2 (o2 .if2 .left) (k2 .stride2 .ensures) in
     let t4 = advancing-next h e p t3 (o3 .if3 .left) (k3 .stride3 .ensures) in
-    (s .pre .0, (strided-tested h e p (t3 .walked) (t4 .walked), omega (arith, l .loop .inv .1, k1 .stride .ensures .index-is, j1 .tally .ensures, k2 .stride2 .ensures .index-is, j2 .tally2 .ensures, t3 .reached, s .pre .1 .1 .0 .2)))
+    (s .pre .0, (strided-tested h e p (t3 .walked) (earlier-next h (t2 .walked) (k2 .stride2 .ensures)) (t4 .walked), omega (arith, l .loop .inv .2, k1 .stride .ensures .index-is, j1 .tally .ensures, k2 .stride2 .ensures .index-is, j2 .tally2 .ensures, t3 .reached, s .pre .1 .1 .0 .2)))
 
 loop-less : tie.Need-loop-less Inv-loop μ-loop
 loop-less c =
@@ -193,7 +193,7 @@ loop-again c =
     let t2 = advancing-next h e p (l .loop .inv .0) (o1 .if1 .left) (k1 .stride .ensures) in
     let t3 = advancing-next h e p t2 (o2 .if2 .left) (k2 .stride2 .ensures) in
     let t4 = advancing-next h e p t3 (o3 .if3 .left) (k3 .stride3 .ensures) in
-    (t4, omega (arith, l .loop .inv .1, k1 .stride .ensures .index-is, j1 .tally .ensures, k2 .stride2 .ensures .index-is, j2 .tally2 .ensures, k3 .stride3 .ensures .index-is, c .tally3 .ensures))
+    (t4, earlier-next h (t3 .walked) (k3 .stride3 .ensures), omega (arith, l .loop .inv .2, k1 .stride .ensures .index-is, j1 .tally .ensures, k2 .stride2 .ensures .index-is, j2 .tally2 .ensures, k3 .stride3 .ensures .index-is, c .tally3 .ensures))
 
 pub try-on-spec : {M : Type 1} → statement M
 try-on-spec =

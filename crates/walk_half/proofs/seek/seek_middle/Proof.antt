@@ -1,5 +1,5 @@
--- Between the steps no test holds before the index where the walk stands; where the loop is left, the outcome is
--- that of the test that holds first.
+-- Between the steps no test holds at an index two or more below that of the walk: the tests at the one just below
+-- come after the next step. Where the loop is left, the outcome is that of the test that holds first.
 use Prim.Native.Nat.{ℕ, suc, _+_, _-_, _/_, _≤_}
 use native.Mathlib.Omega.{arith}
 use mathlib.Core.Path.{_≡_, _∙_}
@@ -11,18 +11,18 @@ use Rattle.spec_definitions.specs.Ticket.{genus}
 use Rattle.base_polynomial.specs.Record.{poly}
 use Rattle.walk_state.specs.Start.{half-degree, top-is}
 use Rattle.walk_middle.specs.declared.Stop.{Stop}
-use Rattle.walk_middle.specs.declared.Stop.the-variants.{No, ByP, Budget, ByQ}
+use Rattle.walk_middle.specs.declared.Stop.the-variants.{No, ByQ, ByP, Budget}
 use Rattle.walk_middle.proofs.Stop.{the-type}
 use Rattle.walk_half.specs.Search.{Searching, Ended, searching-first, searching-going, searching-tested, searching-next, searching-ended, ended-at}
 use Rattle.walk_half.proofs.seek.seek_middle.Statement.{statement}
 use Rattle.walk_half.proofs.seek.seek_middle.Tie as tie
 
 abbrev Inv-loop : tie.InvT-loop
-Inv-loop f n radicand size inverses d twice budget top a₀ b₀ c₀ x₀ y₀ z₀ at₀ a b c x y z at =
-    Searching (prime (f .q)) (genus n) (poly radicand size) budget a b x at
+Inv-loop f n radicand size inverses d twice budget top a₀ b₀ c₀ x₀ y₀ z₀ at₀ earlier₀ a b c x y z at earlier =
+    Searching (prime (f .q)) (genus n) (poly radicand size) budget a b x earlier at
 
 abbrev μ-loop : tie.MeasureT-loop
-μ-loop f n radicand size inverses d twice budget top a₀ b₀ c₀ x₀ y₀ z₀ at₀ a b c x y z at = budget - at .index .0
+μ-loop f n radicand size inverses d twice budget top a₀ b₀ c₀ x₀ y₀ z₀ at₀ earlier₀ a b c x y z at earlier = budget - at .index .0
 
 add-top : tie.Need-add-top Inv-loop μ-loop
 add-top c =
@@ -195,16 +195,16 @@ loop-again c =
 -- the loop is left by a test
 not-no : (s : Stop) → (tagOf the-type s ≡ 1) ⊎ (tagOf the-type s ≡ 2) ⊎ (tagOf the-type s ≡ 3) → s ≡ No → ⊥
 not-no No t o = ⊎-elim (λ e. omega arith) (⊎-elim (λ e. omega arith) (λ e. omega arith)) t
+not-no ByQ t o = let z : _≡_ {A = ℕ} 0 1 = cc in omega arith
 not-no ByP t o = let z : _≡_ {A = ℕ} 0 1 = cc in omega arith
 not-no Budget t o = let z : _≡_ {A = ℕ} 0 1 = cc in omega arith
-not-no ByQ t o = let z : _≡_ {A = ℕ} 0 1 = cc in omega arith
 
 -- the start from where the three ways out of the loop meet
 abbrev from-join : tie.At-match-came Inv-loop μ-loop → tie.Start Inv-loop μ-loop
 from-join c = start (c .before .before .before .before .before .before .before .before .before .before .before .before)
 
 -- where the loop is left, after any of its three steps
-ended : (c : tie.At-match-came Inv-loop μ-loop) → (let s = from-join c in Ended (prime (s .args .f .q)) (s .args .n) (poly (s .args .radicand .now) (s .args .size)) (s .args .budget) (s .args .n / 2 + 1) (c .match .at) (c .match .to) (c .match .by))
+ended : (c : tie.At-match-came Inv-loop μ-loop) → (let s = from-join c in Ended (prime (s .args .f .q)) (s .args .n) (poly (s .args .radicand .now) (s .args .size)) (s .args .budget) (s .args .n / 2 + 1) (c .match .at) (c .match .by))
 ended c =
     let v = c .before in
     let k = v .before .before .before .before .before in
@@ -216,15 +216,15 @@ ended c =
     let few = s .pre .1 .1 .0 .2 in
     let e = top-of s in
     elim (c .match .came) [
-      | inl w ↦ ended-at (w .1) (w .2) (w .3) (searching-ended n h e p few (l .loop .inv) (k .stride .ensures) (not-no _ (w .0 .keys2)) (v .stops .ensures))
+      | inl w ↦ ended-at (w .1) (w .2) (searching-ended n h e p few (l .loop .inv) (k .stride .ensures) (not-no _ (w .0 .keys2)) (v .stops .ensures))
       | inr r ↦ elim r [
         | inl w ↦
             let t1 = searching-next n h e p few (l .loop .inv) (k .stride .ensures) (w .1 .given .1) (v .stops .ensures) in
-            ended-at (w .14) (w .15) (w .16) (searching-ended n h e p few t1 (w .7 .ensures) (not-no _ (w .13 .keys2)) (w .12 .ensures))
+            ended-at (w .14) (w .15) (searching-ended n h e p few t1 (w .7 .ensures) (not-no _ (w .13 .keys2)) (w .12 .ensures))
         | inr w ↦
             let t1 = searching-next n h e p few (l .loop .inv) (k .stride .ensures) (w .1 .given .1) (v .stops .ensures) in
             let t2 = searching-next n h e p few t1 (w .7 .ensures) (w .14 .given .1) (w .12 .ensures) in
-            ended-at (w .27) (w .28) (w .29) (searching-ended n h e p few t2 (w .20 .ensures) (not-no _ (w .26 .keys2)) (w .25 .ensures))
+            ended-at (w .27) (w .28) (searching-ended n h e p few t2 (w .20 .ensures) (not-no _ (w .26 .keys2)) (w .25 .ensures))
       ]
     ]
 
