@@ -74,7 +74,6 @@ fn multiple(f: Field, x: &[u32; 129], y: &[u32; 129], earlier: usize, size: usiz
 // What the tests say at the index i before that of `at`, in the request's order: that of Q, then that of P. Last is
 // the budget b, spent where the index of `at` is b: the indices 0 to b − 1 are then tried. Q_i, of size `earlier`, is
 // in `before`, Q_{i+1} in `current`; `rest` and `remains` are the remainders before and after the step from `at` on.
-// Both Qs are of steps before that one: a Q just stored is slow to load.
 pub fn stops(
     f: Field,
     top: usize,
