@@ -7,9 +7,15 @@ struct tried {
     uint64_t degree, stops;
 };
 
+// lead stands for the product of 2/lc Q_j that a run keeps.
+struct made {
+    uint64_t degree, lead;
+};
+
 // The degree of p_{steps-1}, the sum of deg a_0 .. a_{steps-1}; 0 where the ticket is refused. bench_half also
-// counts how often the tests say that half the walk stops.
-extern uint64_t bench_walk(const uint32_t *ticket, size_t words, uint64_t steps);
+// counts how often the tests say that half the walk stops. An earlier engine's bench_walk returns the degree alone, in
+// the same register.
+extern struct made bench_walk(const uint32_t *ticket, size_t words, uint64_t steps);
 extern struct tried bench_half(const uint32_t *ticket, size_t words, uint64_t steps);
 
 int main(int argc, char **argv) {
@@ -24,7 +30,7 @@ int main(int argc, char **argv) {
     struct tried a = bench_half(ticket, words, steps);
     report((long)a.degree, (long)a.stops, seconds() - start);
 #else
-    uint64_t degree = bench_walk(ticket, words, steps);
+    uint64_t degree = bench_walk(ticket, words, steps).degree;
     // it does not count constants
     report((long)degree, -1, seconds() - start);
 #endif

@@ -54,7 +54,7 @@ struct foskadoin_numbers {
     };
     union {
         uint64_t third;
-        uint64_t constant; /* found: c = p^2 - D s^2, the norm of the unit, 1 to q - 1; for half 0. Spent: 0 */
+        uint64_t constant; /* found: c = p^2 - D s^2, the norm of the monic unit, 1 to q - 1; for half 0. Spent: 0 */
     };
 };
 
@@ -99,10 +99,10 @@ struct foskadoin_several foskadoin_regulators(const uint32_t *ticket, size_t tic
    deg p up to deg p_(2b-1), which is at least deg p_(b-1). */
 struct foskadoin_numbers foskadoin_half(const uint32_t *ticket, size_t ticket_length);
 
-/* The unit p + s sqrt(D) in four lists of R + 1 places or more. Refusals 1 to 7, 11 and 12.
-   Found: places 0 to R of p and s are the coefficients, from the constant term on, with zeros above the degree;
-   places 0 to R of x and y are 0; every later place of the four is as before the call. After a refusal, 11 too,
-   every place of the four is as before the call. */
+/* The monic unit p + s sqrt(D) in four lists of R + 1 places or more. Refusals 1 to 7, 11 and 12.
+   Found: places 0 to R of p and s are the coefficients, from the constant term on, with zeros above the degree; p is
+   monic, so place R of it is 1, and s is monic, of degree R - n/2; places 0 to R of x and y are 0; every later place
+   of the four is as before the call. After a refusal, 11 too, every place of the four is as before the call. */
 struct foskadoin_numbers foskadoin_unit(const uint32_t *ticket, size_t ticket_length,
                                         uint32_t *p, size_t p_length, uint32_t *s, size_t s_length,
                                         uint32_t *x, size_t x_length, uint32_t *y, size_t y_length);
@@ -177,8 +177,11 @@ struct foskadoin_giant_step_numbers foskadoin_giant_step(const uint32_t *ticket,
    The walk, the continued fraction of sqrt(D). d is the monic polynomial of degree n/2 with deg(D - d^2) <
    n/2; P_0 = 0, Q_0 = 1, a_0 = d; then P_i = a_(i-1) Q_(i-1) - P_(i-1), Q_i = (D - P_i^2) / Q_(i-1), a_i =
    (P_i + d) div Q_i. p_(-1) = 1, p_0 = d, p_i = a_i p_(i-1) + p_(i-2); s_(-1) = 0, s_0 = 1, and s_i likewise.
-   The quasi-period m is the least i from 1 on with Q_i constant, the regulator R = deg p_(m-1), and the unit
-   (the fundamental unit up to a constant factor) is p = p_(m-1), s = s_(m-1).
+   The quasi-period m is the least i from 1 on with Q_i constant, and the regulator R = deg p_(m-1).
+
+   The unit (the fundamental unit up to a constant factor) is monic: p = p_(m-1) / t and s = s_(m-1) / t, with t the
+   leading coefficient of p_(m-1), which is also that of s_(m-1). The constant is its norm, c = p^2 - D s^2 =
+   (-1)^m Q_m / t^2.
 
    Half the walk. foskadoin_half tries the indices i = 0 to b - 1. It stops at the first where Q_(i+1) is a
    constant times Q_i, with m = 2i + 1 and R = 2 (deg a_1 + .. + deg a_i) + n/2, or else P_(i+1) = P_(i+2), with
@@ -186,8 +189,8 @@ struct foskadoin_giant_step_numbers foskadoin_giant_step(const uint32_t *ticket,
 
    Least degree. Of all polynomials p and s modulo q with s not 0 and p^2 - D s^2 a constant other than 0:
    where the answer is found, none has deg p < R, and where deg p = R they are the unit's times a constant, s
-   perhaps with the other sign; where it is spent, none has deg p <= the degree reached, and where half is spent,
-   none has deg p <= deg p_(2b-1).
+   perhaps with the other sign, so that the unit alone has both monic; where it is spent, none has deg p <= the
+   degree reached, and where half is spent, none has deg p <= deg p_(2b-1).
 
    Several primes. If p^2 - D s^2 = c has a solution with complex coefficients, s not 0 and c a constant other than
    0, then R is the same at every prime that is not refused, the degree of p at its least. So a difference decides:

@@ -1,6 +1,8 @@
 #!/usr/bin/env python3
 """Checks every line of the vectors against documents 01 and 02, followed word by word: the walk, the formulas, the order of
-refusals."""
+refusals, the lines that the program prints."""
+import glob
+import json
 import os
 import sys
 
@@ -138,21 +140,24 @@ def step(q, D, d, P, Q):
 
 
 def walk(w, unit=False):
-    """The answer, the pairs (P_i, Q_i) for i below the steps made with deg p_{i-1}, and the last convergent if asked for."""
+    """The answer, the pairs (P_i, Q_i) for i below the steps made with deg p_{i-1}, and the last convergent if asked for.
+    R-3 divides (-1)^m Q_m by the square of p_{m-1}'s leading coefficient. As p_i = a_i p_{i-1} + p_{i-2} and every a_i has a
+    degree of 1 or more, that is the product of the leading coefficients of the a_i."""
     q, g, D, b = read(w)
     d = floor_root(q, g, D)
-    P, Q, degree, seen = [], [1], 0, []
+    P, Q, degree, lead, seen = [], [1], 0, 1, []
     p, s = ([1], []), ([], [1])
     for i in range(b):
         seen.append((P, Q, degree))
         a, P, Q = step(q, D, d, P, Q)
         degree += deg(a)
+        lead = lead * a[-1] % q
         if unit:
             p = add(q, mul(q, a, p[0]), p[1]), p[0]
             s = add(q, mul(q, a, s[0]), s[1]), s[0]
         if deg(Q) == 0:
             m = i + 1
-            return [0, degree, m, Q[0] if m % 2 == 0 else q - Q[0]], seen, (p[0], s[0])
+            return [0, degree, m, (-1) ** m * Q[0] * pow(lead, -2, q) % q], seen, (p[0], s[0])
     return [11, b, degree, 0], seen, None
 
 
@@ -221,11 +226,24 @@ def pad(a, k):
 
 
 def unit(w):
+    """R-3: p is made monic, s is divided by the same constant."""
     answer, _, (p, s) = walk(w, True)
     assert deg(p) == answer[1]
     q, g, D, b = read(w)
+    p, s = monic(q, p), mul(q, s, [pow(p[-1], -1, q)])
     assert sub(q, mul(q, p, p), mul(q, D, mul(q, s, s))) == [answer[3]]
     return answer + pad(p, answer[1] + 1) + pad(s, answer[1] + 1)
+
+
+def lent_unit(w, lengths, fill):
+    """The answer and every place of the four lists at the end."""
+    answer, written = regulator(w), [[], [], [], []]
+    if answer[0] == 0 and min(lengths) < answer[1] + 1:
+        answer = [12, 0, 0, 0]
+    if answer[0] == 0:
+        both, places = unit(w)[4:], answer[1] + 1
+        written = [both[:places], both[places:], [0] * places, [0] * places]
+    return answer + [v for length, list_ in zip(lengths, written) for v in list_ + [fill] * (length - len(list_))]
 
 
 def listing(w):
@@ -242,6 +260,51 @@ def listing(w):
         out += [8 * KIND + v for v in pad(monic(q, Q), g + 1)]
         out += [9 * KIND + v for v in pad(mod(q, P, Q), g)]
     return answer + [len(out)] + out
+
+
+def lent_listing(w, lengths, fill):
+    """The answer and every place of the list at the end."""
+    row, (length,) = listing(w), lengths
+    answer, written = row[:4], row[5:]
+    if len(written) > length:
+        answer, written = [13, 0, 0, 0], []
+    return answer + written + [fill] * (length - len(written))
+
+
+# ---- the program
+
+READ, LENT = 280, 8192  # the bytes that "orders" reads; the words of the listing that it lends
+
+
+def lines_of(data):
+    """The lines that "orders" prints for these bytes."""
+    data = data[:READ]
+    if len(data) % 4:
+        return ["refused 1"]
+    w = [int.from_bytes(data[i:i + 4], "little") for i in range(0, len(data), 4)]
+    r = refusal(w)
+    if r:
+        return [f"refused {r}"]
+    answer, seen, _ = walk(w)
+    if answer[0]:
+        return [f"spent {answer[1]} {answer[2]}"]
+    q, g, D, b = read(w)
+    if answer[2] * (2 * g + 6) > LENT:
+        return ["refused 13"]
+    lines = ["found " + " ".join(map(str, answer[1:]))]
+    for index, (P, Q, distance) in enumerate(seen, 1):
+        record = [index, distance, answer[1] - distance] + pad(monic(q, Q), g + 1) + pad(mod(q, P, Q), g)
+        lines.append(" ".join(map(str, record)))
+    return lines
+
+
+def program_samples():
+    """The program's cases in the files of samples: file and line, the bytes of standard input, the printed lines."""
+    for path in sorted(glob.glob(os.path.join(HERE, "samples", "*.jsonl"))):
+        with open(path) as file:
+            for at, case in enumerate(map(json.loads, file), 1):
+                if case["call"] == "orders":
+                    yield f"samples/{os.path.basename(path)}:{at}", bytes.fromhex(case["hex"]), case["answer"]
 
 
 # ---- product and giant step
@@ -316,12 +379,17 @@ def expected(name, numbers):
         Q1, P1, y1 = numbers.counted(), numbers.counted(), numbers.wide()
         Q2, P2, y2 = numbers.counted(), numbers.counted(), numbers.wide()
         return combine(w, Q1, P1, y1, Q2, P2, y2)
-    return {"regulators": regulator, "half": half, "several": several, "units": unit, "listings": listing}[name](w)
+    if name in ("samples/units", "samples/listings"):
+        lengths, fill = numbers.counted(), numbers.take(1)[0]
+        return (lent_unit if name == "samples/units" else lent_listing)(w, lengths, fill)
+    calls = {"regulators": regulator, "half": half, "several": several, "units": unit, "listings": listing}
+    return calls[os.path.basename(name)](w)
 
 
 def main():
     wrong = 0
-    for name in ["regulators", "half", "several", "units", "listings", "products", "samples/regulators", "samples/several", "samples/half"]:
+    files = ["regulators", "half", "several", "units", "listings", "products"]
+    for name in files + ["samples/" + name for name in files[:-1]]:
         jobs = total = 0
         tally = {}
         with open(os.path.join(HERE, name + ".txt")) as file:
@@ -329,13 +397,19 @@ def main():
                 numbers = Numbers(line)
                 total += len(numbers.rest)
                 jobs += 1
-                mine = expected(os.path.basename(name), numbers)
+                mine = expected(name, numbers)
                 for kind in mine[1::4] if "several" in name else mine[:1]:
                     tally[kind] = tally.get(kind, 0) + 1
                 if mine != numbers.rest:
                     wrong += 1
                     print(f"{name}.txt:{at}: the documents give {mine}, the line has {numbers.rest}")
         print(f"{name}: {jobs} jobs, {total} numbers; by answer: " + ", ".join(f"{k}: {tally[k]}" for k in sorted(tally)))
+    cases = list(program_samples())
+    for where, data, lines in cases:
+        if lines_of(data) != lines:
+            wrong += 1
+            print(f"{where}: the documents give {lines_of(data)}, the case has {lines}")
+    print(f"samples of the program: {len(cases)}")
     sys.exit(1 if wrong else 0)
 
 

@@ -41,13 +41,14 @@ def ticket(q, D, b):
 
 
 def walk(q, D):
-    """R, m, c and the degree one step before."""
+    """R, m, c and the degree one step before. No convergent is made: the leading coefficient of p_{m-1}, by whose square R-3
+    divides (-1)^m Q_m, is the product of those of the partial quotients."""
     d = check.floor_root(q, len(D) // 2 - 1, D)
-    P, S, degree, before, i = [], [1], 0, 0, 0
+    P, S, degree, before, lead, i = [], [1], 0, 0, 1, 0
     while i == 0 or len(S) > 1:
         a, P, S = check.step(q, D, d, P, S)
-        before, degree, i = degree, degree + check.deg(a), i + 1
-    return degree, i, S[0] if i % 2 == 0 else q - S[0], before
+        before, degree, lead, i = degree, degree + check.deg(a), lead * a[-1] % q, i + 1
+    return degree, i, (-1) ** i * S[0] * pow(lead, -2, q) % q, before
 
 
 def main():

@@ -46,10 +46,10 @@ expand(D, most) =
   old;
 };
 
-\\ [number, three values]: found R m c is 0 R m c; spent k e is 11 k e 0; a refusal has zeros.
+\\ [number, three values]: found R m c is 0 R m c, with c the norm of the monic pair; spent k e is 11 k e 0; a refusal has zeros.
 answer(w) =
 {
-  my(r = refusal(w), n, D, b, list, m, C, e);
+  my(r = refusal(w), n, D, b, list, m, p, s, e);
   if (r, return([r, 0, 0, 0]));
   n = value(w[2]); b = value(w[n + 4]);
   D = poly([value(v) | v <- w[3 .. n + 3]], value(w[1]));
@@ -57,10 +57,10 @@ answer(w) =
   list = expand(D, min(b, 6000));
   m = if (poldegree(list[#list]) == n / 2 && #list > 1, #list - 1, 0);
   if (m && m <= b,
-    C = continuant(list, 1, m);
-    e = norm2(D, C[1, 1], C[2, 1]);
+    [p, s] = monicpair(list, m);
+    e = norm2(D, p, s);
     if (poldegree(e) != 0, error("the norm is not constant"));
-    return([0, poldegree(C[1, 1]), m, lift(polcoef(e, 0))]));
+    return([0, poldegree(p), m, lift(polcoef(e, 0))]));
   if (!m && #list <= b, error("neither found nor spent"));
   [11, b, sum(j = 1, b, poldegree(list[j])), 0];
 };
@@ -296,12 +296,12 @@ printed = [[3, [1, 1, 0, 0, 1], 6], [3, [1, 0, 1], 1], [5, [2, 0, 0, 0, 1], 1]];
 \\ The k coefficients of f, zeros above its degree.
 pad(f, k) = { my(c = numbers(f)); concat(c, vector(k - #c)) };
 
-\\ The unit of D as two lists of R + 1 coefficients.
+\\ The monic unit of D as two lists of R + 1 coefficients.
 unit(w, R, m) =
 {
-  my(n = value(w[2]), q = value(w[1]), D = poly([value(v) | v <- w[3 .. n + 3]], q), C = continuant(expand(D, m), 1, m));
-  if (q^(R - n / 2) <= 3000 && !least(D, q, R), error("not least"));
-  concat(pad(C[1, 1], R + 1), pad(C[2, 1], R + 1));
+  my(n = value(w[2]), q = value(w[1]), D = poly([value(v) | v <- w[3 .. n + 3]], q), pair1 = monicpair(expand(D, m), m));
+  if (q^(R - n / 2) <= 3000 && pair1 != least(D, q, R), error("not the least pair"));
+  concat(pad(pair1[1], R + 1), pad(pair1[2], R + 1));
 };
 
 units() =

@@ -49,19 +49,23 @@ continuant(list, from, to) =
   continuant(list, from, middle) * continuant(list, middle + 1, to);
 };
 
-\\ p^2 - D s^2 of a convergent.
+\\ p^2 - D s^2.
 norm2(D, p, s) = p^2 - D * s^2;
 
-\\ No p with s nonzero and p^2 - D s^2 constant has a degree below R: every s is tried, against the root of D s^2.
+\\ The convergent [p, s] of list[1 .. m], divided by the leading coefficient of its p.
+monicpair(list, m) = { my(C = continuant(list, 1, m)); [C[1, 1], C[2, 1]] / pollead(C[1, 1]) };
+
+\\ The [p, s] of least degree with s monic and p^2 - D s^2 constant, up to deg p = R; [] where there is none. Every s is tried, against
+\\ the root of D s^2, which is monic too. A constant times s has that constant times the root beside it.
 least(D, q, R) =
 {
-  my(n = poldegree(D), s, e);
-  for (j = 0, R - n / 2 - 1,
+  my(n = poldegree(D), s, e, p);
+  for (j = 0, R - n / 2,
     for (i = 0, q^j - 1,
-      s = x^j + Pol(digits(i, q)) * Mod(1, q);
-      e = D * s^2;
-      if (poldegree(root(e, 0)^2 - e) <= 0, return(0))));
-  1;
+      s = (x^j + Pol(digits(i, q))) * Mod(1, q);
+      e = D * s^2; p = root(e, 0);
+      if (poldegree(p^2 - e) <= 0, return([p, s]))));
+  [];
 };
 
 \\ The module spanned by the columns of M over 1, sqrt(D), as [S, Q, P] with basis S*Q, S*(P + sqrt(D)).

@@ -1,5 +1,5 @@
 // Calls the static library from C: every stored vector, every lent list to its last place, what a refusal leaves as
-// it was, and half the walk against the whole.
+// it was, the sample answers, and half the walk against the whole.
 #include <inttypes.h>
 #include <string.h>
 #include "../../include/foskadoin.h"
@@ -184,6 +184,31 @@ static void units(FILE *file) {
     }
 }
 
+// The sample answers of the calls that are lent lists, four for the unit and one for the listing: the line has the
+// lists' lengths and the number in every place of them, then the answer and every place at the end.
+static void lent(FILE *file, size_t lists) {
+    for (; next_line(file); jobs++) {
+        size_t words, length[4];
+        uint32_t *ticket = counted(&words), *l[4], four[4];
+        if (number() != lists) exit(2);
+        for (size_t i = 0; i < lists; i++) l[i] = list(length[i] = number(), NULL);
+        uint32_t fill = number();
+        for (size_t i = 0; i < lists; i++)
+            for (size_t j = 0; j < length[i]; j++) l[i][j] = fill;
+        for (size_t i = 0; i < 4; i++) four[i] = number();
+        struct foskadoin_numbers a =
+            lists == 4 ? foskadoin_unit(ticket, words, l[0], length[0], l[1], length[1], l[2], length[2], l[3], length[3])
+                       : foskadoin_listing(ticket, words, l[0], length[0]);
+        expect(same(a, words, four), "the sample's answer");
+        for (size_t i = 0; i < lists; i++) {
+            for (size_t j = 0; j < length[i]; j++) expect(l[i][j] == number(), "the sample's list");
+            free(l[i]);
+        }
+        expect(at == count, "the end of the line");
+        free(ticket);
+    }
+}
+
 static uint64_t distance(const uint32_t *record) {
     return (uint64_t)(record[1] & 0xfffffff) << 28 | (record[2] & 0xfffffff);
 }
@@ -273,7 +298,9 @@ int main(int argc, char **argv) {
     several(vectors(argv[1], "several.txt"));
     several(vectors(argv[1], "samples/several.txt"));
     units(vectors(argv[1], "units.txt"));
+    lent(vectors(argv[1], "samples/units.txt"), 4);
     listings(vectors(argv[1], "listings.txt"));
+    lent(vectors(argv[1], "samples/listings.txt"), 1);
     products(vectors(argv[1], "products.txt"));
     expect(same(foskadoin_regulator(NULL, 0), 0, (uint32_t[]){FOSKADOIN_WRONG_HEAD, 0, 0, 0}), "no ticket");
     expect(same(foskadoin_half(NULL, 0), 0, (uint32_t[]){FOSKADOIN_WRONG_HEAD, 0, 0, 0}), "half of no ticket");
@@ -283,5 +310,5 @@ int main(int argc, char **argv) {
     expect(none.words == 0 && none.count == 1 && out[0] == FOSKADOIN_WRONG_SHAPE && !out[1], "no ticket at several primes");
     printf("C: %zu jobs, %zu tickets by half the walk and by the whole, %zu wrong\n", jobs, compared, wrong);
     // every line of the files was read
-    return wrong != 0 || jobs != 3067;
+    return wrong != 0 || jobs != 3135;
 }

@@ -1,4 +1,4 @@
-// Calls the static library from Rust: every stored vector, and half the walk against the whole.
+// Calls the static library from Rust: every stored vector, the sample answers, and half the walk against the whole.
 use std::fs;
 
 #[repr(C)]
@@ -188,6 +188,17 @@ fn several(mut line: Line) {
     }
 }
 
+// A sample answer of a call that is lent lists: their lengths and the number in every place of them, then the answer
+// and every place at the end.
+fn lent(mut line: Line, call: impl Fn(&[u32], &mut [Vec<u32>]) -> Numbers) {
+    let (ticket, lengths, fill) = (line.counted(), line.counted(), line.take(1)[0]);
+    let mut l: Vec<Vec<u32>> = lengths.iter().map(|n| vec![fill; *n as usize]).collect();
+    says(&call(&ticket, &mut l), &ticket, &line.take(4));
+    let want: Vec<Vec<u32>> = lengths.iter().map(|n| line.take(*n as usize)).collect();
+    assert_eq!(l, want);
+    assert_eq!(line.1, line.0.len());
+}
+
 fn main() {
     let folder = std::env::args().nth(1).expect("the folder of the vectors");
     let mut jobs = 0;
@@ -220,6 +231,14 @@ fn main() {
         says(&unit(&ticket, &mut l), &ticket, &four);
         let want = [line.take(places), line.take(places), vec![0; places], vec![0; places]].map(|w| [w, vec![9]].concat());
         assert_eq!(l, want);
+        jobs += 1;
+    }
+    for line in lines(&folder, "samples/units.txt") {
+        lent(line, |ticket, l| unit(ticket, l.try_into().unwrap()));
+        jobs += 1;
+    }
+    for line in lines(&folder, "samples/listings.txt") {
+        lent(line, |ticket, l| listing(ticket, &mut l[0]));
         jobs += 1;
     }
     for mut line in lines(&folder, "listings.txt") {
@@ -256,6 +275,6 @@ fn main() {
         assert_eq!(b.distance, sign * line.wide() as i64);
         jobs += 1;
     }
-    assert_eq!(jobs, 3067);
+    assert_eq!(jobs, 3135);
     println!("Rust: {jobs} jobs, {compared} tickets by half the walk and by the whole, 0 wrong");
 }

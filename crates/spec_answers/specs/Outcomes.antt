@@ -15,22 +15,20 @@ use Rattle.spec_definitions.specs.Walk as walk
 use Rattle.spec_definitions.specs.Answers.{Outcome, found, spent, refused, Said, said, said-injective, opsOf, rootOf, wordsOutcome, regulatorOf}
 use Rattle.spec_definitions.specs.Units.{Lists, unitAnswer}
 use Rattle.spec_definitions.specs.Listing.{listingAnswer}
+use Rattle.spec_laws.specs.Admitted.{admitted}
 use Rattle.spec_laws.specs.Cases.{spent-not-found, refused-not-found, refused-not-spent, found-numbers, spent-numbers}
 use Rattle.spec_refusals.specs.LentLists.{Short, t1-lists}
-use Rattle.spec_demands.specs.Continued.{signed, Walks, t2}
+use Rattle.spec_demands.specs.Continued.{ConstantAt, Walks, constant-told, t2}
 use Rattle.spec_expansion.specs.QuasiPeriod.{IsQuasiPeriod, quasi-period-unique, t2-exists}
 
 module _ (t : Ticket) where
-  abbrev Q : ℕ → List ℕ
-  Q = walk.Q (opsOf t) (t .D) (rootOf t)
-
   -- deg p_{i−1}
   abbrev pub degreeAt : ℕ → ℕ
   degreeAt i = deg (opsOf t) (walk.pBefore (opsOf t) (t .D) (rootOf t) i)
 
-  -- "found with R, m, c": R = deg p_{m−1} and c = (−1)^m·Q_m
+  -- "found with R, m, c": R = deg p_{m−1} and c = (−1)^m·Q_m over the square of the leading coefficient of p_{m−1}
   abbrev pub FoundAt : ℕ → Said → Type 0
-  FoundAt m says = (c : ℕ) × (c ∷ [] ≡ signed (opsOf t) m (Q m)) × (says ≡ said (found (degreeAt m) m c))
+  FoundAt m says = (c : ℕ) × ConstantAt (t .field) (t .D) (rootOf t) m c × (says ≡ said (found (degreeAt m) m c))
 
   -- "spent .. Carries the steps made, b, and the degree reached", which is deg p_{b−1}
   abbrev pub SpentAll : Said → Type 0
@@ -44,7 +42,7 @@ module _ (t : Ticket) where
     -- "and nothing else": one of the two is said; a found answer has these numbers and no others, and so has
     -- a spent one; no refusal is said
     pub either : FoundAt m says ⊎ SpentAll says
-    pub found-only : (R k c : ℕ) → says ≡ said (found R k c) → (R ≡ degreeAt m) × (k ≡ m) × (c ∷ [] ≡ signed (opsOf t) m (Q m))
+    pub found-only : (R k c : ℕ) → says ≡ said (found R k c) → (R ≡ degreeAt m) × (k ≡ m) × ConstantAt (t .field) (t .D) (rootOf t) m c
     pub spent-only : (k e : ℕ) → says ≡ said (spent k e) → (k ≡ t .b) × (e ≡ degreeAt (t .b))
     pub never-refused : (j : ℕ) → says ≢ said (refused j)
 
@@ -73,9 +71,6 @@ abbrev pub T2OutcomeUnique : Type 0
 T2OutcomeUnique = (w : List ℕ) → refusalOf w ≡ 0 → (m : ℕ) → IsQuasiPeriod (ticketOf w) m → (x : Outcome) → FoundOrSpent (ticketOf w) m (said x) → x ≡ wordsOutcome w
 
 -- ---- the proof
-same-head : {a b : ℕ} → _≡_ {A = List ℕ} (a ∷ []) (b ∷ []) → a ≡ b
-same-head h = cc
-
 module _ (t : Ticket) (m : ℕ) where
   found-not-spent : (says : Said) → FoundAt t m says → SpentAll t says → ⊥
   found-not-spent says (c, _, e) f = spent-not-found _ _ _ _ _ (said-injective _ _ (sym f ∙ e))
@@ -86,7 +81,7 @@ module _ (t : Ticket) (m : ℕ) where
     within = (found-within, λ f. ⊎-elim (λ l. l) (λ l. absurd (found-not-spent says f (spent-beyond l))) (le-or-lt m (t .b)));
     beyond = (spent-beyond, λ s. ⊎-elim (λ l. absurd (found-not-spent says (found-within l) s)) (λ l. l) (le-or-lt m (t .b)));
     either = either;
-    found-only = λ R k c e. ⊎-elim (λ f. let n = found-numbers (said-injective _ _ (sym e ∙ f .2)) in (n .0, n .1, ap (λ (a : ℕ). a ∷ []) (n .2) ∙ f .1)) (λ s. absurd (spent-not-found _ _ _ _ _ (said-injective _ _ (sym s ∙ e)))) either;
+    found-only = λ R k c e. ⊎-elim (λ f. let n = found-numbers (said-injective _ _ (sym e ∙ f .2)) in (n .0, n .1, subst (ConstantAt (t .field) (t .D) (rootOf t) m) (sym (n .2)) (f .1))) (λ s. absurd (spent-not-found _ _ _ _ _ (said-injective _ _ (sym s ∙ e)))) either;
     spent-only = λ k d e. ⊎-elim (λ f. absurd (spent-not-found _ _ _ _ _ (said-injective _ _ (sym e ∙ f .2)))) (λ s. spent-numbers (said-injective _ _ (sym e ∙ s))) either;
     never-refused = λ j e. ⊎-elim (λ f. refused-not-found _ _ _ _ (said-injective _ _ (sym e ∙ f .2))) (λ s. refused-not-spent _ _ _ (said-injective _ _ (sym e ∙ s))) either;
   }
@@ -94,25 +89,25 @@ module _ (t : Ticket) (m : ℕ) where
       either : FoundAt t m says ⊎ SpentAll t says
       either = ⊎-elim (λ l. inl (found-within l)) (λ l. inr (spent-beyond l)) (le-or-lt m (t .b))
 
-  -- two answers of which it holds are the same
-  said-unique : (x y : Said) → FoundOrSpent t m x → FoundOrSpent t m y → x ≡ y
-  said-unique x y h k = ⊎-elim (λ l. found-same (h .within .0 l) (k .within .0 l)) (λ l. h .beyond .0 l ∙ sym (k .beyond .0 l)) (le-or-lt m (t .b))
+  -- two answers of which it holds are the same, as two constants are
+  said-unique : ((a b : ℕ) → ConstantAt (t .field) (t .D) (rootOf t) m a → ConstantAt (t .field) (t .D) (rootOf t) m b → a ≡ b) → (x y : Said) → FoundOrSpent t m x → FoundOrSpent t m y → x ≡ y
+  said-unique one x y h k = ⊎-elim (λ l. found-same (h .within .0 l) (k .within .0 l)) (λ l. h .beyond .0 l ∙ sym (k .beyond .0 l)) (le-or-lt m (t .b))
     where
       found-same : FoundAt t m x → FoundAt t m y → x ≡ y
-      found-same (a, u, e) (b, v, f) = e ∙ ap (λ (c : ℕ). said (found (degreeAt t m) m c)) (same-head (u ∙ sym v)) ∙ sym f
+      found-same (a, u, e) (b, v, f) = e ∙ ap (λ (c : ℕ). said (found (degreeAt t m) m c)) (one a b u v) ∙ sym f
 
 -- ---- the outcome of the words
 module _ (w : List ℕ) (past : refusalOf w ≡ 0) (m : ℕ) (h : IsQuasiPeriod (ticketOf w) m) where
   abbrev t : Ticket
   t = ticketOf w
 
-  within-found : m ≤ t .b → (c : ℕ) × (c ∷ [] ≡ signed (opsOf t) m (Q t m)) × (wordsOutcome w ≡ found (degreeAt t m) m c)
+  within-found : m ≤ t .b → (c : ℕ) × ConstantAt (t .field) (t .D) (rootOf t) m c × (wordsOutcome w ≡ found (degreeAt t m) m c)
   within-found l = go (wordsOutcome w) (t2 w past)
     where
-      go : (x : Outcome) → Walks t x → (c : ℕ) × (c ∷ [] ≡ signed (opsOf t) m (Q t m)) × (x ≡ found (degreeAt t m) m c)
+      go : (x : Outcome) → Walks t x → (c : ℕ) × ConstantAt (t .field) (t .D) (rootOf t) m c × (x ≡ found (degreeAt t m) m c)
       go (found R n c) k =
           let e : n ≡ m = quasi-period-unique t n m (record { positive = k .ends .positive; constant = k .ends .constant; least = k .ends .least }) h in
-          (c, subst (λ (i : ℕ). c ∷ [] ≡ signed (opsOf t) i (Q t i)) e (k .ends .value), ap (λ (r : ℕ). found r n c) (k .ends .regulator) ∙ ap (λ (i : ℕ). found (degreeAt t i) i c) e)
+          (c, subst (λ (i : ℕ). ConstantAt (t .field) (t .D) (rootOf t) i c) e (k .ends .value), ap (λ (r : ℕ). found r n c) (k .ends .regulator) ∙ ap (λ (i : ℕ). found (degreeAt t i) i c) e)
       go (spent k e) x = absurd (x .ends .none-constant m (h .positive) l (h .constant))
       go (refused j) x = absurd (x .ends)
 
@@ -147,4 +142,8 @@ pub t2-listing : T2Listing
 t2-listing w l past = let (m, h) = t2-exists w past in (m, h, listing-said w past m h l)
 
 pub t2-outcome-unique : T2OutcomeUnique
-t2-outcome-unique w past m h x f = said-injective x (wordsOutcome w) (said-unique (ticketOf w) m _ _ f (words-said w past m h))
+unfolding rootOf
+t2-outcome-unique w past m h x f = said-injective x (wordsOutcome w) (said-unique (ticketOf w) m (λ a b u v. told u ∙ sym (told v)) _ _ f (words-said w past m h))
+  where
+    told : {c : ℕ} → ConstantAt (ticketOf w .field) (ticketOf w .D) (rootOf (ticketOf w)) m c → c ≡ walk.constantOf (opsOf (ticketOf w)) (ticketOf w .D) (rootOf (ticketOf w)) m
+    told = constant-told (admitted w past) (h .positive) (h .constant)

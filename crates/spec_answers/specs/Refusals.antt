@@ -11,15 +11,16 @@ use mathlib.Core.List.{List, [], _∷_}
 use lib.ListN.{length, take, drop, length-drop}
 use lib.Seq.{length-take-le}
 use Rattle.math_ring.specs.Order.{le-or-lt}
-use Rattle.spec_arithmetic.specs.Field.{FieldName}
-use Rattle.spec_definitions.specs.Ticket.{ticketOf, refusalOf}
+use Rattle.spec_arithmetic.specs.Field.{FieldName, ops}
+use Rattle.spec_arithmetic.specs.Polynomials.{root}
+use Rattle.spec_definitions.specs.Ticket.{genus, ticketOf, refusalOf}
 use Rattle.spec_definitions.specs.Walk.{Ideal}
 use Rattle.spec_definitions.specs.Answers.{Outcome, found, spent, refused, Said, said, said-injective, rootOf, outcomeOf, wordsOutcome, regulatorOf}
 use Rattle.spec_definitions.specs.Units.{Lists, unitAnswer}
 use Rattle.spec_definitions.specs.Listing.{listingAnswer}
 use Rattle.spec_definitions.specs.Lookup.{recordAt, recordCount, lookupOf, placeOf}
 use Rattle.spec_definitions.specs.Products.{wrongPair, productAnswer, giantAnswer}
-use Rattle.spec_laws.specs.Admitted.{admitted}
+use Rattle.spec_laws.specs.Admitted.{Admitted, admitted}
 use Rattle.spec_laws.specs.Cases.{spent-not-found, refused-not-found, refused-not-spent}
 use Rattle.spec_sentences.specs.Sentences.{Applies}
 use Rattle.spec_sentences.specs.Tests.{tests-lt, tests-either, tests-stable, NoneBelow, none-more}
@@ -27,7 +28,7 @@ use Rattle.spec_sentences.specs.FirstRefusal.{t1}
 use Rattle.spec_refusals.specs.Pairs.{WrongPair, WrongDistance, PairRefusals, t1-pairs, tests-pairs, tests-distances}
 use Rattle.spec_refusals.specs.Lookups.{WrongListing, t1-lookups, t2-lookups, tests-listing}
 use Rattle.spec_refusals.specs.LentLists.{Short, at-least, found-passes, t1-lists}
-use Rattle.spec_demands.specs.Continued.{StopsAt, Spends, Ends, Walks, t2}
+use Rattle.spec_demands.specs.Continued.{StopsAt, Spends, Ends, Walks, constant-told, t2}
 
 -- sentence k is the first of 1 to 7 that applies to the words
 abbrev pub First : ℕ → List ℕ → Type 0
@@ -121,33 +122,37 @@ module _ (w : List ℕ) where
       go (suc n) z = let f : refused (suc n) ≡ refused k = sym (outcome-by (suc n) z) ∙ e in let g : suc n ≡ k = cc in number-first k (λ h. omega arith) (z ∙ g)
 
 -- ---- an outcome is told by the walk
-module _ (f : FieldName) (D d : List ℕ) (b : ℕ) where
+module _ {f : FieldName} {g : ℕ} {D : List ℕ} (h : Admitted f g D) (b : ℕ) where
+  abbrev d : List ℕ
+  d = root (ops f) D (suc g)
+
   stops-unique : {R m c R′ m′ c′ : ℕ} → StopsAt f D d b R m c → StopsAt f D d b R′ m′ c′ → found R m c ≡ found R′ m′ c′
-  stops-unique {R} {m} {c} {R′} {m′} {c′} s u = ⊎-elim (λ h. ⊎-elim (λ e. same (sym e)) (λ l. absurd (s .least m′ (u .positive) l (u .constant))) (eq-or-lt-of-le h)) (λ l. absurd (u .least m (s .positive) l (s .constant))) (le-or-lt m′ m)
+  stops-unique {R} {m} {c} {R′} {m′} {c′} s u = ⊎-elim (λ k. ⊎-elim (λ e. same (sym e)) (λ l. absurd (s .least m′ (u .positive) l (u .constant))) (eq-or-lt-of-le k)) (λ l. absurd (u .least m (s .positive) l (s .constant))) (le-or-lt m′ m)
     where
       same : m ≡ m′ → found R m c ≡ found R′ m′ c′
       same e =
           let t : StopsAt f D d b R m′ c = subst (λ (i : ℕ). StopsAt f D d b R i c) e s in
           let x : R ≡ R′ = t .regulator ∙ sym (u .regulator) in
-          let y : c ∷ [] ≡ c′ ∷ [] = t .value ∙ sym (u .value) in
+          let y : c ≡ c′ = constant-told h (t .positive) (t .constant) (t .value) ∙ sym (constant-told h (u .positive) (u .constant) (u .value)) in
           cc
 
   stops-only : (x : Outcome) → Ends f D d b x → (R m c : ℕ) → StopsAt f D d b R m c → x ≡ found R m c
-  stops-only (found R′ m′ c′) h R m c s = stops-unique h s
-  stops-only (spent k e) h R m c s = absurd (h .none-constant m (s .positive) (s .within) (s .constant))
-  stops-only (refused j) h R m c s = absurd h
+  stops-only (found R′ m′ c′) e R m c s = stops-unique e s
+  stops-only (spent k n) e R m c s = absurd (e .none-constant m (s .positive) (s .within) (s .constant))
+  stops-only (refused j) e R m c s = absurd e
 
-  spends-only : (x : Outcome) → Ends f D d b x → (k e : ℕ) → Spends f D d b k e → x ≡ spent k e
-  spends-only (found R m c) h k e s = absurd (s .none-constant m (h .positive) (h .within) (h .constant))
-  spends-only (spent k′ e′) h k e s = let x : k′ ≡ k = h .all ∙ sym (s .all) in let y : e′ ≡ e = h .reached ∙ sym (s .reached) in cc
-  spends-only (refused j) h k e s = absurd h
+spends-only : (f : FieldName) (D d : List ℕ) (b : ℕ) (x : Outcome) → Ends f D d b x → (k e : ℕ) → Spends f D d b k e → x ≡ spent k e
+spends-only f D d b (found R m c) h k e s = absurd (s .none-constant m (h .positive) (h .within) (h .constant))
+spends-only f D d b (spent k′ e′) h k e s = let x : k′ ≡ k = h .all ∙ sym (s .all) in let y : e′ ≡ e = h .reached ∙ sym (s .reached) in cc
+spends-only f D d b (refused j) h k e s = absurd h
 
 module _ (w : List ℕ) where
   ends-of : refusalOf w ≡ 0 → Ends (ticketOf w .field) (ticketOf w .D) (rootOf (ticketOf w)) (ticketOf w .b) (wordsOutcome w)
   ends-of z = t2 w z .ends
 
   stops-outcome : None w → (R m c : ℕ) → Stops w R m c → wordsOutcome w ≡ found R m c
-  stops-outcome none R m c s = stops-only (ticketOf w .field) (ticketOf w .D) (rootOf (ticketOf w)) (ticketOf w .b) (wordsOutcome w) (ends-of (passes w none)) R m c s
+  unfolding rootOf
+  stops-outcome none R m c s = stops-only (admitted w (passes w none)) (ticketOf w .b) (wordsOutcome w) (ends-of (passes w none)) R m c s
 
   spent-outcome : None w → (k e : ℕ) → Spent w k e → wordsOutcome w ≡ spent k e
   spent-outcome none k e s = spends-only (ticketOf w .field) (ticketOf w .D) (rootOf (ticketOf w)) (ticketOf w .b) (wordsOutcome w) (ends-of (passes w none)) k e s

@@ -11,7 +11,7 @@ use Rattle.math_ring.specs.Degree.{Below, below-add, below-conv, conv-none}
 use Rattle.spec_arithmetic.specs.Field.{Ops}
 use Rattle.spec_arithmetic.specs.Polynomials.{trim, add, sub, scale, mul}
 use Rattle.spec_bridge.specs.Model.{Model, series}
-use Rattle.spec_bridge.specs.Trim.{below-size, length-le}
+use Rattle.spec_bridge.specs.Trim.{below-size, length-le, length-trim}
 use Rattle.spec_bridge.specs.Arithmetic.{at-scale, trim-add, trim-sub, trim-scale, trim-mul, series-add, series-sub, series-mul}
 
 module _ {A B : Type 0} {o : Ops A} {R : CRing B} (M : Model o R) where
@@ -32,6 +32,9 @@ module _ {A B : Type 0} {o : Ops A} {R : CRing B} (M : Model o R) where
 
   pub length-scale : (c : A) (p : List A) → length (scale o c p) ≤ length (trim o p)
   length-scale c p = length-le M _ _ (trim-scale M c p) (λ i l. ap φ (at-scale M c p i) ∙ φ-mul _ _ ∙ ap (R .mul (φ c)) (below-size M p i l) ∙ mul-zer R (φ c))
+
+  pub length-multiple : (c : A) (p : List A) → length (scale o c p) ≤ length p
+  length-multiple c p = let e = length-scale c p in let k = length-trim M p in omega arith
 
   -- one less than the sum of both
   pub length-mul : (p q : List A) (n : ℕ) → length (trim o p) +ₙ length (trim o q) ≤ suc n → length (mul o p q) ≤ n

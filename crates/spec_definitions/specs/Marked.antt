@@ -12,7 +12,7 @@ use Rattle.spec_arithmetic.specs.Polynomials.{trim, size, deg, pad, zip, add, s
 use Rattle.spec_arithmetic.specs.Primes.{oddPrime, noDivisor}
 use Rattle.spec_arithmetic.specs.Words.{kind, value, word, high, low, joined, same, someNot, oneOf}
 use Rattle.spec_definitions.specs.Ticket.{ticketWords, genus, ticketOf, wrongHead, wrongPrime, wrongDegree, laterKinds, wrongLayout, wrongCoefficient, wrongLead, notSquarefree, firstOf, testsOf, refusalOf}
-use Rattle.spec_definitions.specs.Walk.{Ideal, partial, nextP, next, steps, walk, pBefore, sBefore, constant?, firstFrom, quasiPeriod, degreeBefore, unitOf, constantOf}
+use Rattle.spec_definitions.specs.Walk.{Ideal, partial, nextP, next, steps, walk, pBefore, sBefore, constant?, firstFrom, quasiPeriod, degreeBefore, overLead, unitOf, signedQ, constantOf}
 use Rattle.spec_definitions.specs.Answers.{Said, said, rootOf, outcomeOf, wordsOutcome, regulatorOf}
 use Rattle.spec_definitions.specs.Units.{UnitAnswer, longEnough, written, unitLists, unitFrom, unitAnswer}
 use Rattle.spec_definitions.specs.Listing.{ListingAnswer, idealOf, mirrorOf, recordWords, entryOf, recordOf, recordsFrom, listingOf, listingFrom, listingAnswer}
@@ -88,6 +88,10 @@ jobs =
     ∷ listing (example 6) 49
     ∷ listing (example 6) 47
     ∷ orders (bytes (example 6))
+    ∷ unit (ticket 5 (0 ∷ 1 ∷ 0 ∷ 0 ∷ 1 ∷ []) 2) 4
+    ∷ unit (ticket 7 (0 ∷ 4 ∷ 0 ∷ 0 ∷ 1 ∷ []) 2) 4
+    ∷ regulator (ticket 7 (0 ∷ 1 ∷ 0 ∷ 0 ∷ 1 ∷ []) 2)
+    ∷ orders (bytes (ticket 7 (0 ∷ 4 ∷ 0 ∷ 0 ∷ 1 ∷ []) 2))
     ∷ []
 
 -- a record's words of the example
@@ -131,8 +135,15 @@ printed =
     ∷ ((13 ∷ []) ∷ replicate 47 9 ∷ [])
     -- the printed example
     ∷ (ascii "found 7 6 1\n1 0 7 1 0 0\n2 2 5 1 1 1\n3 3 4 0 1 1\n4 4 3 2 1 0\n5 5 2 0 1 2\n6 6 1 1 1 2\n" ∷ [])
+    -- R-3, "the unit's p is monic": x^4 + x modulo 5, with p_1 = 2x³ + 1 and s_1 = 2x, has p = x³ + 3, s = x and
+    -- c = 1/4; x^4 + 4x modulo 7, with p_1 = 4x³ + 1 and s_1 = 4x, has p = x³ + 2, s = x and c = 1/16
+    ∷ ((0 ∷ 3 ∷ 2 ∷ 4 ∷ []) ∷ (3 ∷ 0 ∷ 0 ∷ 1 ∷ []) ∷ (0 ∷ 1 ∷ 0 ∷ 0 ∷ []) ∷ replicate 4 0 ∷ replicate 4 0 ∷ [])
+    ∷ ((0 ∷ 3 ∷ 2 ∷ 4 ∷ []) ∷ (2 ∷ 0 ∷ 0 ∷ 1 ∷ []) ∷ (0 ∷ 1 ∷ 0 ∷ 0 ∷ []) ∷ replicate 4 0 ∷ replicate 4 0 ∷ [])
+    -- "This alters .. the found answer and the program's first line": x^4 + x modulo 7 has c = 1/4
+    ∷ ((0 ∷ 3 ∷ 2 ∷ 2 ∷ []) ∷ [])
+    ∷ (ascii "found 3 2 4\n1 0 3 1 0 0\n2 2 1 0 1 0\n" ∷ [])
     ∷ []
 
 pub marked : map answerTo jobs ≡ printed
-unfolding inverse inverseIn fits trim size deg pad zip add sub scale mul lead put divide quo rem monic gcd gcdIn bezout bezoutIn times timesFrom derivative monomial root rootIn oddPrime noDivisor kind value word high low joined same someNot oneOf genus ticketOf wrongHead wrongPrime wrongDegree laterKinds wrongLayout wrongCoefficient wrongLead notSquarefree firstOf testsOf refusalOf partial nextP next steps walk pBefore sBefore constant? firstFrom quasiPeriod degreeBefore unitOf constantOf said rootOf outcomeOf wordsOutcome regulatorOf longEnough written unitLists unitFrom unitAnswer idealOf mirrorOf recordWords entryOf recordOf recordsFrom listingOf listingFrom listingAnswer recordAt distanceAt productOf reducedFrom turnsOf degreeSum shiftOf isPair wrongPair wrongDistance giantDone giantRefused giantAnswer ascii decimal decimalIn spaced line wordsOf readBytes cutWord firstLine recordLine recordLines answerLines programOf
+unfolding inverse inverseIn fits trim size deg pad zip add sub scale mul lead put divide quo rem monic gcd gcdIn bezout bezoutIn times timesFrom derivative monomial root rootIn oddPrime noDivisor kind value word high low joined same someNot oneOf genus ticketOf wrongHead wrongPrime wrongDegree laterKinds wrongLayout wrongCoefficient wrongLead notSquarefree firstOf testsOf refusalOf partial nextP next steps walk pBefore sBefore constant? firstFrom quasiPeriod degreeBefore overLead unitOf signedQ constantOf said rootOf outcomeOf wordsOutcome regulatorOf longEnough written unitLists unitFrom unitAnswer idealOf mirrorOf recordWords entryOf recordOf recordsFrom listingOf listingFrom listingAnswer recordAt distanceAt productOf reducedFrom turnsOf degreeSum shiftOf isPair wrongPair wrongDistance giantDone giantRefused giantAnswer ascii decimal decimalIn spaced line wordsOf readBytes cutWord firstLine recordLine recordLines answerLines programOf
 marked = refl

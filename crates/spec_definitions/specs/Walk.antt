@@ -6,14 +6,14 @@ use mathlib.Core.List.{List, [], _∷_}
 use mathlib.Core.Option.{Option, none, some}
 use lib.Dec.{eqb}
 use Rattle.spec_arithmetic.specs.Field.{Ops}
-use Rattle.spec_arithmetic.specs.Polynomials.{at, add, sub, mul, quo, size, deg}
+use Rattle.spec_arithmetic.specs.Polynomials.{at, add, sub, mul, scale, quo, size, deg, lead}
 
 -- the pair (Q, P)
 pub record Ideal (A : Type 0) : Type 0 where
   pub q : List A
   pub p : List A
 
--- the unit (p, s): p + s·√D is the fundamental unit of F_q[x, √D] up to a constant factor
+-- the unit (p, s): p + s·√D is the fundamental unit of F_q[x, √D] up to a constant factor; p is monic
 pub record Unit (A : Type 0) : Type 0 where
   pub p : List A
   pub s : List A
@@ -81,10 +81,18 @@ module _ {A : Type 0} (o : Ops A) (D d : List A) where
   unfoldable pub degreeBefore : ℕ → ℕ
   degreeBefore i = deg o (pBefore i)
 
-  -- "(p_{m−1}, s_{m−1}) the unit"
-  unfoldable pub unitOf : ℕ → Unit A
-  unitOf m = record { p = pBefore m; s = sBefore m }
+  -- 1/λ, where λ is the leading coefficient of p_{m−1}
+  unfoldable pub overLead : ℕ → A
+  overLead m = o .inv (lead o (pBefore m))
 
-  -- "c = (−1)^m·Q_m the constant": the unit's norm, p² − D·s²
+  -- "(p_{m−1}, s_{m−1}) the unit"; R-3: "From now on the unit's p is monic, s is divided by the same constant"
+  unfoldable pub unitOf : ℕ → Unit A
+  unitOf m = record { p = scale o (overLead m) (pBefore m); s = scale o (overLead m) (sBefore m) }
+
+  -- (−1)^m·Q_m, the norm p_{m−1}² − D·s_{m−1}²
+  unfoldable pub signedQ : ℕ → A
+  signedQ m = elim (eqb (m % 2) 0) [ true ↦ at o (Q m) 0 | false ↦ o .sub (o .zer) (at o (Q m) 0) ]
+
+  -- "c = (−1)^m·Q_m the constant"; R-3: "and c by its square": the norm p² − D·s² of the monic unit
   unfoldable pub constantOf : ℕ → A
-  constantOf m = elim (eqb (m % 2) 0) [ true ↦ at o (Q m) 0 | false ↦ o .sub (o .zer) (at o (Q m) 0) ]
+  constantOf m = o .mul (o .mul (overLead m) (overLead m)) (signedQ m)

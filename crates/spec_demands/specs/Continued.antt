@@ -18,7 +18,7 @@ use Rattle.math_algebra.specs.Root.{IsRoot, root-unique}
 use Rattle.math_ring.specs.Identity.{ring-from, times, quote}
 use Rattle.math_ring.specs.Series.{Series, addS, negS, conv}
 use Rattle.spec_arithmetic.specs.Field.{FieldName, Ops, ops, reading}
-use Rattle.spec_arithmetic.specs.Polynomials.{size, deg, add, sub, mul, root}
+use Rattle.spec_arithmetic.specs.Polynomials.{size, deg, lead, add, sub, mul, root}
 use Rattle.spec_definitions.specs.Ticket.{Ticket, genus, ticketOf, refusalOf}
 use Rattle.spec_definitions.specs.Walk.{quasiPeriod, degreeBefore, constantOf}
 use Rattle.spec_definitions.specs.Walk as walk
@@ -26,7 +26,7 @@ use Rattle.spec_definitions.specs.Answers.{Outcome, found, spent, refused, opsO
 use Rattle.spec_bridge.specs.Model.{Model, series}
 use Rattle.spec_bridge.specs.Trim.{below-size, size-le, size-is, size-series}
 use Rattle.spec_bridge.specs.Arithmetic.{series-add, series-sub, series-mul}
-use Rattle.spec_fields.specs.Named.{arithmetic, same-reading, reading-same, φ-first, one-first, reading-first}
+use Rattle.spec_fields.specs.Named.{Ok, arithmetic, same-reading, reading-same, φ-first, one-first, reading-first}
 use Rattle.spec_bridge.specs.Degree.{monic-size}
 use Rattle.spec_laws.specs.Surd.{Surd, Q-zero, Q-trim, r-trim, r as remainder}
 use Rattle.spec_laws.specs.Fraction.{Q-some, Q-length, divide}
@@ -35,6 +35,8 @@ use Rattle.spec_laws.specs.Convergents.{degree-zero, degree-suc}
 use Rattle.spec_laws.specs.Signs.{normOf}
 use Rattle.spec_laws.specs.Signs as signs
 use Rattle.spec_laws.specs.Norms as norms
+use Rattle.spec_laws.specs.Leads.{constant-lead, constant-only}
+use Rattle.spec_laws.specs.Monic.{constant-ok}
 use Rattle.spec_laws.specs.QuasiPeriod.{Quasi, NoQuasi, Says, quasi-says, some-quasi}
 use Rattle.spec_laws.specs.Admitted.{Admitted, is-field, surd-of, admitted}
 use Rattle.spec_sentences.specs.Sentences.{Same, Operators, operators}
@@ -94,14 +96,19 @@ module _ (f : FieldName) (D d : List ℕ) where
     pub determinant : (i : ℕ) → p (suc i) ⊗ s i ⊖ p i ⊗ s (suc i) ≡ signed (ops f) (suc i) (1 ∷ [])
     pub degree : (i : ℕ) → deg (ops f) (p (suc i)) ≡ suc g + sumTo (λ j. deg (ops f) (a j)) i
 
-  -- m is the least index from 1 to b whose Q is a nonzero constant, R is deg p_{m−1}, and c is (−1)^m·Q_m
+  -- c is the coefficient with c·λ² = (−1)^m·Q_m, where λ is the leading coefficient of p_{m−1}; R-3: "c by its square"
+  pub record ConstantAt (m c : ℕ) : Type 0 where
+    pub below : Ok f c
+    pub square : ops f .mul c (ops f .mul (lead (ops f) (p m)) (lead (ops f) (p m))) ∷ [] ≡ signed (ops f) m (Q m)
+
+  -- m is the least index from 1 to b whose Q is a nonzero constant, R is deg p_{m−1}, and c is the constant at m
   pub record StopsAt (b R m c : ℕ) : Type 0 where
     pub positive : 0 < m
     pub within : m ≤ b
     pub constant : size (ops f) (Q m) ≡ 1
     pub least : (j : ℕ) → 0 < j → j < m → size (ops f) (Q j) ≢ 1
     pub regulator : R ≡ deg (ops f) (p m)
-    pub value : c ∷ [] ≡ signed (ops f) m (Q m)
+    pub value : ConstantAt m c
 
   -- all b steps are made, no index from 1 to b has such a Q, and e is deg p_{b−1}
   pub record Spends (b k e : ℕ) : Type 0 where
@@ -208,14 +215,21 @@ module _ {f : FieldName} {g : ℕ} {D : List ℕ} (h : Admitted f g D) where
   -- ---- the outcomes
   stops : (b m : ℕ) → Quasi (ops f) D d b m → StopsAt f D d b (degreeBefore (ops f) D d m) m (constantOf (ops f) D d m)
   unfolding signed signs.signed degreeBefore
-  stops b m a = record {
+  stops b zero a = absurd (let l = a .positive in omega arith)
+  stops b (suc i) a = record {
     positive = a .positive;
     within = a .within;
-    constant = size-Q m ∙ a .constant;
+    constant = size-Q (suc i) ∙ a .constant;
     least = λ j l u e. a .least j l u (sym (size-Q j) ∙ e);
     regulator = refl;
-    value = sym (norms.constant-is z m (a .constant));
+    value = record { below = arithmetic f (is-field h) .ok-is _ (constant-ok z i); square = ap (λ (c : ℕ). c ∷ []) (constant-lead z i) ∙ sym (norms.constant-is z (suc i) (a .constant)) };
   }
+
+  -- no other c has this product with λ²
+  pub constant-told : {m c : ℕ} → 0 < m → size (ops f) (walk.Q (ops f) D d m) ≡ 1 → ConstantAt f D d m c → c ≡ constantOf (ops f) D d m
+  unfolding signed signs.signed
+  constant-told {m = zero} l e k = absurd (omega arith)
+  constant-told {m = suc i} {c = c} l e k = constant-only z i c (arithmetic f (is-field h) .ok-of c (k .below)) (ap (λ (l : List ℕ). getD l 0 0) (k .square ∙ norms.constant-is z (suc i) (sym (size-Q (suc i)) ∙ e)))
 
   spends : (b : ℕ) → NoQuasi (ops f) D d b → Spends f D d b b (degreeBefore (ops f) D d b)
   unfolding degreeBefore

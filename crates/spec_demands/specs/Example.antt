@@ -8,7 +8,7 @@ use Rattle.spec_arithmetic.specs.Polynomials.{trim, size, deg, zip, add, sub, s
 use Rattle.spec_arithmetic.specs.Primes.{oddPrime, noDivisor}
 use Rattle.spec_arithmetic.specs.Words.{kind, value, word, same, someNot, oneOf}
 use Rattle.spec_definitions.specs.Ticket.{genus, ticketOf, wrongHead, wrongPrime, wrongDegree, laterKinds, wrongLayout, wrongCoefficient, wrongLead, notSquarefree, firstOf, testsOf, refusalOf}
-use Rattle.spec_definitions.specs.Walk.{partial, nextP, next, steps, walk, pBefore, sBefore, constant?, firstFrom, quasiPeriod, degreeBefore, unitOf, constantOf}
+use Rattle.spec_definitions.specs.Walk.{partial, nextP, next, steps, walk, pBefore, sBefore, constant?, firstFrom, quasiPeriod, degreeBefore, overLead, unitOf, signedQ, constantOf}
 use Rattle.spec_definitions.specs.Answers.{rootOf, outcomeOf, wordsOutcome}
 use Rattle.spec_definitions.specs.Marked.{example}
 use Rattle.spec_demands.specs.LeastDegree.{LeastFound, t3}
@@ -22,5 +22,5 @@ pub example-walks : Walks (ticketOf (example 6)) (wordsOutcome (example 6))
 example-walks = t2 (example 6) example-passes
 
 pub example-least : LeastFound (prime 3) (1 ∷ 1 ∷ 0 ∷ 0 ∷ 1 ∷ []) (record { p = 1 ∷ 0 ∷ 2 ∷ 1 ∷ 1 ∷ 2 ∷ 2 ∷ 1 ∷ []; s = 0 ∷ 1 ∷ 2 ∷ 2 ∷ 2 ∷ 1 ∷ [] }) 7 1
-unfolding inverse inverseIn fits trim size deg zip add sub scale mul lead put divide quo rem monic gcd gcdIn times timesFrom derivative monomial root rootIn oddPrime noDivisor kind value word same someNot oneOf genus ticketOf wrongHead wrongPrime wrongDegree laterKinds wrongLayout wrongCoefficient wrongLead notSquarefree firstOf testsOf refusalOf partial nextP next steps walk pBefore sBefore constant? firstFrom quasiPeriod degreeBefore unitOf constantOf rootOf outcomeOf wordsOutcome
+unfolding inverse inverseIn fits trim size deg zip add sub scale mul lead put divide quo rem monic gcd gcdIn times timesFrom derivative monomial root rootIn oddPrime noDivisor kind value word same someNot oneOf genus ticketOf wrongHead wrongPrime wrongDegree laterKinds wrongLayout wrongCoefficient wrongLead notSquarefree firstOf testsOf refusalOf partial nextP next steps walk pBefore sBefore constant? firstFrom quasiPeriod degreeBefore overLead unitOf signedQ constantOf rootOf outcomeOf wordsOutcome
 example-least = t3 (example 6)

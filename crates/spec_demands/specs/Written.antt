@@ -12,10 +12,11 @@ use lib.ListN.{length, take}
 use Rattle.spec_arithmetic.specs.Field.{FieldName, ops}
 use Rattle.spec_arithmetic.specs.Polynomials.{size, deg, pad, sub, mul, scale, root}
 use Rattle.spec_definitions.specs.Ticket.{Ticket, genus, ticketOf, refusalOf}
-use Rattle.spec_definitions.specs.Walk.{Unit as UnitPair, unitOf, sBefore, quasiPeriod, degreeBefore, constantOf}
+use Rattle.spec_definitions.specs.Walk.{Unit as UnitPair, overLead, unitOf, pBefore, sBefore, quasiPeriod, degreeBefore, constantOf}
 use Rattle.spec_definitions.specs.Answers.{Outcome, found, spent, refused, said, said-injective, opsOf, rootOf, outcomeOf, wordsOutcome}
 use Rattle.spec_definitions.specs.Units.{Lists, UnitAnswer, longEnough, written, unitLists, unitFrom, unitAnswer}
 use Rattle.spec_bridge.specs.Trim.{size-series}
+use Rattle.spec_bridge.specs.Lengths.{length-multiple}
 use Rattle.spec_bridge.specs.Arithmetic.{mul-cong, scale-cong}
 use Rattle.spec_fields.specs.Named.{IsField, arithmetic}
 use Rattle.spec_laws.specs.Convergents.{s-zero, p-length, s-length}
@@ -110,7 +111,11 @@ module _ (t : Ticket) where
 
       go : (x : Option ℕ) → Fits (elim x [ none ↦ spent (t .b) (degreeBefore (opsOf t) (t .D) d (t .b)) | some m ↦ found (degreeBefore (opsOf t) (t .D) d m) m (constantOf (opsOf t) (t .D) d m) ])
       go none = tt
-      go (some m) = ((let e = p-length (surd-of h) m in omega arith), s-fits h m)
+      go (some m) =
+          let c : ℕ = overLead (opsOf t) (t .D) d m in
+          let p = length-multiple (arithmetic (t .field) (is-field h) .M) c (pBefore (opsOf t) (t .D) d m) in
+          let s = length-multiple (arithmetic (t .field) (is-field h) .M) c (sBefore (opsOf t) (t .D) d m) in
+          ((let e = p-length (surd-of h) m in omega arith), (let e = s-fits h m in omega arith))
 
 pub t3-unit : T3-unit
 unfolding unitAnswer wordsOutcome unitFrom

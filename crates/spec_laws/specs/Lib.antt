@@ -20,6 +20,8 @@ pub mod Admitted
 pub mod Coefficients
 pub mod Signs
 pub mod Norms
+pub mod Leads
+pub mod Monic
 pub mod Solutions
 pub mod State
 pub mod Layout

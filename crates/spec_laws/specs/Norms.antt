@@ -1,5 +1,5 @@
 -- The equations of the walk and of its convergents as equations of lists, for every index: products of
--- neighbours, norms, the determinant, and the constant of the quasi-period.
+-- neighbours, norms, the determinant, and the norm at the quasi-period.
 use Prim.Native.Nat.{ℕ, suc, _-_ as _-ₙ_, _%_}
 use native.Mathlib.Omega.{arith}
 use mathlib.Core.Path.{_≡_, refl, sym, ap, ap₂, _∙_, subst}
@@ -17,7 +17,7 @@ use Rattle.math_surd.specs.Convergents.{sign, sign-deg, norm-convergent, determ
 use Rattle.math_surd.specs.Convergents as convergents
 use Rattle.spec_arithmetic.specs.Field.{Ops}
 use Rattle.spec_arithmetic.specs.Polynomials.{at, add, sub, mul}
-use Rattle.spec_definitions.specs.Walk.{pBefore, sBefore, constantOf}
+use Rattle.spec_definitions.specs.Walk.{pBefore, sBefore, signedQ}
 use Rattle.spec_definitions.specs.Walk as lists
 use Rattle.spec_bridge.specs.Model.{Model, series}
 use Rattle.spec_bridge.specs.Trim.{series-ext}
@@ -80,14 +80,14 @@ module _ {A B : Type 0} {o : Ops A} {K : Field B} {M : Model o (F K)} {g : ℕ} 
           ∙ determinant K (fraction h) (suc i)
           ∙ sym (ap (λ (f : Px K). sign K (suc i) * f) (series-one K M) ∙ R[x] .mul-one _)
 
-  -- ---- the constant c = (−1)^m·Q_m
+  -- ---- the constant (−1)^m·Q_m
   singleton : (l : List A) → length l ≡ 1 → l ≡ at o l 0 ∷ []
   singleton [] e = absurd (omega arith)
   singleton (x ∷ []) e = refl
   singleton (x ∷ (y ∷ l)) e = absurd (omega arith)
 
-  constant-at : (m : ℕ) → at o (signed o m (Q m)) 0 ≡ constantOf o D d m
-  unfolding signed constantOf
+  constant-at : (m : ℕ) → at o (signed o m (Q m)) 0 ≡ signedQ o D d m
+  unfolding signed signedQ
   constant-at m = go (eqb (m % 2) 0)
     where
       go : (t : Bool) → at o (elim t [ true ↦ Q m | false ↦ sub o [] (Q m) ]) 0 ≡ (elim t [ true ↦ at o (Q m) 0 | false ↦ o .sub (o .zer) (at o (Q m) 0) ])
@@ -98,9 +98,13 @@ module _ {A B : Type 0} {o : Ops A} {K : Field B} {M : Model o (F K)} {g : ℕ} 
     norm-deg : Deg K (series M (signed o m (Q m))) 0
     norm-deg = deg-path K 0 (sym (series-signed K M m (Q m))) (sign-deg K m (series M (Q m)) 0 (subst (Deg K (series M (Q m))) (let e : length (Q m) -ₙ 1 ≡ 0 = omega arith in e) (Q-deg h m)))
 
-    pub constant-is : signed o m (Q m) ≡ constantOf o D d m ∷ []
+    pub constant-is : signed o m (Q m) ≡ signedQ o D d m ∷ []
     constant-is = singleton _ (deg-length K M _ 0 (trim-signed K M m (Q m) (Q-trim h m)) norm-deg) ∙ ap (λ (c : A). c ∷ []) (constant-at m)
 
-    -- the unit's norm
-    pub unit-norm : normOf o D (p m) (s m) ≡ constantOf o D d m ∷ []
-    unit-norm = norm-is m ∙ constant-is
+    -- it is not 0
+    pub signed-some : M .φ (signedQ o D d m) ≡ F K .zer → ⊥
+    signed-some e = norm-deg .top (ap (λ (l : List A). series M l 0) constant-is ∙ e)
+
+    -- the norm of (p_{m−1}, s_{m−1})
+    pub convergent-norm : normOf o D (p m) (s m) ≡ signedQ o D d m ∷ []
+    convergent-norm = norm-is m ∙ constant-is

@@ -8,7 +8,7 @@ use Rattle.spec_arithmetic.specs.Polynomials.{trim, size, deg, pad, zip, add, s
 use Rattle.spec_arithmetic.specs.Primes.{oddPrime, noDivisor}
 use Rattle.spec_arithmetic.specs.Words.{kind, value, word, high, low, joined, same, someNot, oneOf}
 use Rattle.spec_definitions.specs.Ticket.{genus, ticketOf, wrongHead, wrongPrime, wrongDegree, laterKinds, wrongLayout, wrongCoefficient, wrongLead, notSquarefree, firstOf, testsOf, refusalOf}
-use Rattle.spec_definitions.specs.Walk.{partial, nextP, next, steps, walk, pBefore, constant?, firstFrom, quasiPeriod, degreeBefore, constantOf}
+use Rattle.spec_definitions.specs.Walk.{partial, nextP, next, steps, walk, pBefore, constant?, firstFrom, quasiPeriod, degreeBefore, overLead, signedQ, constantOf}
 use Rattle.spec_definitions.specs.Answers.{said, rootOf, outcomeOf, wordsOutcome}
 use Rattle.spec_definitions.specs.Listing.{idealOf, mirrorOf, recordWords, entryOf, recordOf, recordsFrom, listingOf, listingFrom, listingAnswer}
 use Rattle.spec_definitions.specs.Lookup.{recordAt}
@@ -27,16 +27,16 @@ Linear = Prints (bytes (ticket 3 (1 ∷ 0 ∷ 1 ∷ []) 1)) "found 1 1 2\n1 0 1 
 abbrev pub Sextic : Type 0
 Sextic = Prints (bytes (ticket 13 (8 ∷ 7 ∷ 6 ∷ 0 ∷ 3 ∷ 8 ∷ 1 ∷ []) 5)) "found 7 5 5\n1 0 7 1 0 0 0 0\n2 3 4 10 12 1 2 8\n3 4 3 12 2 1 11 7\n4 5 2 12 2 1 2 6\n5 6 1 10 12 1 11 5\n"
 
--- two digits in R, m, c, index, distance, mirror, Q and P, and three in one P; q = 101, D = x^4 + 11x³ + 55x²
--- + 4x + 37
+-- two digits in R, m, c, index, distance, mirror, Q and P, and three in one P; q = 101, D = x^4 + 91x³ + 17x²
+-- + 99x + 17
 abbrev pub TwoDigits : Type 0
-TwoDigits = Prints (bytes (ticket 101 (37 ∷ 4 ∷ 55 ∷ 11 ∷ 1 ∷ []) 11)) "found 12 11 64\n1 0 12 1 0 0\n2 2 10 70 1 96\n3 3 9 45 1 45\n4 4 8 92 1 25\n5 5 7 76 1 1\n6 6 6 75 1 5\n7 7 5 75 1 96\n8 8 4 76 1 100\n9 9 3 92 1 76\n10 10 2 45 1 56\n11 11 1 70 1 5\n"
+TwoDigits = Prints (bytes (ticket 101 (17 ∷ 99 ∷ 17 ∷ 91 ∷ 1 ∷ []) 11)) "found 12 11 65\n1 0 12 1 0 0\n2 2 10 12 1 99\n3 3 9 64 1 73\n4 4 8 98 1 50\n5 5 7 0 1 57\n6 6 6 27 1 100\n7 7 5 27 1 1\n8 8 4 0 1 44\n9 9 3 98 1 51\n10 10 2 64 1 28\n11 11 1 12 1 2\n"
 
 -- three and four digits; q = 4,093, D = x^4 + 2770x³ + 5x² + 3450x + 196
 abbrev pub FourDigits : Type 0
-FourDigits = Prints (bytes (ticket 4093 (196 ∷ 3450 ∷ 5 ∷ 2770 ∷ 1 ∷ []) 3)) "found 4 3 1400\n1 0 4 1 0 0\n2 2 2 638 1 947\n3 3 1 638 1 3146\n"
+FourDigits = Prints (bytes (ticket 4093 (196 ∷ 3450 ∷ 5 ∷ 2770 ∷ 1 ∷ []) 3)) "found 4 3 757\n1 0 4 1 0 0\n2 2 2 638 1 947\n3 3 1 638 1 3146\n"
 
 -- ---- the proof
 pub found-lines : Linear × Sextic × TwoDigits × FourDigits
-unfolding inverse inverseIn fits trim size deg pad zip add sub scale mul lead put divide quo rem monic gcd gcdIn times timesFrom derivative monomial root rootIn oddPrime noDivisor kind value word high low joined same someNot oneOf genus ticketOf wrongHead wrongPrime wrongDegree laterKinds wrongLayout wrongCoefficient wrongLead notSquarefree firstOf testsOf refusalOf partial nextP next steps walk pBefore constant? firstFrom quasiPeriod degreeBefore constantOf said rootOf outcomeOf wordsOutcome idealOf mirrorOf recordWords entryOf recordOf recordsFrom listingOf listingFrom listingAnswer recordAt ascii decimal decimalIn spaced line wordsOf readBytes cutWord firstLine recordLine recordLines answerLines programOf
+unfolding inverse inverseIn fits trim size deg pad zip add sub scale mul lead put divide quo rem monic gcd gcdIn times timesFrom derivative monomial root rootIn oddPrime noDivisor kind value word high low joined same someNot oneOf genus ticketOf wrongHead wrongPrime wrongDegree laterKinds wrongLayout wrongCoefficient wrongLead notSquarefree firstOf testsOf refusalOf partial nextP next steps walk pBefore constant? firstFrom quasiPeriod degreeBefore overLead signedQ constantOf said rootOf outcomeOf wordsOutcome idealOf mirrorOf recordWords entryOf recordOf recordsFrom listingOf listingFrom listingAnswer recordAt ascii decimal decimalIn spaced line wordsOf readBytes cutWord firstLine recordLine recordLines answerLines programOf
 found-lines = (refl, refl, refl, refl)

@@ -10,7 +10,7 @@ use Rattle.spec_arithmetic.specs.Polynomials.{trim, size, deg, pad, zip, add, s
 use Rattle.spec_arithmetic.specs.Primes.{oddPrime, noDivisor}
 use Rattle.spec_arithmetic.specs.Words.{kind, value, word, high, low, joined, same, someNot, oneOf}
 use Rattle.spec_definitions.specs.Ticket.{genus, ticketOf, wrongHead, wrongPrime, wrongDegree, laterKinds, wrongLayout, wrongCoefficient, wrongLead, notSquarefree, firstOf, testsOf, refusalOf}
-use Rattle.spec_definitions.specs.Walk.{partial, nextP, next, steps, walk, pBefore, constant?, firstFrom, quasiPeriod, degreeBefore, constantOf}
+use Rattle.spec_definitions.specs.Walk.{partial, nextP, next, steps, walk, pBefore, constant?, firstFrom, quasiPeriod, degreeBefore, overLead, signedQ, constantOf}
 use Rattle.spec_definitions.specs.Answers.{said, rootOf, outcomeOf, wordsOutcome}
 use Rattle.spec_definitions.specs.Listing.{idealOf, mirrorOf, recordWords, entryOf, recordOf, recordsFrom, listingOf, listingFrom, listingAnswer}
 use Rattle.spec_definitions.specs.Program.{wordsOf, readBytes}
@@ -57,7 +57,7 @@ unfolding kind value word wordsOf readBytes
 plain-ticket = (refl, refl, refl, refl)
 
 pub plain-listing : PlainListing
-unfolding inverse inverseIn fits trim size deg pad zip add sub scale mul lead put divide quo rem monic gcd gcdIn times timesFrom derivative monomial root rootIn oddPrime noDivisor kind value word high low joined same someNot oneOf genus ticketOf wrongHead wrongPrime wrongDegree laterKinds wrongLayout wrongCoefficient wrongLead notSquarefree firstOf testsOf refusalOf partial nextP next steps walk pBefore constant? firstFrom quasiPeriod degreeBefore constantOf said rootOf outcomeOf wordsOutcome idealOf mirrorOf recordWords entryOf recordOf recordsFrom listingOf listingFrom listingAnswer
+unfolding inverse inverseIn fits trim size deg pad zip add sub scale mul lead put divide quo rem monic gcd gcdIn times timesFrom derivative monomial root rootIn oddPrime noDivisor kind value word high low joined same someNot oneOf genus ticketOf wrongHead wrongPrime wrongDegree laterKinds wrongLayout wrongCoefficient wrongLead notSquarefree firstOf testsOf refusalOf partial nextP next steps walk pBefore constant? firstFrom quasiPeriod degreeBefore overLead signedQ constantOf said rootOf outcomeOf wordsOutcome idealOf mirrorOf recordWords entryOf recordOf recordsFrom listingOf listingFrom listingAnswer
 plain-listing = refl
 
 pub plain-high-low : PlainHighLow

@@ -13,7 +13,7 @@ use Rattle.spec_arithmetic.specs.Polynomials.{trim, size, deg, zip, add, sub, s
 use Rattle.spec_arithmetic.specs.Primes.{oddPrime, noDivisor}
 use Rattle.spec_arithmetic.specs.Words.{kind, value, word, same, someNot, oneOf}
 use Rattle.spec_definitions.specs.Ticket.{Ticket, genus, ticketOf, wrongHead, wrongPrime, wrongDegree, laterKinds, wrongLayout, wrongCoefficient, wrongLead, notSquarefree, firstOf, testsOf, refusalOf}
-use Rattle.spec_definitions.specs.Walk.{partial, nextP, next, steps, walk, pBefore, constant?, firstFrom, quasiPeriod, degreeBefore, constantOf}
+use Rattle.spec_definitions.specs.Walk.{partial, nextP, next, steps, walk, pBefore, constant?, firstFrom, quasiPeriod, degreeBefore, overLead, signedQ, constantOf}
 use Rattle.spec_definitions.specs.Answers.{found, refused, said, rootOf, outcomeOf, wordsOutcome}
 use Rattle.spec_definitions.specs.Listing.{listingOf, listingFrom, listingAnswer}
 use Rattle.spec_definitions.specs.Text.{ascii, decimal, decimalIn, spaced, line}
@@ -60,5 +60,5 @@ fits-lent input whole R m c e h =
     rw (programOf, whole, e, enough (ticketOf (wordsRead input)) lent R m c k)
 
 pub shorter : Shorter
-unfolding inverse inverseIn fits trim size deg zip add sub scale mul lead put divide quo rem monic gcd gcdIn times timesFrom derivative monomial root rootIn oddPrime noDivisor kind value word same someNot oneOf genus ticketOf wrongHead wrongPrime wrongDegree laterKinds wrongLayout wrongCoefficient wrongLead notSquarefree firstOf testsOf refusalOf partial nextP next steps walk pBefore constant? firstFrom quasiPeriod degreeBefore constantOf said rootOf outcomeOf wordsOutcome listingFrom listingAnswer ascii decimal decimalIn spaced line firstLine answerLines
+unfolding inverse inverseIn fits trim size deg zip add sub scale mul lead put divide quo rem monic gcd gcdIn times timesFrom derivative monomial root rootIn oddPrime noDivisor kind value word same someNot oneOf genus ticketOf wrongHead wrongPrime wrongDegree laterKinds wrongLayout wrongCoefficient wrongLead notSquarefree firstOf testsOf refusalOf partial nextP next steps walk pBefore constant? firstFrom quasiPeriod degreeBefore overLead signedQ constantOf said rootOf outcomeOf wordsOutcome listingFrom listingAnswer ascii decimal decimalIn spaced line firstLine answerLines
 shorter = refl

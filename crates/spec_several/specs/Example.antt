@@ -9,7 +9,7 @@ use Rattle.spec_arithmetic.specs.Polynomials.{trim, size, deg, zip, add, sub, s
 use Rattle.spec_arithmetic.specs.Primes.{oddPrime, noDivisor}
 use Rattle.spec_arithmetic.specs.Words.{values, kind, value, word, same, someNot, oneOf}
 use Rattle.spec_definitions.specs.Ticket.{genus, ticketOf, wrongHead, wrongPrime, wrongDegree, laterKinds, wrongLayout, wrongCoefficient, wrongLead, notSquarefree, firstOf, testsOf, refusalOf}
-use Rattle.spec_definitions.specs.Walk.{partial, nextP, next, steps, walk, pBefore, constant?, firstFrom, quasiPeriod, degreeBefore, constantOf}
+use Rattle.spec_definitions.specs.Walk.{partial, nextP, next, steps, walk, pBefore, constant?, firstFrom, quasiPeriod, degreeBefore, overLead, signedQ, constantOf}
 use Rattle.spec_definitions.specs.Answers.{Outcome, found, spent, refused, said, rootOf, outcomeOf, wordsOutcome}
 use Rattle.spec_several.specs.Several.{negatives, severalKinds, degreeOf, primeCount, coefficientsOf, budgetOf, primesOf, wrongShape, severalRefusal, residue, jobAt, jobWords, severalOf, sixteenPlaces, severalAnswer}
 
@@ -46,14 +46,14 @@ pub primes-computed : _≡_ {A = List (List Outcome)}
     ∷ [])
     ((found 1 1 2 ∷ refused 7 ∷ found 1 1 3 ∷ [])
     ∷ (refused 2 ∷ refused 7 ∷ found 1 1 3 ∷ refused 2 ∷ [])
-    ∷ (refused 7 ∷ found 8 7 3 ∷ [])
+    ∷ (refused 7 ∷ found 8 7 2 ∷ [])
     ∷ (found 7 6 1 ∷ spent 6 7 ∷ [])
     ∷ (refused 6 ∷ [])
     ∷ (found 1 1 3 ∷ found 1 1 1 ∷ [])
     ∷ (found 1 1 3 ∷ refused 7 ∷ [])
     ∷ replicate 16 (found 1 1 2)
     ∷ [])
-unfolding severalKinds degreeOf primeCount coefficientsOf budgetOf primesOf wrongShape severalRefusal residue jobAt jobWords severalOf inverse inverseIn fits trim size deg zip add sub scale mul lead put divide quo rem monic gcd gcdIn times timesFrom derivative monomial root rootIn oddPrime noDivisor kind value word same someNot oneOf genus ticketOf wrongHead wrongPrime wrongDegree laterKinds wrongLayout wrongCoefficient wrongLead notSquarefree firstOf testsOf refusalOf partial nextP next steps walk pBefore constant? firstFrom quasiPeriod degreeBefore constantOf rootOf outcomeOf wordsOutcome
+unfolding severalKinds degreeOf primeCount coefficientsOf budgetOf primesOf wrongShape severalRefusal residue jobAt jobWords severalOf inverse inverseIn fits trim size deg zip add sub scale mul lead put divide quo rem monic gcd gcdIn times timesFrom derivative monomial root rootIn oddPrime noDivisor kind value word same someNot oneOf genus ticketOf wrongHead wrongPrime wrongDegree laterKinds wrongLayout wrongCoefficient wrongLead notSquarefree firstOf testsOf refusalOf partial nextP next steps walk pBefore constant? firstFrom quasiPeriod degreeBefore overLead signedQ constantOf rootOf outcomeOf wordsOutcome
 primes-computed = refl
 
 -- seventeen primes, none, no word at all, a prime's word of kind 13, n = 3 without a prime; then n = 3 and

@@ -1,18 +1,27 @@
--- The unit's lists are the only ones: four lists that hold p, s, 0 and 0 in places 0 to R and keep what they
--- had after are the lists at exit.
+-- The unit's lists are the only ones: four lists that hold p_{m−1} and s_{m−1} over the leading coefficient of
+-- p_{m−1}, 0 and 0 in places 0 to R and keep what they had after are the lists at exit.
 use Prim.Native.Nat.{ℕ, _+_, _-_, _≤_}
 use native.Mathlib.Omega.{arith}
 use mathlib.Core.Path.{_≡_, sym, ap, _∙_}
 use mathlib.Core.Logic.{⊎-elim}
-use mathlib.Core.List.{List}
+use mathlib.Core.List.{List, [], _∷_}
 use lib.ListN.{getD}
 use lib.Seq.{getD-drop, ext-getD}
 use Rattle.math_ring.specs.Order.{le-or-lt}
-use Rattle.spec_definitions.specs.Ticket.{ticketOf}
-use Rattle.spec_definitions.specs.Answers.{found, said}
+use Rattle.math_ring.specs.Identity.{ring-from, times, plus, quote}
+use Rattle.math_algebra.specs.Field.{Field}
+use Rattle.math_algebra.specs.Polynomial.{F}
+use Rattle.spec_arithmetic.specs.Field.{FieldName, ops}
+use Rattle.spec_definitions.specs.Ticket.{genus, ticketOf}
+use Rattle.spec_definitions.specs.Answers.{found, said, rootOf}
 use Rattle.spec_definitions.specs.Units.{Lists, unitAnswer}
-use Rattle.spec_refusals.specs.LentLists.{KeepsFrom}
-use Rattle.spec_answers.specs.Units.{Holds, UnitWritten, t2-unit-lists}
+use Rattle.spec_bridge.specs.Model.{Model}
+use Rattle.spec_fields.specs.Named.{IsField, arithmetic}
+use Rattle.spec_laws.specs.Leads.{some-lead}
+use Rattle.spec_laws.specs.Admitted.{Admitted, is-field, surd-of, admitted}
+use Rattle.spec_refusals.specs.LentLists.{KeepsFrom, found-passes}
+use Rattle.spec_answers.specs.Refusals.{unit-found}
+use Rattle.spec_answers.specs.Units.{Holds, HoldsOver, UnitWritten, t2-unit-lists}
 
 abbrev pub UnitOnly : Type 0
 UnitOnly = (w : List ℕ) (l : Lists) (R m c : ℕ) → unitAnswer w l .says ≡ said (found R m c) → (new : Lists) → UnitWritten (ticketOf w) R m l new → new ≡ unitAnswer w l .lists
@@ -27,17 +36,37 @@ later-at {k} {old} {new} h i p =
 holds-unique : {R : ℕ} {f old x y : List ℕ} → Holds R f old x → Holds R f old y → x ≡ y
 holds-unique {R} {x = x} {y = y} a b = ext-getD 0 x y (a .later .long ∙ sym (b .later .long)) (λ i h. ⊎-elim (λ low. a .places i low ∙ sym (b .places i low)) (λ past. later-at (a .later) i past ∙ sym (later-at (b .later) i past)) (le-or-lt i R))
 
+-- a coefficient is told by its product with k
+over-unique : (o : FieldName) (h : IsField o) {R k : ℕ} {f old x y : List ℕ} → (arithmetic o h .M .φ k ≡ F (arithmetic o h .K) .zer → ⊥) → HoldsOver o R k f old x → HoldsOver o R k f old y → x ≡ y
+over-unique o h {R} {k} {x = x} {y = y} some a b = ext-getD 0 x y (a .later .long ∙ sym (b .later .long)) (λ i l. ⊎-elim (λ low. same i low) (λ past. later-at (a .later) i past ∙ sym (later-at (b .later) i past)) (le-or-lt i R))
+  where
+    K : Field (arithmetic o h .Elements)
+    K = arithmetic o h .K
+
+    M : Model (ops o) (F K)
+    M = arithmetic o h .M
+
+    cancel : (v w : arithmetic o h .Elements) → F K .mul (M .φ k) v ≡ F K .mul (M .φ k) w → v ≡ w
+    cancel v w e = ring-from (F K) (M .φ k ∷ K .inv (M .φ k) ∷ v ∷ w ∷ []) (plus (F K) (times (F K) (K .inv (M .φ k)) e) (times (F K) (F K .neg (F K .add v (F K .neg w))) (K .inv-mul (M .φ k) some))) (search quote depth 40 fits 9999) tt
+
+    same : (i : ℕ) → i ≤ R → getD x i 0 ≡ getD y i 0
+    same i low = M .inj _ _ (arithmetic o h .ok-of _ (a .below i low)) (arithmetic o h .ok-of _ (b .below i low)) (cancel (M .φ (getD x i 0)) (M .φ (getD y i 0)) (sym (M .φ-mul _ _) ∙ ap (M .φ) (a .places i low ∙ sym (b .places i low)) ∙ M .φ-mul _ _))
+
 pub unit-only : UnitOnly
+unfolding rootOf
 unit-only w l R m c e new a = λ i. record { first = one i; second = two i; third = three i; fourth = four i }
   where
     b : UnitWritten (ticketOf w) R m l (unitAnswer w l .lists)
     b = t2-unit-lists w l R m c e
 
+    h : Admitted (ticketOf w .field) (genus (ticketOf w .n)) (ticketOf w .D)
+    h = admitted w (found-passes w R m c (unit-found w l R m c e))
+
     one : new .first ≡ unitAnswer w l .lists .first
-    one = holds-unique (a .p-written) (b .p-written)
+    one = over-unique (ticketOf w .field) (is-field h) (some-lead (surd-of h) m) (a .p-written) (b .p-written)
 
     two : new .second ≡ unitAnswer w l .lists .second
-    two = holds-unique (a .s-written) (b .s-written)
+    two = over-unique (ticketOf w .field) (is-field h) (some-lead (surd-of h) m) (a .s-written) (b .s-written)
 
     three : new .third ≡ unitAnswer w l .lists .third
     three = holds-unique (a .third-zero) (b .third-zero)

@@ -1,26 +1,30 @@
 -- The four lists at the end, as the definitions give them: p and s hold the unit's coefficients, the other
 -- two zeros, each in its places 0 to R, and all later places are as they were.
-use Prim.Native.Nat.{ℕ, zero, suc, _+_, _%_, _≤_}
+use Prim.Native.Nat.{ℕ, zero, suc, _+_, _-_, _%_, _≤_}
 use native.Mathlib.Numerals.{add-one}
 use native.Mathlib.Decide.{ℕ-discrete}
 use native.Mathlib.Omega.{arith}
-use mathlib.Core.Path.{_≡_, refl, ap, _∙_}
+use mathlib.Core.Path.{_≡_, refl, ap, _∙_, subst}
 use mathlib.Core.List.{List, [], _∷_, _++_}
-use lib.ListN.{length, drop}
+use lib.ListN.{length, getD, drop}
 use Rattle.spec_arithmetic.specs.Field.{prime, modulo}
-use Rattle.spec_arithmetic.specs.Polynomials.{pad}
+use Rattle.spec_arithmetic.specs.Polynomials.{pad, deg, scale, lead}
 use Rattle.spec_definitions.specs.Ticket.{genus, ticket}
-use Rattle.spec_definitions.specs.Walk.{pBefore, sBefore, degreeBefore, unitOf}
+use Rattle.spec_definitions.specs.Walk.{pBefore, sBefore, degreeBefore, overLead, unitOf}
 use Rattle.spec_definitions.specs.Answers.{rootOf}
 use Rattle.spec_definitions.specs.Units.{written, unitLists}
+use Rattle.spec_bridge.specs.Lengths.{length-multiple}
+use Rattle.spec_bridge.specs.Residues.{pos, model}
 use Rattle.spec_laws.specs.Admitted.{Admitted, surd-of}
-use Rattle.spec_laws.specs.Convergents.{p-length, degree-least}
+use Rattle.spec_laws.specs.Convergents.{p-oks, s-oks, p-length, degree-least}
 use Rattle.walk_state.specs.State.{rootD}
 use Rattle.unit_room.specs.Room.{Room, lists}
 use Rattle.unit_combine.specs.Written.{Written, written-again, written-is}
+use Rattle.unit_combine.specs.Sum.{BelowTo}
 use Rattle.unit_combine.specs.Pair.{Pair, pair-long}
 use Rattle.unit_recurrence.specs.Recurrence.{s-short}
 use Rattle.unit_recurrence.specs.Pairs.{Pairs, Ended, pairs-first}
+use Rattle.unit_monic.specs.Multiple.{written-scale}
 
 -- ---- two lists after their start
 module _ {t k : ℕ} {u v old-p old-x p x : List ℕ} (w : Pair t k u v old-p old-x p x) where
@@ -59,16 +63,38 @@ module _ {q g : ℕ} {D : List ℕ} (h : Admitted (prime q) g D) {m k : ℕ} {ol
       let b = pair-again v _ _ _ _ (w .s-is) (w .y-is) in
       record { p-is = a .0; s-is = b .0; x-is = a .1; y-is = b .1 }
 
--- the work lists are cleared
-pub unit-lists : {q : ℕ} (n : ℕ) {D : List ℕ} → Admitted (prime q) (genus n) D → {k m : ℕ} {old-p old-s old-x old-y p s x y clear-x clear-y : List ℕ} → Ended (prime q) (genus n) D k m old-p old-s old-x old-y p s x y → Written k [] x clear-x → Written k [] y clear-y → Room k old-p old-s old-x old-y → (R : ℕ) → R ≡ degreeBefore (modulo q) D (rootD (prime q) (genus n) D) m → k ≡ R + 1 → (b : ℕ) → lists p s clear-x clear-y ≡ unitLists (ticket (prime q) n D b) R m (lists old-p old-s old-x old-y)
+-- ---- after the last step: p and s are divided by λ, the leading coefficient of p_{m−1}
+module _ {q g : ℕ} {D : List ℕ} (h : Admitted (prime q) g D) {m k : ℕ} {old-p old-s old-x old-y p s x y : List ℕ} (w : Ended (prime q) g D k m old-p old-s old-x old-y p s x y) where
+  abbrev d : List ℕ
+  d = rootD (prime q) g D
+
+  -- the convergents have admissible coefficients
+  pub ended-below : BelowTo (prime q) p k × BelowTo (prime q) s k
+  ended-below = ((λ i l. rw (w .p-is .low i l) (p-oks (surd-of h) m i)), (λ i l. rw (w .s-is .low i l) (s-oks (surd-of h) m i)))
+
+  -- λ stands at the last place of p in use
+  lead-last : degreeBefore (modulo q) D d m + 1 ≡ k → modulo q .inv (getD p (k - 1) 0) ≡ overLead (modulo q) D d m
+  unfolding overLead lead degreeBefore deg
+  lead-last e =
+      let l : k - 1 ≡ degreeBefore (modulo q) D d m = omega arith in
+      ap (modulo q .inv) (w .p-is .low (k - 1) (omega arith) ∙ ap (λ (i : ℕ). getD (pBefore (modulo q) D d m) i 0) l)
+
+-- p and s hold the unit, and the work lists are cleared
+pub unit-lists : {q : ℕ} (n : ℕ) {D : List ℕ} → Admitted (prime q) (genus n) D → {k m : ℕ} {old-p old-s old-x old-y p s x y monic-p monic-s clear-x clear-y : List ℕ} → Ended (prime q) (genus n) D k m old-p old-s old-x old-y p s x y → Written k (scale (modulo q) (modulo q .inv (getD p (k - 1) 0)) p) p monic-p → Written k (scale (modulo q) (modulo q .inv (getD p (k - 1) 0)) s) s monic-s → Written k [] x clear-x → Written k [] y clear-y → Room k old-p old-s old-x old-y → (R : ℕ) → R ≡ degreeBefore (modulo q) D (rootD (prime q) (genus n) D) m → k ≡ R + 1 → (b : ℕ) → lists monic-p monic-s clear-x clear-y ≡ unitLists (ticket (prime q) n D b) R m (lists old-p old-s old-x old-y)
 unfolding unitLists written unitOf rootOf
-unit-lists {q} n {D} h {k} {m} {old-p} {old-s} {old-x} {old-y} {p} {s} {x} {y} {clear-x} {clear-y} w a c room R e f b j =
+unit-lists {q} n {D} h {k} {m} {old-p} {old-s} {old-x} {old-y} {p} {s} {x} {y} {monic-p} {monic-s} {clear-x} {clear-y} w u v a c room R e f b j =
     record {
-      first = full (pBefore (modulo q) D (rootD (prime q) (genus n) D) m) old-p p (room .p-room) (let l = p-length (surd-of h) m in omega arith) (w .p-is) j;
-      second = full (sBefore (modulo q) D (rootD (prime q) (genus n) D) m) old-s s (room .s-room) (let l = s-short (surd-of h) m in omega arith) (w .s-is) j;
+      first = divided (pBefore (modulo q) D (rootD (prime q) (genus n) D) m) old-p p monic-p (room .p-room) (let l = p-length (surd-of h) m in omega arith) (w .p-is) u j;
+      second = divided (sBefore (modulo q) D (rootD (prime q) (genus n) D) m) old-s s monic-s (room .s-room) (let l = s-short (surd-of h) m in omega arith) (w .s-is) v j;
       third = full [] old-x clear-x (room .x-room) (omega arith) (written-again k _ [] old-x x clear-x (w .x-is) a) j;
       fourth = full [] old-y clear-y (room .y-room) (omega arith) (written-again k _ [] old-y y clear-y (w .y-is) c) j;
     }
   where
     full : (l old list : List ℕ) → k ≤ length old → length l ≤ k → Written k l old list → list ≡ pad (modulo q) (suc R) l ++ drop (suc R) old
     full l old list r t z = written-is l old q k list z r t ∙ ap (λ (i : ℕ). pad (modulo q) i l ++ drop i old) (f ∙ add-one R)
+
+    divided : (l old list new : List ℕ) → k ≤ length old → length l ≤ k → Written k l old list → Written k (scale (modulo q) (modulo q .inv (getD p (k - 1) 0)) list) list new → new ≡ pad (modulo q) (suc R) (scale (modulo q) (overLead (modulo q) D (rootD (prime q) (genus n) D) m) l) ++ drop (suc R) old
+    divided l old list new r t z d =
+        let over = overLead (modulo q) D (rootD (prime q) (genus n) D) m in
+        let short = length-multiple (model q (pos q (h .prime))) over l in
+        full (scale (modulo q) over l) old new r (omega arith) (subst (λ (i : ℕ). Written k (scale (modulo q) i l) old new) (lead-last h w (omega arith)) (written-scale q (pos q (h .prime)) _ l k old list new z d))

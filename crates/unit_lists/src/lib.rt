@@ -1,2 +1,3 @@
-// The convergents of √D in lent lists: the unit p + s·√D, with the work lists left as zeros.
+// The unit p + s·√D in lent lists: the convergents over the leading coefficient of p, with the work lists left as
+// zeros.
 pub mod unit;

@@ -13,13 +13,14 @@ ghost use Rattle.unit_room.specs.Room.{Room, lists};
 use base_counters::Distance;
 use base_counters::Index;
 use base_field::Field;
+use unit_monic::divide_by_lead;
 use unit_recurrence::steps::steps;
 use unit_zeros::clear_work;
 use unit_zeros::start_lists;
 
-// The unit, of index m − 1 and degree r: p and s receive its coefficients in their places 0 to r, where x and
-// y end as zero. Later places are as they were. D, of degree n, is the first `size` places of `radicand`;
-// what the walk starts from is prepared.
+// The unit: p_{m−1} and s_{m−1} over the leading coefficient of p_{m−1}, whose degree is r. p and s receive
+// its coefficients in their places 0 to r, where x and y end as zero. Later places are as they were. D, of
+// degree n, is the first `size` places of `radicand`; what the walk starts from is prepared.
 pub fn write_unit(
     f: Field,
     n: usize,
@@ -60,5 +61,6 @@ pub fn write_unit(
         x,
         y,
     );
+    divide_by_lead(f, p, s, count);
     clear_work(x, y, count);
 }

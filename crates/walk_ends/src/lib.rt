@@ -1,19 +1,20 @@
-// How a run ends: with the budget spent, or with the first constant Q.
+// How a run ends that meets a constant Q: the constant with its sign, over the square of the leading coefficient λ
+// of p_{m − 1}.
 ghost use mathlib.Core.Path.{_≡_};
-ghost use Rattle.spec_definitions.specs.Answers.{found as foundAt, spent as spentAt};
+ghost use Prim.Native.Nat.{_%_};
+ghost use Rattle.spec_definitions.specs.Answers.{found as foundAt};
 ghost use Rattle.base_field.specs.Named.{IsField, Ok, name};
 ghost use Rattle.walk_outcome.specs.Outcome.{meaning};
-ghost use Rattle.walk_ends.specs.Signed.{signed};
+ghost use Rattle.walk_ends.specs.Constant.{signed as signedOf, overTwice, monicConstant};
 use base_counters::Index;
 use base_field::Field;
 use walk_outcome::Outcome;
 use walk_stride::Progress;
 
-// (−1)^m·c.
-fn constant(f: Field, m: Index, c: u32) -> u32
-    requires { ⌜ IsField f ⌝ }
-    requires { ⌜ Ok f c ⌝ }
-    ensures { λ r. ⌜ r ≡ signed (name f) (m .0) c ⌝ }
+// (−1)^m·c, where c is the constant Q_m.
+fn signed(f: Field, m: Index, c: u32) -> u32
+    requires { ⌜ IsField f × Ok f c ⌝ }
+    ensures { λ r. ⌜ r ≡ signedOf (name f) (m .0) c ⌝ }
 {
     if m.0 % 2 == 0 {
         c
@@ -22,21 +23,31 @@ fn constant(f: Field, m: Index, c: u32) -> u32
     }
 }
 
-// The budget is spent where the walk stands.
-pub fn spent(at: Progress) -> Outcome
-    ensures { λ r. ⌜ meaning r ≡ spentAt (at .index .0) (at .degree .0) ⌝ }
+// 1/λ, where `lead` is 2·λ.
+fn over_lead(f: Field, lead: u32) -> u32
+    requires { ⌜ IsField f × Ok f lead ⌝ }
+    ensures { λ r. ⌜ r ≡ overTwice (name f) lead ⌝ }
 {
-    let index = at.index;
-    let degree = at.degree;
-    Outcome::Spent(index, degree)
+    let half = base_field::inverse(f, lead);
+    base_field::add(f, half, half)
 }
 
-// The first constant Q is met at index m, where the walk stands.
-pub fn found(f: Field, m: Index, at: Progress) -> Outcome
+// The same over λ², where `lead` is 2·λ.
+fn constant(f: Field, m: Index, c: u32, lead: u32) -> u32
+    requires { ⌜ IsField f × Ok f c × Ok f lead ⌝ }
+    ensures { λ r. ⌜ r ≡ monicConstant (name f) (m .0) c lead ⌝ }
+{
+    let over = over_lead(f, lead);
+    base_field::mul(f, base_field::mul(f, over, over), signed(f, m, c))
+}
+
+// The first constant Q is met at index m, where the walk stands; `lead` stands for 2·λ.
+pub fn found(f: Field, m: Index, at: Progress, lead: u64) -> Outcome
     requires { ⌜ IsField f ⌝ }
     requires { ⌜ Ok f (at .last) ⌝ }
-    ensures { λ r. ⌜ meaning r ≡ foundAt (at .degree .0) (m .0) (signed (name f) (m .0) (at .last)) ⌝ }
+    ensures { λ r. ⌜ meaning r ≡ foundAt (at .degree .0) (m .0) (monicConstant (name f) (m .0) (at .last) (lead % f .q)) ⌝ }
 {
     let degree = at.degree;
-    Outcome::Found(degree, m, constant(f, m, at.last))
+    let reduced = (lead % f.q as u64) as u32;
+    Outcome::Found(degree, m, constant(f, m, at.last, reduced))
 }

@@ -1,8 +1,9 @@
 -- The steps of a run: where the walk stands between them, that no Q on the way is constant, and the outcome
 -- where the budget is spent or a constant Q is met.
-use Prim.Native.Nat.{ℕ, suc, _≤_, _<_}
+use Prim.Native.Nat.{ℕ, suc, _*_, _-_, _%_, _≤_, _<_}
+use native.Mathlib.Numerals.{add-one}
 use native.Mathlib.Omega.{arith}
-use mathlib.Core.Path.{_≡_, sym, ap, ap₂, _∙_, subst}
+use mathlib.Core.Path.{_≡_, sym, ap, ap₂, _∙_, subst, subst₂}
 use mathlib.Core.List.{List}
 use lib.ListN.{getD}
 use Rattle.spec_arithmetic.specs.Field.{FieldName, prime, ops}
@@ -19,7 +20,8 @@ use Rattle.walk_stride.specs.declared.Progress.{Progress}
 use Rattle.walk_stride.specs.Progress.{Begun, Going, Taken}
 use Rattle.walk_stride.specs.Walked.{Walked, NoneTo, walked-first, none-first, going}
 use Rattle.walk_stride.specs.Stride.{stride-walked, stride-last, stride-none, stride-found}
-use Rattle.walk_ends.specs.Signed.{signed, found-is, spent-is}
+use Rattle.walk_lead.specs.Kept.{Kept, factors, twoFactors, factorOf, times-asks, kept-next}
+use Rattle.walk_ends.specs.Constant.{monicConstant, found-is, spent-is}
 
 -- the walk stands at an index within the budget, and no Q of an index from 1 on was constant
 pub record Seeking (f : FieldName) (g : ℕ) (D : List ℕ) (budget : ℕ) (before current rest : List ℕ) (at : Progress) : Type 0 where
@@ -44,23 +46,35 @@ module _ {q g top : ℕ} {D table d twice : List ℕ} (h : Admitted (prime q) g 
   pub seeking-going : budget < budgets → Going (prime q) top table twice before current rest at
   seeking-going l = going h e p (t .walked) (let k = less in omega arith)
 
+  -- what the product with 2/lc Q asks for
+  pub seeking-asks : {k n : ℕ} → Kept (prime q) g D (at .index .0) k n → k ≤ twoFactors → ((0 < at .size) × (at .size ≤ 129) × (n ≤ twoFactors)) × ((getD current (at .size - 1) 0 < 4096) × (getD table (getD current (at .size - 1) 0) 0 < 4096))
+  seeking-asks = times-asks h p (t .walked .state)
+
   module _ {remains after : List ℕ} {to : Progress} (u : Taken (prime q) top twice before current rest remains after at to) where
     pub seeking-next : (to .size ≡ 1 → ⊥) → Seeking (prime q) g D budget current after remains to
     seeking-next f = record { walked = stride-walked h e p (t .walked) u; none = stride-none h e p (t .walked) u (t .none) f; reached = (let i = u .index-is in let l = less in omega arith) }
 
+    -- the product after it
+    pub seeking-kept : {k n r : ℕ} → Kept (prime q) g D (at .index .0) k n → r ≡ n * factorOf table current (at .size) → Kept (prime q) g D (to .index .0) (k * factors) r
+    seeking-kept w m = kept-next h p (t .walked .state) w m (to .index .0) (u .index-is ∙ add-one (at .index .0))
+
     pub seeking-met : to .size ≡ 1 → Met (prime q) g D budget to
     seeking-met f = record { quasi = stride-found h e p (t .walked) u budget (t .none) less f; degree-is = stride-walked h e p (t .walked) u .degree-is; last-is = stride-last h e p (t .walked) u }
 
-pub met-at : {f : FieldName} {g : ℕ} {D : List ℕ} {budget m : ℕ} {at to : Progress} → at ≡ to → m ≡ to .index .0 → Met f g D budget to → Met f g D budget at × (m ≡ at .index .0)
-met-at {f} {g} {D} {budget} e i t = (subst (Met f g D budget) (sym e) t, i ∙ ap (λ (p : Progress). p .index .0) (sym e))
+-- where the ways out of the loop meet: `lead` stands for the product, within some bound
+pub met-at : {f : FieldName} {g : ℕ} {D : List ℕ} {budget m k n lead : ℕ} {at to : Progress} → at ≡ to → lead ≡ n → m ≡ to .index .0 → Met f g D budget to → Kept f g D (to .index .0) k n → Met f g D budget at × (m ≡ at .index .0) × ((k : ℕ) × Kept f g D (at .index .0) k lead)
+met-at {f} {g} {D} {budget} {k = k} {lead = l} e o i t w =
+    (subst (Met f g D budget) (sym e) t, i ∙ ap (λ (p : Progress). p .index .0) (sym e), (k, subst₂ (λ (p : Progress) (n : ℕ). Kept f g D (p .index .0) k n) (sym e) (sym o) w))
 
 pub last-reduced : {q g : ℕ} {D : List ℕ} {budget : ℕ} {at : Progress} → Admitted (prime q) g D → Met (prime q) g D budget at → at .last < q
 last-reduced {q} {at = at} h m = subst (λ (v : ℕ). v < q) (sym (m .last-is)) (Q-oks (surd-of h) (at .index .0) 0)
 
--- a constant Q is met
-pub outcome-found : {q : ℕ} (n : ℕ) {D : List ℕ} {budget : ℕ} {at : Progress} → Admitted (prime q) (genus n) D → Met (prime q) (genus n) D budget at → found (at .degree .0) (at .index .0) (signed (prime q) (at .index .0) (at .last)) ≡ outcomeOf (ticket (prime q) n D budget)
-outcome-found {q} n {D} {budget} {at} h m =
-    ap₂ (λ (i j : ℕ). found i (at .index .0) (signed (prime q) (at .index .0) j)) (m .degree-is) (m .last-is) ∙ sym (found-is q n D h budget (at .index .0) (m .quasi))
+-- a constant Q is met, and n stands for twice the leading coefficient of p_{m−1}
+pub outcome-found : {q : ℕ} (n : ℕ) {D : List ℕ} {budget k lead : ℕ} {at : Progress} → Admitted (prime q) (genus n) D → Met (prime q) (genus n) D budget at → Kept (prime q) (genus n) D (at .index .0) k lead → found (at .degree .0) (at .index .0) (monicConstant (prime q) (at .index .0) (at .last) (lead % q)) ≡ outcomeOf (ticket (prime q) n D budget)
+outcome-found {q} n {D} {budget} {lead = l} {at = at} h m w =
+    ap (λ (j : ℕ). found j (at .index .0) (monicConstant (prime q) (at .index .0) (at .last) (l % q))) (m .degree-is)
+    ∙ ap₂ (λ (j k : ℕ). found (degreeBefore (ops (prime q)) D (rootD (prime q) (genus n) D) (at .index .0)) (at .index .0) (monicConstant (prime q) (at .index .0) j k)) (m .last-is) (w .is)
+    ∙ sym (found-is q n D h budget (at .index .0) (m .quasi))
 
 -- the budget is spent
 pub outcome-spent : {q : ℕ} (n : ℕ) {D : List ℕ} {budget : ℕ} {before current rest : List ℕ} {at : Progress} → Admitted (prime q) (genus n) D → Seeking (prime q) (genus n) D budget before current rest at → at .index .0 ≡ budget → spent (at .index .0) (at .degree .0) ≡ outcomeOf (ticket (prime q) n D budget)

@@ -7,13 +7,13 @@ use Rattle.bench_walk.proofs.bench_walk.Statement.{statement}
 use Rattle.bench_walk.proofs.bench_walk.Tie as tie
 
 returns : tie.Need-returns
-returns c = many-steps _ _ (c .if1 .taken)
+returns c = (many-steps _ _ (c .if1 .taken), omega arith)
 
 read-ticket-requires : tie.Need-read-ticket-requires
 read-ticket-requires c κs = search needs
 
 returns-2 : tie.Need-returns-2
-returns-2 c = refused-steps _ _ (omega arith) _ (number-is _ (c .before .before .read-ticket .ensures)) (λ e. omega arith)
+returns-2 c = (refused-steps _ _ (omega arith) _ (number-is _ (c .before .before .read-ticket .ensures)) (λ e. omega arith), omega arith)
 
 run-on-requires : tie.Need-run-on-requires
 run-on-requires c κs =
@@ -21,7 +21,9 @@ run-on-requires c κs =
     (a .is-field, (a .radicand, (a .held, degree-two a, omega arith)))
 
 returns-3 : tie.Need-returns-3
-returns-3 c = accepted-steps _ _ (omega arith) (accepted _ (c .before .before .before .read-ticket .ensures) (omega arith)) _ (c .run-on .ensures)
+returns-3 c =
+    let e = c .run-on .ensures in
+    (accepted-steps _ _ (omega arith) (accepted _ (c .before .before .before .read-ticket .ensures) (omega arith)) _ (e .0), e .1 .most)
 
 pub bench-walk-spec : {M : Type 1} → statement M
 bench-walk-spec = tie.close (tie.spec returns read-ticket-requires returns-2 run-on-requires returns-3)

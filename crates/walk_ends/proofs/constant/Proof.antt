@@ -1,19 +1,37 @@
--- The sign is that of the parity of m.
-use native.Mathlib.Omega.{arith}
-use mathlib.Core.Path.{sym, _∙_}
+-- `constant` meets its contract: the constant with its sign, times the square of 1/λ.
+use Prim.Native.Nat.{ℕ, _<_}
+use native.Mathlib.Nat.{mod-lt}
+use mathlib.Core.Path.{sym, ap₂, _∙_, subst}
 use borrow.Author.Needs.{needs}
-use Rattle.walk_ends.specs.Signed.{signed-even, signed-odd}
+use Rattle.spec_arithmetic.specs.Field.{modulo}
+use Rattle.spec_bridge.specs.Residues.{pos}
+use Rattle.walk_ends.specs.Constant.{over-below, signed-below, monic-is}
 use Rattle.walk_ends.proofs.constant.Statement.{statement}
 use Rattle.walk_ends.proofs.constant.Tie as tie
 
-neg-requires : tie.Need-neg-requires
-neg-requires c κs = search needs
+over-lead-requires : tie.Need-over-lead-requires
+over-lead-requires c κs = search needs
+
+mul-requires : tie.Need-mul-requires
+mul-requires c κs =
+    let s = c .before in
+    let k = subst (λ (x : ℕ). x < s .args .f .q) (sym (c .over-lead .ensures)) (over-below (s .args .f .q) (s .args .lead) (pos _ (s .pre .0 .0))) in
+    (s .pre .0, k, k)
+
+signed-requires : tie.Need-signed-requires
+signed-requires c κs = search needs
+
+mul-requires-2 : tie.Need-mul-requires-2
+mul-requires-2 c κs =
+    let s = c .before .before .before in
+    (s .pre .0, subst (λ (x : ℕ). x < s .args .f .q) (sym (c .before .mul .ensures)) (mod-lt _ (pos _ (s .pre .0 .0))), subst (λ (x : ℕ). x < s .args .f .q) (sym (c .signed .ensures)) (signed-below (s .args .f .q) (s .args .m .0) (s .args .c) (s .pre .1)))
 
 returns : tie.Need-returns
-returns c = let s = c .before .before in sym (signed-even (s .args .f .q) (s .args .m .0) (s .args .c) (omega arith))
-
-returns-2 : tie.Need-returns-2
-returns-2 c = let s = c .before .before .before in c .neg .ensures ∙ sym (signed-odd (s .args .f .q) (s .args .m .0) (s .args .c) (c .before .if1 .left))
+returns c =
+    let t = c .before .before in
+    let o = t .before in
+    let s = o .before in
+    c .mul2 .ensures ∙ ap₂ (modulo (s .args .f .q) .mul) (t .mul .ensures ∙ ap₂ (modulo (s .args .f .q) .mul) (o .over-lead .ensures) (o .over-lead .ensures)) (c .before .signed .ensures) ∙ sym (monic-is _ (s .args .m .0) (s .args .c) (s .args .lead))
 
 pub constant-spec : {M : Type 1} → statement M
-constant-spec = tie.close (tie.spec neg-requires returns returns-2)
+constant-spec = tie.close (tie.spec over-lead-requires mul-requires signed-requires mul-requires-2 returns)
