@@ -7,9 +7,9 @@ struct tried {
     uint64_t degree, stops;
 };
 
-// lead stands for the product of 2/lc Q_j that a run keeps.
+// product stands for that of 2/lc Q_j, which a run keeps.
 struct made {
-    uint64_t degree, lead;
+    uint64_t degree, product;
 };
 
 // The degree of p_{steps-1}, the sum of deg a_0 .. a_{steps-1}; 0 where the ticket is refused. bench_half also

@@ -189,8 +189,8 @@ struct foskadoin_giant_step_numbers foskadoin_giant_step(const uint32_t *ticket,
 
    Least degree. Of all polynomials p and s modulo q with s not 0 and p^2 - D s^2 a constant other than 0:
    where the answer is found, none has deg p < R, and where deg p = R they are the unit's times a constant, s
-   perhaps with the other sign, so that the unit alone has both monic; where it is spent, none has deg p <= the
-   degree reached, and where half is spent, none has deg p <= deg p_(2b-1).
+   perhaps with the other sign, so that the unit is the only one with p and s both monic; where it is spent, none
+   has deg p <= the degree reached, and where half is spent, none has deg p <= deg p_(2b-1).
 
    Several primes. If p^2 - D s^2 = c has a solution with complex coefficients, s not 0 and c a constant other than
    0, then R is the same at every prime that is not refused, the degree of p at its least. So a difference decides:

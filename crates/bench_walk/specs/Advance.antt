@@ -1,10 +1,9 @@
 -- Steps past every constant Q: where the walk stands between them, within the number asked for.
-use Prim.Native.Nat.{ℕ, suc, _*_, _-_, _≤_, _<_}
+use Prim.Native.Nat.{ℕ, suc, _*_, _≤_, _<_}
 use native.Mathlib.Numerals.{add-one}
 use native.Mathlib.Omega.{arith}
 use mathlib.Core.Path.{_≡_, ap, _∙_, subst}
 use mathlib.Core.List.{List}
-use lib.ListN.{getD}
 use Rattle.spec_arithmetic.specs.Field.{FieldName, prime, ops}
 use Rattle.spec_definitions.specs.Walk.{degreeBefore}
 use Rattle.spec_definitions.specs.Ticket.{budgets}
@@ -16,7 +15,7 @@ use Rattle.walk_stride.specs.declared.Progress.{Progress}
 use Rattle.walk_stride.specs.Progress.{Begun, Going, Taken}
 use Rattle.walk_stride.specs.Walked.{Walked, walked-first, going}
 use Rattle.walk_stride.specs.Stride.{stride-walked}
-use Rattle.walk_lead.specs.Kept.{Kept, factors, twoFactors, factorOf, times-asks, kept-next}
+use Rattle.walk_lead.specs.Kept.{Kept, largestFactor, twoFactors, factorOf, kept-next}
 
 pub record Advancing (f : FieldName) (g : ℕ) (D : List ℕ) (steps : ℕ) (before current rest : List ℕ) (at : Progress) : Type 0 where
   pub walked : Walked f g D before current rest at
@@ -30,8 +29,8 @@ pub advanced : {f : FieldName} {g : ℕ} {D : List ℕ} {steps : ℕ} {before cu
 advanced {f} {g} {D} t e = t .walked .degree-is ∙ ap (degreeBefore (ops f) D (rootD f g D)) e
 
 -- with the product
-pub reached : {f : FieldName} {g : ℕ} {D : List ℕ} {steps k n : ℕ} {before current rest : List ℕ} {at : Progress} → Advancing f g D steps before current rest at → Kept f g D (at .index .0) k n → k ≤ twoFactors → at .index .0 ≡ steps → (at .degree .0 ≡ degreeBefore (ops f) D (rootD f g D) steps) × Kept f g D steps twoFactors n
-reached {f} {g} {D} {n = n} t w l e = (advanced t e, subst (λ (i : ℕ). Kept f g D i twoFactors n) e (record { is = w .is; most = let m = w .most in omega arith }))
+pub advanced-kept : {f : FieldName} {g : ℕ} {D : List ℕ} {steps k n : ℕ} {before current rest : List ℕ} {at : Progress} → Advancing f g D steps before current rest at → Kept f g D (at .index .0) k n → k ≤ twoFactors → at .index .0 ≡ steps → (at .degree .0 ≡ degreeBefore (ops f) D (rootD f g D) steps) × Kept f g D steps twoFactors n
+advanced-kept {f} {g} {D} {n = n} t w l e = (advanced t e, subst (λ (i : ℕ). Kept f g D i twoFactors n) e (record { is = w .is; most = let m = w .most in omega arith }))
 
 module _ {q g top : ℕ} {D table d twice : List ℕ} (h : Admitted (prime q) g D) (e : top ≡ suc (suc g)) (p : Prepared (prime q) g D table d twice) {steps : ℕ} {before current rest : List ℕ} {at : Progress} (t : Advancing (prime q) g D steps before current rest at) (left : at .index .0 ≡ steps → ⊥) where
   less : at .index .0 < steps
@@ -41,11 +40,7 @@ module _ {q g top : ℕ} {D table d twice : List ℕ} (h : Admitted (prime q) g 
   pub advancing-going : steps < budgets → Going (prime q) top table twice before current rest at
   advancing-going l = going h e p (t .walked) (let k = less in omega arith)
 
-  -- what the product with 2/lc Q asks for
-  pub advancing-asks : {k n : ℕ} → Kept (prime q) g D (at .index .0) k n → k ≤ twoFactors → ((0 < at .size) × (at .size ≤ 129) × (n ≤ twoFactors)) × ((getD current (at .size - 1) 0 < 4096) × (getD table (getD current (at .size - 1) 0) 0 < 4096))
-  advancing-asks = times-asks h p (t .walked .state)
-
-  pub advancing-kept : {remains after : List ℕ} {to : Progress} → Taken (prime q) top twice before current rest remains after at to → {k n r : ℕ} → Kept (prime q) g D (at .index .0) k n → r ≡ n * factorOf table current (at .size) → Kept (prime q) g D (to .index .0) (k * factors) r
+  pub advancing-kept : {remains after : List ℕ} {to : Progress} → Taken (prime q) top twice before current rest remains after at to → {k n r : ℕ} → Kept (prime q) g D (at .index .0) k n → r ≡ n * factorOf table current (at .size) → Kept (prime q) g D (to .index .0) (k * largestFactor) r
   advancing-kept {to = to} u w m = kept-next h p (t .walked .state) w m (to .index .0) (u .index-is ∙ add-one (at .index .0))
 
   pub advancing-next : {remains after : List ℕ} {to : Progress} → Taken (prime q) top twice before current rest remains after at to → Advancing (prime q) g D steps current after remains to

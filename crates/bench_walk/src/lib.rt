@@ -7,6 +7,7 @@ ghost use mathlib.Core.Path.{_≡_};
 ghost use Prim.Native.Nat.{_≤_};
 ghost use Rattle.walk_lead.specs.Kept.{twoFactors};
 ghost use Rattle.bench_walk.specs.Steps.{degreeAfter};
+use crate::advance::Made;
 use crate::advance::run_on;
 use crate::half::Tried;
 use crate::half::half_on;
@@ -15,33 +16,27 @@ use ticket_read::read_ticket;
 // How many budgets there are: 2²⁸.
 const BUDGETS: u64 = 268435456;
 
-// The degree reached, and what stands for twice the leading coefficient of p_{steps − 1}: of this only a bound is
-// promised.
-#[repr(C)]
-pub struct Made {
-    pub degree: u64,
-    pub lead: u64,
-}
-
-// The degree of p_{steps − 1} with the product, or 0 and 0 where the ticket is refused or 2²⁸ steps or more are asked
-// for. The ticket's budget has no part.
+// The degree of p_{steps − 1} with the product, of which only a bound is promised, or 0 and 0 where the ticket is refused
+// or 2²⁸ steps or more are asked for. The ticket's budget has no part.
 #[no_mangle]
 pub extern "C" fn bench_walk(ticket: &[u32], steps: u64) -> Made
     ensures degree { λ r. ⌜ r .degree ≡ degreeAfter (now (ticket .entry)) steps ⌝ }
-    ensures bounded { λ r. ⌜ r .lead ≤ twoFactors ⌝ }
+    ensures bounded { λ r. ⌜ r .product ≤ twoFactors ⌝ }
 {
     if BUDGETS <= steps {
-        return Made { degree: 0, lead: 0 };
+        return Made {
+            degree: 0,
+            product: 0,
+        };
     }
     let t = read_ticket(ticket);
     if t.number != 0 {
-        return Made { degree: 0, lead: 0 };
+        return Made {
+            degree: 0,
+            product: 0,
+        };
     }
-    let r = run_on(t.field, t.n, t.radicand, steps);
-    Made {
-        degree: r.degree.0,
-        lead: r.lead,
-    }
+    run_on(t.field, t.n, t.radicand, steps)
 }
 
 // The degree of p_{steps − 1}, or 0 as above, and how often the tests said that half the walk stops. The

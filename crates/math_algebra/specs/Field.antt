@@ -24,5 +24,8 @@ module _ {A : Type 0} (K : Field A) where
   pub some-mul : (a b : A) → (a ≡ 𝟘 → ⊥) → (b ≡ 𝟘 → ⊥) → a * b ≡ 𝟘 → ⊥
   some-mul a b h k e = h (no-zero-divisor a b k e)
 
+  pub mul-cancel : (c a b : A) → (c ≡ 𝟘 → ⊥) → c * a ≡ c * b → a ≡ b
+  mul-cancel c a b h e = ring-from (K .scalars) (a ∷ b ∷ c ∷ K .inv c ∷ []) (plus (K .scalars) (times (K .scalars) (K .inv c) e) (times (K .scalars) (K .scalars .add b (- a)) (K .inv-mul c h))) (search quote depth 40 fits 9999) tt
+
   pub some-inv : (a : A) → (a ≡ 𝟘 → ⊥) → K .inv a ≡ 𝟘 → ⊥
   some-inv a h e = K .one-not-zero (sym (K .inv-mul a h) ∙ ap (λ b. b * a) e ∙ zer-mul (K .scalars) a)

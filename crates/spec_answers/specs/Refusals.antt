@@ -7,13 +7,13 @@ use native.Mathlib.Omega.{arith}
 use mathlib.Core.Path.{_≡_, refl, sym, ap, _∙_, subst}
 use mathlib.Core.Logic.{_↔_, _≢_, _⊎_, inl, inr, ⊎-elim}
 use mathlib.Core.Bool.{Bool, true, false, false≢true}
-use mathlib.Core.List.{List, [], _∷_}
+use mathlib.Core.List.{List, []}
 use lib.ListN.{length, take, drop, length-drop}
 use lib.Seq.{length-take-le}
 use Rattle.math_ring.specs.Order.{le-or-lt}
 use Rattle.spec_arithmetic.specs.Field.{FieldName, ops}
 use Rattle.spec_arithmetic.specs.Polynomials.{root}
-use Rattle.spec_definitions.specs.Ticket.{genus, ticketOf, refusalOf}
+use Rattle.spec_definitions.specs.Ticket.{ticketOf, refusalOf}
 use Rattle.spec_definitions.specs.Walk.{Ideal}
 use Rattle.spec_definitions.specs.Answers.{Outcome, found, spent, refused, Said, said, said-injective, rootOf, outcomeOf, wordsOutcome, regulatorOf}
 use Rattle.spec_definitions.specs.Units.{Lists, unitAnswer}

@@ -31,10 +31,10 @@ pub record Holds (R : ℕ) (f old new : List ℕ) : Type 0 where
   pub places : (i : ℕ) → i ≤ R → getD new i 0 ≡ getD f i 0
   pub later : KeepsFrom (suc R) old new
 
--- the same of f over k: k times the coefficient in each place is that of f
-pub record HoldsOver (o : FieldName) (R k : ℕ) (f old new : List ℕ) : Type 0 where
-  pub places : (i : ℕ) → i ≤ R → ops o .mul k (getD new i 0) ≡ getD f i 0
-  pub below : (i : ℕ) → i ≤ R → Ok o (getD new i 0)
+-- the same of a polynomial l over k: k times the coefficient in each place is that of l, and each is a coefficient
+pub record HoldsOver (f : FieldName) (R k : ℕ) (l old new : List ℕ) : Type 0 where
+  pub places : (i : ℕ) → i ≤ R → ops f .mul k (getD new i 0) ≡ getD l i 0
+  pub below : (i : ℕ) → i ≤ R → Ok f (getD new i 0)
   pub later : KeepsFrom (suc R) old new
 
 -- "R = deg p_{m−1} the regulator, (p_{m−1}, s_{m−1}) the unit"; R-3: "the unit's p is monic, s is divided by the
@@ -94,17 +94,17 @@ module _ (t : Ticket) (R m : ℕ) (old new : Lists) (at-exit : new ≡ unitLists
   unfolding unitLists
   fourth-at i k = ap (λ (x : Lists). getD (x .fourth) i 0) at-exit ∙ written-at t (suc R) [] (old .fourth) i (omega arith)
 
--- a polynomial u with k·u = f, in places 0 to R
-holds-over : (o : FieldName) → IsField o → {R k : ℕ} (u f : List ℕ) {old new : List ℕ} → scale (ops o) k u ≡ f → ((i : ℕ) → Ok o (getD u i 0)) → ((i : ℕ) → i ≤ R → getD new i 0 ≡ getD u i 0) → KeepsFrom (suc R) old new → HoldsOver o R k f old new
-holds-over o h {R} {k} u f is below at later = record {
-  places = λ i l. ap (ops o .mul k) (at i l) ∙ sym (at-scale (arithmetic o h .M) k u i) ∙ ap (λ (x : List ℕ). getD x i 0) is;
-  below = λ i l. subst (Ok o) (sym (at i l)) (below i);
+-- a polynomial u with k·u = l, in places 0 to R
+holds-over : (f : FieldName) → IsField f → {R k : ℕ} (u l : List ℕ) {old new : List ℕ} → scale (ops f) k u ≡ l → ((i : ℕ) → Ok f (getD u i 0)) → ((i : ℕ) → i ≤ R → getD new i 0 ≡ getD u i 0) → KeepsFrom (suc R) old new → HoldsOver f R k l old new
+holds-over f h {R} {k} u l is below at later = record {
+  places = λ i p. ap (ops f .mul k) (at i p) ∙ sym (at-scale (arithmetic f h .M) k u i) ∙ ap (λ (x : List ℕ). getD x i 0) is;
+  below = λ i p. subst (Ok f) (sym (at i p)) (below i);
   later = later;
 }
 
-unit-below : (o : FieldName) → IsField o → (D d : List ℕ) (m : ℕ) → ((i : ℕ) → Ok o (getD (unitOf (ops o) D d m .p) i 0)) × ((i : ℕ) → Ok o (getD (unitOf (ops o) D d m .s) i 0))
+unit-below : (f : FieldName) → IsField f → (D d : List ℕ) (m : ℕ) → ((i : ℕ) → Ok f (getD (unitOf (ops f) D d m .p) i 0)) × ((i : ℕ) → Ok f (getD (unitOf (ops f) D d m .s) i 0))
 unfolding unitOf
-unit-below o h D d m = ((λ i. arithmetic o h .ok-is _ (oks-scale (arithmetic o h .M) _ _ i)), (λ i. arithmetic o h .ok-is _ (oks-scale (arithmetic o h .M) _ _ i)))
+unit-below f h D d m = ((λ i. arithmetic f h .ok-is _ (oks-scale (arithmetic f h .M) _ _ i)), (λ i. arithmetic f h .ok-is _ (oks-scale (arithmetic f h .M) _ _ i)))
 
 pub t2-unit-lists : T2UnitLists
 unfolding unitAnswer
@@ -115,7 +115,7 @@ t2-unit-lists w l R m c e =
     let new = unitAnswer w l .lists in
     let at-exit : unitAnswer w l .lists ≡ unitLists (ticketOf w) R m l = lists-written (ticketOf w) (wordsOutcome w) l R m c f e in
     let kept = t1-lists .0 w l .later R m c e in
-    let u = subst (MonicIn (ticketOf w .field) (ticketOf w .D) (rootOf (ticketOf w))) f (t3-monic w) in
+    let u = subst (MonicIn (ticketOf w .field) (genus (ticketOf w .n)) (ticketOf w .D) (rootOf (ticketOf w))) f (t3-monic w) in
     let b = unit-below (ticketOf w .field) (is-field (admitted w z)) (ticketOf w .D) (rootOf (ticketOf w)) m in
     record {
       regulator = s .regulator;

@@ -91,6 +91,7 @@ jobs =
     ∷ unit (ticket 5 (0 ∷ 1 ∷ 0 ∷ 0 ∷ 1 ∷ []) 2) 4
     ∷ unit (ticket 7 (0 ∷ 4 ∷ 0 ∷ 0 ∷ 1 ∷ []) 2) 4
     ∷ regulator (ticket 7 (0 ∷ 1 ∷ 0 ∷ 0 ∷ 1 ∷ []) 2)
+    ∷ regulator (ticket 5 (4 ∷ 4 ∷ 0 ∷ 0 ∷ 1 ∷ []) 7)
     ∷ orders (bytes (ticket 7 (0 ∷ 4 ∷ 0 ∷ 0 ∷ 1 ∷ []) 2))
     ∷ []
 
@@ -139,8 +140,10 @@ printed =
     -- c = 1/4; x^4 + 4x modulo 7, with p_1 = 4x³ + 1 and s_1 = 4x, has p = x³ + 2, s = x and c = 1/16
     ∷ ((0 ∷ 3 ∷ 2 ∷ 4 ∷ []) ∷ (3 ∷ 0 ∷ 0 ∷ 1 ∷ []) ∷ (0 ∷ 1 ∷ 0 ∷ 0 ∷ []) ∷ replicate 4 0 ∷ replicate 4 0 ∷ [])
     ∷ ((0 ∷ 3 ∷ 2 ∷ 4 ∷ []) ∷ (2 ∷ 0 ∷ 0 ∷ 1 ∷ []) ∷ (0 ∷ 1 ∷ 0 ∷ 0 ∷ []) ∷ replicate 4 0 ∷ replicate 4 0 ∷ [])
-    -- "This alters .. the found answer and the program's first line": x^4 + x modulo 7 has c = 1/4
+    -- "This alters .. the found answer and the program's first line": x^4 + x modulo 7 has c = 1/4; x^4 + 4x + 4
+    -- modulo 5, with an odd m, has c = 2, where (−1)^m·Q_m is 3
     ∷ ((0 ∷ 3 ∷ 2 ∷ 2 ∷ []) ∷ [])
+    ∷ ((0 ∷ 8 ∷ 7 ∷ 2 ∷ []) ∷ [])
     ∷ (ascii "found 3 2 4\n1 0 3 1 0 0\n2 2 1 0 1 0\n" ∷ [])
     ∷ []
 

@@ -89,7 +89,7 @@ module _ {A : Type 0} (o : Ops A) (D d : List A) where
   unfoldable pub unitOf : ℕ → Unit A
   unitOf m = record { p = scale o (overLead m) (pBefore m); s = scale o (overLead m) (sBefore m) }
 
-  -- (−1)^m·Q_m, the norm p_{m−1}² − D·s_{m−1}²
+  -- (−1)^m times the constant coefficient of Q_m: where Q_m is constant, the norm p_{m−1}² − D·s_{m−1}²
   unfoldable pub signedQ : ℕ → A
   signedQ m = elim (eqb (m % 2) 0) [ true ↦ at o (Q m) 0 | false ↦ o .sub (o .zer) (at o (Q m) 0) ]
 

@@ -222,14 +222,14 @@ module _ {f : FieldName} {g : ℕ} {D : List ℕ} (h : Admitted f g D) where
     constant = size-Q (suc i) ∙ a .constant;
     least = λ j l u e. a .least j l u (sym (size-Q j) ∙ e);
     regulator = refl;
-    value = record { below = arithmetic f (is-field h) .ok-is _ (constant-ok z i); square = ap (λ (c : ℕ). c ∷ []) (constant-lead z i) ∙ sym (norms.constant-is z (suc i) (a .constant)) };
+    value = record { below = arithmetic f (is-field h) .ok-is _ (constant-ok z i); square = ap (λ (c : ℕ). c ∷ []) (constant-lead z i) ∙ sym (norms.signedQ-is z (suc i) (a .constant)) };
   }
 
   -- no other c has this product with λ²
   pub constant-told : {m c : ℕ} → 0 < m → size (ops f) (walk.Q (ops f) D d m) ≡ 1 → ConstantAt f D d m c → c ≡ constantOf (ops f) D d m
   unfolding signed signs.signed
   constant-told {m = zero} l e k = absurd (omega arith)
-  constant-told {m = suc i} {c = c} l e k = constant-only z i c (arithmetic f (is-field h) .ok-of c (k .below)) (ap (λ (l : List ℕ). getD l 0 0) (k .square ∙ norms.constant-is z (suc i) (sym (size-Q (suc i)) ∙ e)))
+  constant-told {m = suc i} {c = c} l e k = constant-only z i c (arithmetic f (is-field h) .ok-of c (k .below)) (ap (λ (l : List ℕ). getD l 0 0) (k .square ∙ norms.signedQ-is z (suc i) (sym (size-Q (suc i)) ∙ e)))
 
   spends : (b : ℕ) → NoQuasi (ops f) D d b → Spends f D d b b (degreeBefore (ops f) D d b)
   unfolding degreeBefore

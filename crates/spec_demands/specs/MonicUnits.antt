@@ -1,20 +1,19 @@
 -- R-3, monic units: where a ticket's outcome is `found`, p and s of the unit are monic, and λ times them are
 -- p_{m−1} and s_{m−1}, where λ is the leading coefficient of p_{m−1}; a solution of degree R with a monic p is the
--- unit itself, up to the sign of s. T2 says c, and T3 that the unit solves, has degree R and norm c and is least.
-use Prim.Native.Nat.{ℕ, zero, suc}
+-- unit itself, up to the sign of s. T2 says which c, and T3 that the unit solves, has degree R and norm c and is least.
+use Prim.Native.Nat.{ℕ, zero, suc, _+_}
 use native.Mathlib.Omega.{arith}
-use mathlib.Core.Path.{_≡_, refl, sym, ap, ap₂, _∙_, subst}
+use mathlib.Core.Path.{_≡_, refl, sym, ap, _∙_, subst}
 use mathlib.Core.Logic.{_⊎_, inl, inr, ⊎-elim}
-use mathlib.Core.List.{List, [], _∷_}
+use mathlib.Core.List.{List}
 use mathlib.Core.Option.{Option, none, some}
 use lib.ListN.{getD}
-use Rattle.math_ring.specs.Identity.{ring-from, times, quote}
 use Rattle.math_ring.specs.Series.{Series, conv, con}
 use Rattle.math_algebra.specs.Field.{Field}
 use Rattle.math_algebra.specs.Polynomial.{F, Px, con-mul}
-use Rattle.math_surd.specs.Distance.{height}
+use Rattle.math_surd.specs.Distance.{height, distance-height}
 use Rattle.spec_arithmetic.specs.Field.{FieldName, ops, reading}
-use Rattle.spec_arithmetic.specs.Polynomials.{trim, deg, lead, scale, root}
+use Rattle.spec_arithmetic.specs.Polynomials.{deg, lead, scale, root}
 use Rattle.spec_definitions.specs.Ticket.{Ticket, genus, ticketOf, refusalOf}
 use Rattle.spec_definitions.specs.Walk.{Unit as UnitPair, pBefore, sBefore, quasiPeriod, degreeBefore, overLead, unitOf, constantOf}
 use Rattle.spec_definitions.specs.Answers.{Outcome, found, spent, refused, opsOf, rootOf, outcomeOf, wordsOutcome}
@@ -25,7 +24,7 @@ use Rattle.spec_bridge.specs.Arithmetic.{at-scale, trim-scale, oks-scale, serie
 use Rattle.spec_fields.specs.Named.{Arithmetic, arithmetic, ok-first, φ-first, same-reading, reading-same, reading-first}
 use Rattle.spec_laws.specs.Surd.{Surd}
 use Rattle.spec_laws.specs.Fraction.{fraction}
-use Rattle.spec_laws.specs.Convergents.{p-trim, p-oks, s-trim, s-oks}
+use Rattle.spec_laws.specs.Convergents.{p-trim, p-oks, s-trim, s-oks, degree-distance}
 use Rattle.spec_laws.specs.Leads.{over-lead}
 use Rattle.spec_laws.specs.Monic.{unit-p-monic, unit-s-monic}
 use Rattle.spec_laws.specs.QuasiPeriod.{Quasi, Says, quasi-says}
@@ -38,22 +37,24 @@ pub record Itself (f : FieldName) (u : UnitPair ℕ) (p s : List ℕ) : Type 0 w
   pub p-is : Same f p (u .p)
   pub s-is : Same f s (u .s) ⊎ Same f s (scale (ops f) (ops f .sub 0 1) (u .s))
 
--- "From now on the unit's p is monic, s is divided by the same constant": u is the unit, and k stands for λ
-pub record MonicFound (f : FieldName) (D d : List ℕ) (R m k : ℕ) (u : UnitPair ℕ) : Type 0 where
+-- "From now on the unit's p is monic, s is divided by the same constant": u is the unit, and lam stands for λ; s has
+-- the degree R − (g + 1)
+pub record MonicFound (f : FieldName) (g : ℕ) (D d : List ℕ) (R m lam : ℕ) (u : UnitPair ℕ) : Type 0 where
   pub p-monic : getD (u .p) R 0 ≡ 1
+  pub s-degree : deg (ops f) (u .s) + suc g ≡ R
   pub s-monic : getD (u .s) (deg (ops f) (u .s)) 0 ≡ 1
-  pub p-divided : scale (ops f) k (u .p) ≡ pBefore (ops f) D d m
-  pub s-divided : scale (ops f) k (u .s) ≡ sBefore (ops f) D d m
+  pub p-divided : scale (ops f) lam (u .p) ≡ pBefore (ops f) D d m
+  pub s-divided : scale (ops f) lam (u .s) ≡ sBefore (ops f) D d m
   pub monic-only : (p s : List ℕ) → Solves f D p s → deg (ops f) p ≡ R → reading f (getD p R 0) ≡ 1 → Itself f u p s
 
 -- what an outcome says of the unit, for D with its root d
-abbrev pub MonicIn : FieldName → List ℕ → List ℕ → Outcome → Type 0
-MonicIn f D d (found R m c) = MonicFound f D d R m (lead (ops f) (pBefore (ops f) D d m)) (unitOf (ops f) D d m)
-MonicIn f D d (spent k e) = Unit
-MonicIn f D d (refused j) = Unit
+abbrev pub MonicIn : FieldName → ℕ → List ℕ → List ℕ → Outcome → Type 0
+MonicIn f g D d (found R m c) = MonicFound f g D d R m (lead (ops f) (pBefore (ops f) D d m)) (unitOf (ops f) D d m)
+MonicIn f g D d (spent k e) = Unit
+MonicIn f g D d (refused j) = Unit
 
 abbrev pub T3Monic : Type 0
-T3Monic = (w : List ℕ) → MonicIn (ticketOf w .field) (ticketOf w .D) (rootOf (ticketOf w)) (wordsOutcome w)
+T3Monic = (w : List ℕ) → MonicIn (ticketOf w .field) (genus (ticketOf w .n)) (ticketOf w .D) (rootOf (ticketOf w)) (wordsOutcome w)
 
 -- ---- the proof, for a D that is admitted
 module _ {f : FieldName} {g : ℕ} {D : List ℕ} (h : Admitted f g D) where
@@ -113,9 +114,12 @@ module _ {f : FieldName} {g : ℕ} {D : List ℕ} (h : Admitted f g D) where
     unfolding unitOf
     p-top = one-at (pBefore (ops f) D d (suc i)) (degreeBefore (ops f) D d (suc i)) (unit-p-monic z i .top)
 
+    s-height : deg (ops f) (u .s) ≡ height K (fraction z) i
+    s-height = let e = deg-is K M (u .s) in let l = monic-size K M (u .s) (unit-s-monic z i) in omega arith
+
     s-top : getD (unitOf (ops f) D d (suc i) .s) (deg (ops f) (unitOf (ops f) D d (suc i) .s)) 0 ≡ 1
     unfolding unitOf
-    s-top = ap (λ (n : ℕ). getD (scale (ops f) over (sBefore (ops f) D d (suc i))) n 0) (let e = deg-is K M (u .s) in let l = monic-size K M (u .s) (unit-s-monic z i) in let k : deg (ops f) (u .s) ≡ height K (fraction z) i = omega arith in k) ∙ one-at (sBefore (ops f) D d (suc i)) _ (unit-s-monic z i .top)
+    s-top = ap (λ (n : ℕ). getD (scale (ops f) over (sBefore (ops f) D d (suc i))) n 0) s-height ∙ one-at (sBefore (ops f) D d (suc i)) _ (unit-s-monic z i .top)
 
     -- λ times what is divided by λ
     divided : (l : List ℕ) → Trim M l → Oks M l → scale (ops f) lam (scale (ops f) over l) ≡ l
@@ -128,29 +132,30 @@ module _ {f : FieldName} {g : ℕ} {D : List ℕ} (h : Admitted f g D) where
         ∙ Series (F K) .mul-comm _ _
         ∙ Series (F K) .mul-one _)
 
-    monic-next : MonicFound f D d (degreeBefore (ops f) D d (suc i)) (suc i) lam (unitOf (ops f) D d (suc i))
+    monic-next : MonicFound f g D d (degreeBefore (ops f) D d (suc i)) (suc i) lam (unitOf (ops f) D d (suc i))
     unfolding unitOf
     monic-next = record {
       p-monic = p-top;
+      s-degree = (let e = degree-distance z (suc i) in let k = distance-height K (fraction z) i in let l = s-height in omega arith);
       s-monic = s-top;
       p-divided = divided (pBefore (ops f) D d (suc i)) (p-trim z (suc i)) (p-oks z (suc i));
       s-divided = divided (sBefore (ops f) D d (suc i)) (s-trim z (suc i)) (s-oks z (suc i));
       monic-only = itself (unitOf (ops f) D d (suc i)) (degreeBefore (ops f) D d (suc i)) (constantOf (ops f) D d (suc i)) (least-found h b (suc i) first) p-top;
     }
 
-  monic-found : (b m : ℕ) → Quasi (ops f) D d b m → MonicIn f D d (found (degreeBefore (ops f) D d m) m (constantOf (ops f) D d m))
+  monic-found : (b m : ℕ) → Quasi (ops f) D d b m → MonicIn f g D d (found (degreeBefore (ops f) D d m) m (constantOf (ops f) D d m))
   monic-found b zero first = absurd (let l = first .positive in omega arith)
   monic-found b (suc i) first = monic-next b i first
 
 -- ---- the outcome of a ticket, and of words
-pub monic-outcome : (t : Ticket) → Admitted (t .field) (genus (t .n)) (t .D) → MonicIn (t .field) (t .D) (rootOf t) (outcomeOf t)
+monic-outcome : (t : Ticket) → Admitted (t .field) (genus (t .n)) (t .D) → MonicIn (t .field) (genus (t .n)) (t .D) (rootOf t) (outcomeOf t)
 unfolding outcomeOf rootOf
 monic-outcome t h = go (quasiPeriod (opsOf t) (t .D) d′ (t .b)) (quasi-says (surd-of h) (t .b))
   where
     d′ : List ℕ
     d′ = root (opsOf t) (t .D) (suc (genus (t .n)))
 
-    go : (x : Option ℕ) → Says (surd-of h) (t .b) x → MonicIn (t .field) (t .D) d′ (elim x [ none ↦ spent (t .b) (degreeBefore (opsOf t) (t .D) d′ (t .b)) | some m ↦ found (degreeBefore (opsOf t) (t .D) d′ m) m (constantOf (opsOf t) (t .D) d′ m) ])
+    go : (x : Option ℕ) → Says (surd-of h) (t .b) x → MonicIn (t .field) (genus (t .n)) (t .D) d′ (elim x [ none ↦ spent (t .b) (degreeBefore (opsOf t) (t .D) d′ (t .b)) | some m ↦ found (degreeBefore (opsOf t) (t .D) d′ m) m (constantOf (opsOf t) (t .D) d′ m) ])
     go none free = tt
     go (some m) first = monic-found h (t .b) m first
 
@@ -158,6 +163,6 @@ pub t3-monic : T3Monic
 unfolding wordsOutcome
 t3-monic w = go (refusalOf w) refl
   where
-    go : (k : ℕ) → refusalOf w ≡ k → MonicIn (ticketOf w .field) (ticketOf w .D) (rootOf (ticketOf w)) (elim k [ zero ↦ outcomeOf (ticketOf w) | suc k ↦ refused (suc k) ])
+    go : (k : ℕ) → refusalOf w ≡ k → MonicIn (ticketOf w .field) (genus (ticketOf w .n)) (ticketOf w .D) (rootOf (ticketOf w)) (elim k [ zero ↦ outcomeOf (ticketOf w) | suc k ↦ refused (suc k) ])
     go zero e = monic-outcome (ticketOf w) (admitted w e)
     go (suc k) e = tt

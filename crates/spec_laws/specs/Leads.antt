@@ -1,13 +1,12 @@
 -- The leading coefficients of the convergents: p_i and s_i have the same, λ_i. λ_0 is 1, and λ_{i+1} is λ_i
--- times 2/lc Q_{i+1}, which is the leading coefficient of a_{i+1}. So a walk that keeps the product of 2/lc Q_j
--- has twice the leading coefficient of p_{i−1} at hand. Over any coefficients that are those of a field.
-use Prim.Native.Nat.{ℕ, zero, suc, _-_ as _-ₙ_, _%_}
+-- times 2/lc Q_{i+1}, which is the leading coefficient of a_{i+1}. So a run that keeps the product of 2/lc Q_j for
+-- all j below i has twice the leading coefficient of p_{i−1} at hand, from index 1 on. Over any coefficients that
+-- are those of a field.
+use Prim.Native.Nat.{ℕ, zero, suc, _-_ as _-ₙ_}
 use native.Mathlib.Nat.{add-comm}
 use native.Mathlib.Omega.{arith}
 use mathlib.Core.Path.{_≡_, refl, sym, ap, ap₂, _∙_, subst}
-use mathlib.Core.Bool.{Bool, true, false}
 use mathlib.Core.List.{List, [], _∷_}
-use lib.Dec.{eqb}
 use lib.ListN.{length}
 use Rattle.math_ring.specs.Ring.{CRing}
 use Rattle.math_ring.specs.Identity.{ring-from, times, plus, quote}
@@ -24,19 +23,28 @@ use Rattle.spec_definitions.specs.Walk.{Q, pBefore, sBefore, overLead, signedQ,
 use Rattle.spec_bridge.specs.Model.{Model, Oks, series}
 use Rattle.spec_bridge.specs.Trim.{lead-is, lead-some}
 use Rattle.spec_bridge.specs.Degree.{deg-size}
-use Rattle.spec_laws.specs.Surd.{Surd, Q-zero, Q-trim, Q-oks}
+use Rattle.spec_laws.specs.Surd.{Surd, Q-zero, Q-trim}
 use Rattle.spec_laws.specs.Fraction.{fraction, Q-deg}
+use Rattle.spec_laws.specs.Norms.{signedQ-ok}
 use Rattle.spec_laws.specs.Convergents.{p-series, s-series, p-trim, p-oks, p-length, s-oks, s-one}
 
-module _ {A : Type 0} (o : Ops A) (D d : List A) where
-  -- 2/lc Q_i: from index 1 on the leading coefficient of a_i
-  abbrev pub twoOver : ℕ → A
-  twoOver i = o .add (o .inv (lead o (Q o D d i))) (o .inv (lead o (Q o D d i)))
+-- 2/x
+abbrev pub twoOver : {A : Type 0} → Ops A → A → A
+twoOver o x = o .add (o .inv x) (o .inv x)
 
-  -- the product of 2/lc Q_j for all j below i: from index 1 on twice the leading coefficient of p_{i−1}
+module _ {A : Type 0} (o : Ops A) (D d : List A) where
+  -- the product of 2/lc Q_j for all j below i
   unfoldable pub leadsTo : ℕ → A
   leadsTo zero = o .one
-  leadsTo (suc i) = o .mul (leadsTo i) (twoOver i)
+  leadsTo (suc i) = o .mul (leadsTo i) (twoOver o (lead o (Q o D d i)))
+
+  pub leads-zero : leadsTo 0 ≡ o .one
+  unfolding leadsTo
+  leads-zero = refl
+
+  pub leads-suc : (i : ℕ) → leadsTo (suc i) ≡ o .mul (leadsTo i) (twoOver o (lead o (Q o D d i)))
+  unfolding leadsTo
+  leads-suc i = refl
 
 -- ---- over a field
 module _ {A B : Type 0} {o : Ops A} {K : Field B} {M : Model o (F K)} {g : ℕ} {D d : List A} (h : Surd K M g D d) where
@@ -56,17 +64,17 @@ module _ {A B : Type 0} {o : Ops A} {K : Field B} {M : Model o (F K)} {g : ℕ} 
   leadQ i = lead o (Q o D d i)
 
   -- ---- as places of polynomials
-  pub lead-place : (l : List A) (n : ℕ) → Deg K (series M l) n → M .φ (lead o l) ≡ series M l n
-  lead-place l n t = ap φ (lead-is M l) ∙ ap (series M l) (let e : length (trim o l) -ₙ 1 ≡ n = omega (arith, deg-size K M l t) in e)
+  pub lead-at-degree : (l : List A) (n : ℕ) → Deg K (series M l) n → M .φ (lead o l) ≡ series M l n
+  lead-at-degree l n t = ap φ (lead-is M l) ∙ ap (series M l) (let e : length (trim o l) -ₙ 1 ≡ n = omega (arith, deg-size K M l t) in e)
 
   p-place : (i : ℕ) → φ (leadP i) ≡ convergents.p K (fraction h) (suc (suc i)) (distance K (fraction h) (suc i))
-  p-place i = lead-place (pBefore o D d (suc i)) _ (deg-path K _ (sym (p-series h (suc i))) (p-deg K (fraction h) (suc i))) ∙ ap (λ (f : Px K). f (distance K (fraction h) (suc i))) (p-series h (suc i))
+  p-place i = lead-at-degree (pBefore o D d (suc i)) _ (deg-path K _ (sym (p-series h (suc i))) (p-deg K (fraction h) (suc i))) ∙ ap (λ (f : Px K). f (distance K (fraction h) (suc i))) (p-series h (suc i))
 
   s-place : (i : ℕ) → φ (lead o (sBefore o D d (suc i))) ≡ convergents.s K (fraction h) (suc (suc i)) (height K (fraction h) i)
-  s-place i = lead-place (sBefore o D d (suc i)) _ (deg-path K _ (sym (s-series h (suc i))) (s-deg K (fraction h) i)) ∙ ap (λ (f : Px K). f (height K (fraction h) i)) (s-series h (suc i))
+  s-place i = lead-at-degree (sBefore o D d (suc i)) _ (deg-path K _ (sym (s-series h (suc i))) (s-deg K (fraction h) i)) ∙ ap (λ (f : Px K). f (height K (fraction h) i)) (s-series h (suc i))
 
   Q-place : (i : ℕ) → φ (leadQ i) ≡ series M (Q o D d i) (length (Q o D d i) -ₙ 1)
-  Q-place i = lead-place (Q o D d i) _ (Q-deg h i)
+  Q-place i = lead-at-degree (Q o D d i) _ (Q-deg h i)
 
   -- ---- p_i and s_i have the same leading coefficient
   same-element : (i : ℕ) → φ (lead o (sBefore o D d (suc i))) ≡ φ (leadP i)
@@ -80,7 +88,7 @@ module _ {A B : Type 0} {o : Ops A} {K : Field B} {M : Model o (F K)} {g : ℕ} 
 
   -- ---- λ_0 = 1, and λ_{i+1}·lc Q_{i+1} = 2·λ_i
   first-lead : φ (leadP 0) ≡ 𝟙
-  first-lead = sym (same-element 0) ∙ lead-place (sBefore o D d 1) 0 (deg-path K 0 (sym (s-series h 1)) (s-deg K (fraction h) 0)) ∙ ap (λ (l : List A). series M l 0) (s-one h) ∙ M .φ-one
+  first-lead = sym (same-element 0) ∙ lead-at-degree (sBefore o D d 1) 0 (deg-path K 0 (sym (s-series h 1)) (s-deg K (fraction h) 0)) ∙ ap (λ (l : List A). series M l 0) (s-one h) ∙ M .φ-one
 
   abbrev κ : ℕ → ℕ
   κ i = length (Q o D d i) -ₙ 1
@@ -121,26 +129,12 @@ module _ {A B : Type 0} {o : Ops A} {K : Field B} {M : Model o (F K)} {g : ℕ} 
   pub lead-Q-is : (i : ℕ) → lead o (Q o D d i) ≡ at o (Q o D d i) (length (Q o D d i) -ₙ 1)
   lead-Q-is i = lead-is M (Q o D d i) ∙ ap (λ (l : List A). at o (Q o D d i) (length l -ₙ 1)) (Q-trim h i)
 
-  -- ---- the product that a walk keeps
-  pub leads-zero : leadsTo o D d 0 ≡ o .one
-  unfolding leadsTo
-  leads-zero = refl
-
-  pub leads-suc : (i : ℕ) → leadsTo o D d (suc i) ≡ o .mul (leadsTo o D d i) (twoOver o D d i)
-  unfolding leadsTo
-  leads-suc i = refl
-
-  pub ok-leads : (i : ℕ) → M .Ok (leadsTo o D d i)
-  unfolding leadsTo
-  ok-leads zero = M .ok-one
-  ok-leads (suc i) = M .ok-mul _ _
-
-  -- ---- from index 1 on it is 2·λ
+  -- ---- the product is 2·λ from index 1 on
   leads-next : (i : ℕ) → φ (leadsTo o D d (suc i)) ≡ φ (leadsTo o D d i) * (φ (o .inv (leadQ i)) + φ (o .inv (leadQ i)))
-  leads-next i = ap φ (leads-suc i) ∙ M .φ-mul _ _ ∙ ap (λ (x : B). φ (leadsTo o D d i) * x) (M .φ-add _ _)
+  leads-next i = ap φ (leads-suc o D d i) ∙ M .φ-mul _ _ ∙ ap (λ (x : B). φ (leadsTo o D d i) * x) (M .φ-add _ _)
 
   leads-first : φ (leadsTo o D d 0) ≡ 𝟙
-  leads-first = ap φ leads-zero ∙ M .φ-one
+  leads-first = ap φ (leads-zero o D d) ∙ M .φ-one
 
   first-Q : φ (leadQ 0) ≡ 𝟙
   first-Q = Q-place 0 ∙ ap (λ (l : List A). series M l (length l -ₙ 1)) (Q-zero h) ∙ M .φ-one
@@ -164,7 +158,7 @@ module _ {A B : Type 0} {o : Ops A} {K : Field B} {M : Model o (F K)} {g : ℕ} 
   some-leads i e = some-mul K (𝟙 + 𝟙) (φ (leadP i)) (K .two-not-zero) (some-lead (suc i)) (ring-from (F K) (φ (leadP i) ∷ φ (leadsTo o D d (suc i)) ∷ []) (plus (F K) (times (F K) (- 𝟙) (twice-lead i)) (times (F K) 𝟙 e)) (search quote depth 40 fits 9999) tt)
 
   -- 1/λ is twice the inverse of that product
-  pub over-leads : (i : ℕ) → overLead o D d (suc i) ≡ o .add (o .inv (leadsTo o D d (suc i))) (o .inv (leadsTo o D d (suc i)))
+  pub over-leads : (i : ℕ) → overLead o D d (suc i) ≡ twoOver o (leadsTo o D d (suc i))
   over-leads i = M .inj _ _ (ok-over i) (M .ok-add _ _) (same ∙ sym (M .φ-add _ _))
     where
       ok-over : (i : ℕ) → M .Ok (overLead o D d (suc i))
@@ -182,17 +176,9 @@ module _ {A B : Type 0} {o : Ops A} {K : Field B} {M : Model o (F K)} {g : ℕ} 
           (search quote depth 40 fits 9999) tt
 
   -- ---- c·λ² = (−1)^m·Q_m
-  ok-signed : (m : ℕ) → M .Ok (signedQ o D d m)
-  unfolding signedQ
-  ok-signed m = go (eqb (m % 2) 0)
-    where
-      go : (t : Bool) → M .Ok (elim t as (λ _. A) [ true ↦ at o (Q o D d m) 0 | false ↦ o .sub (o .zer) (at o (Q o D d m) 0) ])
-      go true = Q-oks h m 0
-      go false = M .ok-sub _ _
-
   pub constant-lead : (i : ℕ) → o .mul (constantOf o D d (suc i)) (o .mul (lead o (pBefore o D d (suc i))) (lead o (pBefore o D d (suc i)))) ≡ signedQ o D d (suc i)
   unfolding constantOf
-  constant-lead i = M .inj _ _ (M .ok-mul _ _) (ok-signed (suc i))
+  constant-lead i = M .inj _ _ (M .ok-mul _ _) (signedQ-ok h (suc i))
       (M .φ-mul _ _
       ∙ ap₂ _*_ (M .φ-mul _ _ ∙ ap (λ (x : B). x * φ (signedQ o D d (suc i))) (M .φ-mul _ _)) (M .φ-mul _ _)
       ∙ ring-from (F K) (φ (overLead o D d (suc i)) ∷ φ (leadP i) ∷ φ (signedQ o D d (suc i)) ∷ []) (times (F K) (φ (signedQ o D d (suc i)) * (φ (overLead o D d (suc i)) * φ (leadP i) + 𝟙)) (over-lead i)) (search quote depth 40 fits 9999) tt)

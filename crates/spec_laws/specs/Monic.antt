@@ -21,8 +21,8 @@ use Rattle.spec_laws.specs.Surd.{Surd}
 use Rattle.spec_laws.specs.Fraction.{fraction}
 use Rattle.spec_laws.specs.Convergents.{p-series, s-series, degree-distance}
 use Rattle.spec_laws.specs.Signs.{normOf, series-norm}
-use Rattle.spec_laws.specs.Norms.{signed-some, convergent-norm}
-use Rattle.spec_laws.specs.Leads.{lead-place, same-lead, over-lead}
+use Rattle.spec_laws.specs.Norms.{signedQ-some, convergent-norm}
+use Rattle.spec_laws.specs.Leads.{lead-at-degree, same-lead, over-lead}
 
 module _ {A B : Type 0} {o : Ops A} {K : Field B} {M : Model o (F K)} {g : ℕ} {D d : List A} (h : Surd K M g D d) (i : ℕ) where
   open CRing (F K) using (add as _+_, mul as _*_, neg as -_, zer as 𝟘, one as 𝟙)
@@ -53,7 +53,7 @@ module _ {A B : Type 0} {o : Ops A} {K : Field B} {M : Model o (F K)} {g : ℕ} 
   monic-over : (l : List A) (n : ℕ) → Deg K (series M l) n → lead o l ≡ lam → Monic K (series M (scale o over l)) n
   monic-over l n t e = record {
     low = low-path K (suc n) (sym (series-scale M over l)) (low-scale K (φ over) (series M l) (suc n) (t .low));
-    top = ap φ (at-scale M over l n) ∙ M .φ-mul _ _ ∙ ap (λ (x : B). φ over * x) (sym (lead-place h l n t) ∙ ap φ e) ∙ over-lead h i;
+    top = ap φ (at-scale M over l n) ∙ M .φ-mul _ _ ∙ ap (λ (x : B). φ over * x) (sym (lead-at-degree h l n t) ∙ ap φ e) ∙ over-lead h i;
   }
 
   pub unit-p-monic : Monic K (series M (unitOf o D d (suc i) .p)) (degreeBefore o D d (suc i))
@@ -85,7 +85,7 @@ module _ {A B : Type 0} {o : Ops A} {K : Field B} {M : Model o (F K)} {g : ℕ} 
 
   module _ (constant : length (Q o D d (suc i)) ≡ 1) where
     constant-some : φ (constantOf o D d (suc i)) ≡ 𝟘 → ⊥
-    constant-some e = some-mul K (φ over * φ over) (φ (signedQ o D d (suc i))) (some-mul K (φ over) (φ over) some-over some-over) (signed-some h (suc i) constant) (sym constant-element ∙ e)
+    constant-some e = some-mul K (φ over * φ over) (φ (signedQ o D d (suc i))) (some-mul K (φ over) (φ over) some-over some-over) (signedQ-some h (suc i) constant) (sym constant-element ∙ e)
 
     pub unit-norm : normOf o D (unitOf o D d (suc i) .p) (unitOf o D d (suc i) .s) ≡ constantOf o D d (suc i) ∷ []
     unfolding unitOf

@@ -80,31 +80,34 @@ module _ {A B : Type 0} {o : Ops A} {K : Field B} {M : Model o (F K)} {g : ℕ} 
           ∙ determinant K (fraction h) (suc i)
           ∙ sym (ap (λ (f : Px K). sign K (suc i) * f) (series-one K M) ∙ R[x] .mul-one _)
 
-  -- ---- the constant (−1)^m·Q_m
+  -- ---- (−1)^m·Q_m, where it is constant
   singleton : (l : List A) → length l ≡ 1 → l ≡ at o l 0 ∷ []
   singleton [] e = absurd (omega arith)
   singleton (x ∷ []) e = refl
   singleton (x ∷ (y ∷ l)) e = absurd (omega arith)
 
-  constant-at : (m : ℕ) → at o (signed o m (Q m)) 0 ≡ signedQ o D d m
+  signedQ-at : (m : ℕ) → at o (signed o m (Q m)) 0 ≡ signedQ o D d m
   unfolding signed signedQ
-  constant-at m = go (eqb (m % 2) 0)
+  signedQ-at m = go (eqb (m % 2) 0)
     where
       go : (t : Bool) → at o (elim t [ true ↦ Q m | false ↦ sub o [] (Q m) ]) 0 ≡ (elim t [ true ↦ at o (Q m) 0 | false ↦ o .sub (o .zer) (at o (Q m) 0) ])
       go true = refl
       go false = at-sub M [] (Q m) 0
 
+  pub signedQ-ok : (m : ℕ) → M .Ok (signedQ o D d m)
+  signedQ-ok m = subst (M .Ok) (signedQ-at m) (oks-signed K M m (Q m) (Q-oks h m) 0)
+
   module _ (m : ℕ) (constant : length (Q m) ≡ 1) where
     norm-deg : Deg K (series M (signed o m (Q m))) 0
     norm-deg = deg-path K 0 (sym (series-signed K M m (Q m))) (sign-deg K m (series M (Q m)) 0 (subst (Deg K (series M (Q m))) (let e : length (Q m) -ₙ 1 ≡ 0 = omega arith in e) (Q-deg h m)))
 
-    pub constant-is : signed o m (Q m) ≡ signedQ o D d m ∷ []
-    constant-is = singleton _ (deg-length K M _ 0 (trim-signed K M m (Q m) (Q-trim h m)) norm-deg) ∙ ap (λ (c : A). c ∷ []) (constant-at m)
+    pub signedQ-is : signed o m (Q m) ≡ signedQ o D d m ∷ []
+    signedQ-is = singleton _ (deg-length K M _ 0 (trim-signed K M m (Q m) (Q-trim h m)) norm-deg) ∙ ap (λ (c : A). c ∷ []) (signedQ-at m)
 
     -- it is not 0
-    pub signed-some : M .φ (signedQ o D d m) ≡ F K .zer → ⊥
-    signed-some e = norm-deg .top (ap (λ (l : List A). series M l 0) constant-is ∙ e)
+    pub signedQ-some : M .φ (signedQ o D d m) ≡ F K .zer → ⊥
+    signedQ-some e = norm-deg .top (ap (λ (l : List A). series M l 0) signedQ-is ∙ e)
 
     -- the norm of (p_{m−1}, s_{m−1})
     pub convergent-norm : normOf o D (p m) (s m) ≡ signedQ o D d m ∷ []
-    convergent-norm = norm-is m ∙ constant-is
+    convergent-norm = norm-is m ∙ signedQ-is

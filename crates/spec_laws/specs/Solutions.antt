@@ -1,7 +1,7 @@
 -- Lists p, s of any numbers with s ≠ 0 and p² − D·s² a nonzero constant are solutions over the field: so deg
 -- p is at least that of the unit, which is one of them, and of the same degree are only its constant
 -- multiples, up to the sign of s. While no Q_1 .. Q_b is constant, deg p is above deg p_{b−1}.
-use Prim.Native.Nat.{ℕ, zero, suc, _+_ as _+ₙ_, _-_ as _-ₙ_, _≤_, _<_}
+use Prim.Native.Nat.{ℕ, _+_ as _+ₙ_, _-_ as _-ₙ_, _≤_, _<_}
 use native.Mathlib.Omega.{arith}
 use mathlib.Core.Path.{_≡_, sym, ap, _∙_, subst}
 use mathlib.Core.List.{List}
@@ -14,14 +14,14 @@ use Rattle.math_surd.specs.LeastDegree.{Solution}
 use Rattle.math_surd.specs.LeastDegree as least
 use Rattle.spec_arithmetic.specs.Field.{Ops}
 use Rattle.spec_arithmetic.specs.Polynomials.{trim, size, deg}
-use Rattle.spec_definitions.specs.Walk.{sBefore, degreeBefore}
+use Rattle.spec_definitions.specs.Walk.{degreeBefore}
 use Rattle.spec_definitions.specs.Walk as lists
 use Rattle.spec_bridge.specs.Model.{Model, series}
 use Rattle.spec_bridge.specs.Trim.{below-length, size-is}
 use Rattle.spec_bridge.specs.Degree.{deg-size, deg-is, series-deg, zero-size}
 use Rattle.spec_laws.specs.Surd.{Surd}
 use Rattle.spec_laws.specs.Fraction.{fraction, Q-some}
-use Rattle.spec_laws.specs.Convergents.{degree-distance, s-trim, s-length, degree-least}
+use Rattle.spec_laws.specs.Convergents.{degree-distance}
 use Rattle.spec_laws.specs.Signs.{normOf, series-norm}
 use Rattle.spec_laws.specs.QuasiPeriod.{Quasi, NoQuasi}
 
@@ -72,8 +72,3 @@ module _ {A B : Type 0} {o : Ops A} {K : Field B} {M : Model o (F K)} {g : ℕ} 
 
       pub only : deg o p ≡ degreeBefore o D d m → Scaled K (fraction h) m (series M p) (series M s)
       only e = least.only K (fraction h) m quasi-period solution (let r = least.found K (fraction h) m quasi-period solution in subst (Deg K (series M p)) (sym (degree-of (r .0) (r .1)) ∙ e ∙ degree-distance h m) (r .1))
-
-  -- ---- s is not 0 past the first convergent
-  pub s-some : (m : ℕ) → 0 < m → size o (sBefore o D d m) ≡ 0 → ⊥
-  s-some zero l e = omega arith
-  s-some (suc m) l e = let k = size-is M (sBefore o D d (suc m)) in let t = ap length (s-trim h (suc m)) in let u = s-length h m in let v = degree-least h m in omega arith

@@ -3,7 +3,7 @@
 -- words. The same for the definitions' walk, as `demands` states it. For a ticket past its refusals.
 use Prim.Native.Nat.{ℕ, zero, suc, _-_, _%_, _≤_, _<_}
 use native.Mathlib.Omega.{arith}
-use mathlib.Core.Path.{_≡_, refl, sym, ap, ap₂, _∙_, subst}
+use mathlib.Core.Path.{_≡_, refl, sym, ap, ap₂, _∙_}
 use mathlib.Core.Bool.{Bool, true, false}
 use mathlib.Core.Logic.{_≢_}
 use mathlib.Core.List.{List, [], _∷_}
@@ -160,7 +160,7 @@ module _ (t : Ticket) (h : Admitted (t .field) (genus (t .n)) (t .D)) where
     }
       where
         is : signed (opsOf t) m (walk.Q (opsOf t) (t .D) d m) ≡ signedQ (opsOf t) (t .D) d m ∷ []
-        is = norms.constant-is (surd-of h) m (size-Q m ∙ size-same m (e .walked) ∙ e .constant)
+        is = norms.signedQ-is (surd-of h) m (size-Q m ∙ size-same m (e .walked) ∙ e .constant)
 
         one-coefficient : signed (opsOf t) m (walk.Q (opsOf t) (t .D) d m) ≡ getD (signed (opsOf t) m (walk.Q (opsOf t) (t .D) d m)) 0 0 ∷ []
         one-coefficient = is ∙ sym (ap (λ (l : List ℕ). getD l 0 0 ∷ []) is)

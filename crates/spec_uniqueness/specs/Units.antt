@@ -4,12 +4,11 @@ use Prim.Native.Nat.{ℕ, _+_, _-_, _≤_}
 use native.Mathlib.Omega.{arith}
 use mathlib.Core.Path.{_≡_, sym, ap, _∙_}
 use mathlib.Core.Logic.{⊎-elim}
-use mathlib.Core.List.{List, [], _∷_}
+use mathlib.Core.List.{List}
 use lib.ListN.{getD}
 use lib.Seq.{getD-drop, ext-getD}
 use Rattle.math_ring.specs.Order.{le-or-lt}
-use Rattle.math_ring.specs.Identity.{ring-from, times, plus, quote}
-use Rattle.math_algebra.specs.Field.{Field}
+use Rattle.math_algebra.specs.Field.{Field, mul-cancel}
 use Rattle.math_algebra.specs.Polynomial.{F}
 use Rattle.spec_arithmetic.specs.Field.{FieldName, ops}
 use Rattle.spec_definitions.specs.Ticket.{genus, ticketOf}
@@ -37,20 +36,17 @@ holds-unique : {R : ℕ} {f old x y : List ℕ} → Holds R f old x → Holds R 
 holds-unique {R} {x = x} {y = y} a b = ext-getD 0 x y (a .later .long ∙ sym (b .later .long)) (λ i h. ⊎-elim (λ low. a .places i low ∙ sym (b .places i low)) (λ past. later-at (a .later) i past ∙ sym (later-at (b .later) i past)) (le-or-lt i R))
 
 -- a coefficient is told by its product with k
-over-unique : (o : FieldName) (h : IsField o) {R k : ℕ} {f old x y : List ℕ} → (arithmetic o h .M .φ k ≡ F (arithmetic o h .K) .zer → ⊥) → HoldsOver o R k f old x → HoldsOver o R k f old y → x ≡ y
-over-unique o h {R} {k} {x = x} {y = y} some a b = ext-getD 0 x y (a .later .long ∙ sym (b .later .long)) (λ i l. ⊎-elim (λ low. same i low) (λ past. later-at (a .later) i past ∙ sym (later-at (b .later) i past)) (le-or-lt i R))
+over-unique : (f : FieldName) (h : IsField f) {R k : ℕ} {l old x y : List ℕ} → (arithmetic f h .M .φ k ≡ F (arithmetic f h .K) .zer → ⊥) → HoldsOver f R k l old x → HoldsOver f R k l old y → x ≡ y
+over-unique f h {R} {k} {x = x} {y = y} some a b = ext-getD 0 x y (a .later .long ∙ sym (b .later .long)) (λ i p. ⊎-elim (λ low. same i low) (λ past. later-at (a .later) i past ∙ sym (later-at (b .later) i past)) (le-or-lt i R))
   where
-    K : Field (arithmetic o h .Elements)
-    K = arithmetic o h .K
+    K : Field (arithmetic f h .Elements)
+    K = arithmetic f h .K
 
-    M : Model (ops o) (F K)
-    M = arithmetic o h .M
-
-    cancel : (v w : arithmetic o h .Elements) → F K .mul (M .φ k) v ≡ F K .mul (M .φ k) w → v ≡ w
-    cancel v w e = ring-from (F K) (M .φ k ∷ K .inv (M .φ k) ∷ v ∷ w ∷ []) (plus (F K) (times (F K) (K .inv (M .φ k)) e) (times (F K) (F K .neg (F K .add v (F K .neg w))) (K .inv-mul (M .φ k) some))) (search quote depth 40 fits 9999) tt
+    M : Model (ops f) (F K)
+    M = arithmetic f h .M
 
     same : (i : ℕ) → i ≤ R → getD x i 0 ≡ getD y i 0
-    same i low = M .inj _ _ (arithmetic o h .ok-of _ (a .below i low)) (arithmetic o h .ok-of _ (b .below i low)) (cancel (M .φ (getD x i 0)) (M .φ (getD y i 0)) (sym (M .φ-mul _ _) ∙ ap (M .φ) (a .places i low ∙ sym (b .places i low)) ∙ M .φ-mul _ _))
+    same i low = M .inj _ _ (arithmetic f h .ok-of _ (a .below i low)) (arithmetic f h .ok-of _ (b .below i low)) (mul-cancel K (M .φ k) (M .φ (getD x i 0)) (M .φ (getD y i 0)) some (sym (M .φ-mul _ _) ∙ ap (M .φ) (a .places i low ∙ sym (b .places i low)) ∙ M .φ-mul _ _))
 
 pub unit-only : UnitOnly
 unfolding rootOf

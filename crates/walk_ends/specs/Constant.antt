@@ -15,7 +15,7 @@ use Rattle.spec_definitions.specs.Ticket.{genus, ticket}
 use Rattle.spec_definitions.specs.Walk.{Q, degreeBefore, signedQ, constantOf}
 use Rattle.spec_definitions.specs.Answers.{found, spent, rootOf, outcomeOf}
 use Rattle.spec_laws.specs.Admitted.{Admitted, surd-of}
-use Rattle.spec_laws.specs.Leads.{leadsTo, over-leads}
+use Rattle.spec_laws.specs.Leads.{twoOver, leadsTo, over-leads}
 use Rattle.spec_laws.specs.QuasiPeriod.{Quasi, NoQuasi, some-quasi, none-quasi}
 use Rattle.walk_state.specs.State.{rootD}
 
@@ -23,25 +23,9 @@ use Rattle.walk_state.specs.State.{rootD}
 unfoldable pub signed : FieldName → ℕ → ℕ → ℕ
 signed f m c = elim (eqb (m % 2) 0) [ true ↦ c | false ↦ ops f .sub 0 c ]
 
--- 1/λ, where n is 2·λ
-unfoldable pub overTwice : FieldName → ℕ → ℕ
-overTwice f n = ops f .add (ops f .inv n) (ops f .inv n)
-
--- the same over λ², where n is 2·λ
-unfoldable pub monicConstant : FieldName → ℕ → ℕ → ℕ → ℕ
-monicConstant f m c n = ops f .mul (ops f .mul (overTwice f n) (overTwice f n)) (signed f m c)
-
-pub over-below : (q n : ℕ) → 0 < q → overTwice (prime q) n < q
-unfolding overTwice
-over-below q n h = mod-lt _ h
-
-pub monic-is : (f : FieldName) (m c n : ℕ) → monicConstant f m c n ≡ ops f .mul (ops f .mul (overTwice f n) (overTwice f n)) (signed f m c)
-unfolding monicConstant
-monic-is f m c n = refl
-
-pub over-is : (f : FieldName) (n : ℕ) → overTwice f n ≡ ops f .add (ops f .inv n) (ops f .inv n)
-unfolding overTwice
-over-is f n = refl
+-- (−1)^m·c/λ², where c is the constant Q_m and n is 2·λ
+abbrev pub monicConstant : FieldName → ℕ → ℕ → ℕ → ℕ
+monicConstant f m c n = ops f .mul (ops f .mul (twoOver (ops f) n) (twoOver (ops f) n)) (signed f m c)
 
 pub signed-even : (q m c : ℕ) → m % 2 ≡ 0 → signed (prime q) m c ≡ c
 unfolding signed
@@ -73,7 +57,7 @@ module _ (q n : ℕ) (D : List ℕ) (h : Admitted (prime q) (genus n) D) (b : �
 
   -- λ is the leading coefficient of p_{m−1}
   constant-is : (m : ℕ) → 0 < m → constantOf (modulo q) D d m ≡ monicConstant (prime q) m (getD (Q (modulo q) D d m) 0 0) (leadsTo (modulo q) D d m)
-  unfolding constantOf signedQ monicConstant overTwice signed
+  unfolding constantOf signedQ signed
   constant-is zero l = absurd (omega arith)
   constant-is (suc i) l = ap (λ (x : ℕ). modulo q .mul (modulo q .mul x x) (signed (prime q) (suc i) (getD (Q (modulo q) D d (suc i)) 0 0))) (over-leads (surd-of h) i)
 

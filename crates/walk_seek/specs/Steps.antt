@@ -1,6 +1,6 @@
 -- The steps of a run: where the walk stands between them, that no Q on the way is constant, and the outcome
 -- where the budget is spent or a constant Q is met.
-use Prim.Native.Nat.{ℕ, suc, _*_, _-_, _%_, _≤_, _<_}
+use Prim.Native.Nat.{ℕ, suc, _*_, _%_, _≤_, _<_}
 use native.Mathlib.Numerals.{add-one}
 use native.Mathlib.Omega.{arith}
 use mathlib.Core.Path.{_≡_, sym, ap, ap₂, _∙_, subst, subst₂}
@@ -20,7 +20,7 @@ use Rattle.walk_stride.specs.declared.Progress.{Progress}
 use Rattle.walk_stride.specs.Progress.{Begun, Going, Taken}
 use Rattle.walk_stride.specs.Walked.{Walked, NoneTo, walked-first, none-first, going}
 use Rattle.walk_stride.specs.Stride.{stride-walked, stride-last, stride-none, stride-found}
-use Rattle.walk_lead.specs.Kept.{Kept, factors, twoFactors, factorOf, times-asks, kept-next}
+use Rattle.walk_lead.specs.Kept.{Kept, largestFactor, factorOf, kept-next}
 use Rattle.walk_ends.specs.Constant.{monicConstant, found-is, spent-is}
 
 -- the walk stands at an index within the budget, and no Q of an index from 1 on was constant
@@ -46,16 +46,12 @@ module _ {q g top : ℕ} {D table d twice : List ℕ} (h : Admitted (prime q) g 
   pub seeking-going : budget < budgets → Going (prime q) top table twice before current rest at
   seeking-going l = going h e p (t .walked) (let k = less in omega arith)
 
-  -- what the product with 2/lc Q asks for
-  pub seeking-asks : {k n : ℕ} → Kept (prime q) g D (at .index .0) k n → k ≤ twoFactors → ((0 < at .size) × (at .size ≤ 129) × (n ≤ twoFactors)) × ((getD current (at .size - 1) 0 < 4096) × (getD table (getD current (at .size - 1) 0) 0 < 4096))
-  seeking-asks = times-asks h p (t .walked .state)
-
   module _ {remains after : List ℕ} {to : Progress} (u : Taken (prime q) top twice before current rest remains after at to) where
     pub seeking-next : (to .size ≡ 1 → ⊥) → Seeking (prime q) g D budget current after remains to
     seeking-next f = record { walked = stride-walked h e p (t .walked) u; none = stride-none h e p (t .walked) u (t .none) f; reached = (let i = u .index-is in let l = less in omega arith) }
 
     -- the product after it
-    pub seeking-kept : {k n r : ℕ} → Kept (prime q) g D (at .index .0) k n → r ≡ n * factorOf table current (at .size) → Kept (prime q) g D (to .index .0) (k * factors) r
+    pub seeking-kept : {k n r : ℕ} → Kept (prime q) g D (at .index .0) k n → r ≡ n * factorOf table current (at .size) → Kept (prime q) g D (to .index .0) (k * largestFactor) r
     seeking-kept w m = kept-next h p (t .walked .state) w m (to .index .0) (u .index-is ∙ add-one (at .index .0))
 
     pub seeking-met : to .size ≡ 1 → Met (prime q) g D budget to
@@ -69,7 +65,7 @@ met-at {f} {g} {D} {budget} {k = k} {lead = l} e o i t w =
 pub last-reduced : {q g : ℕ} {D : List ℕ} {budget : ℕ} {at : Progress} → Admitted (prime q) g D → Met (prime q) g D budget at → at .last < q
 last-reduced {q} {at = at} h m = subst (λ (v : ℕ). v < q) (sym (m .last-is)) (Q-oks (surd-of h) (at .index .0) 0)
 
--- a constant Q is met, and n stands for twice the leading coefficient of p_{m−1}
+-- a constant Q is met, and `lead` stands for twice the leading coefficient of p_{m−1}
 pub outcome-found : {q : ℕ} (n : ℕ) {D : List ℕ} {budget k lead : ℕ} {at : Progress} → Admitted (prime q) (genus n) D → Met (prime q) (genus n) D budget at → Kept (prime q) (genus n) D (at .index .0) k lead → found (at .degree .0) (at .index .0) (monicConstant (prime q) (at .index .0) (at .last) (lead % q)) ≡ outcomeOf (ticket (prime q) n D budget)
 outcome-found {q} n {D} {budget} {lead = l} {at = at} h m w =
     ap (λ (j : ℕ). found j (at .index .0) (monicConstant (prime q) (at .index .0) (at .last) (l % q))) (m .degree-is)

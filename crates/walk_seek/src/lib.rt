@@ -12,7 +12,7 @@ use base_counters::Distance;
 use base_counters::Index;
 use base_field::Field;
 use walk_ends::found;
-use walk_lead::times_lead;
+use walk_lead::times_factor;
 use walk_outcome::Outcome;
 use walk_stride::begin;
 use walk_stride::stride;
@@ -20,7 +20,7 @@ use walk_stride::stride;
 // The steps from index 0 on, against the budget; D is the first `size` places of `radicand`. The loop leaves
 // with the first index from 1 on whose Q is constant. The arrays take turns, so that nothing is copied: Q
 // stands in b, c, a and b again, the Q before it in a, b, c and a, the remainder in x, y, z and x. The product of
-// 2/lc Q_j is reduced once in three steps.
+// 2/lc Q_j, twice the leading coefficient of p_{i − 1}, is reduced once in three steps.
 pub fn seek(
     f: Field,
     n: usize,
@@ -46,12 +46,12 @@ pub fn seek(
     let mut z = [0u32; 129];
     let mut at = begin(radicand, d, &mut a, &mut b, &mut x);
     let q = f.q as u64;
-    let mut lead: u64 = 1;
+    let mut twice_lead: u64 = 1;
     let first = loop {
         if at.index.0 == budget { // Q in b
             return Outcome::Spent(Index(at.index.0), Distance(at.degree.0)); // b and deg p_{b − 1}
         }
-        lead = times_lead(lead, inverses, &b, at.size);
+        twice_lead = times_factor(twice_lead, inverses, &b, at.size);
         at = stride(f, inverses, twice, top, &a, &b, &x, &mut y, &mut c, at);
         if at.size == 1 { // Q in c
             break at.index.0;
@@ -59,7 +59,7 @@ pub fn seek(
         if at.index.0 == budget { // Q in c
             return Outcome::Spent(Index(at.index.0), Distance(at.degree.0));
         }
-        lead = times_lead(lead, inverses, &c, at.size);
+        twice_lead = times_factor(twice_lead, inverses, &c, at.size);
         at = stride(f, inverses, twice, top, &b, &c, &y, &mut z, &mut a, at);
         if at.size == 1 { // Q in a
             break at.index.0;
@@ -67,11 +67,11 @@ pub fn seek(
         if at.index.0 == budget { // Q in a
             return Outcome::Spent(Index(at.index.0), Distance(at.degree.0));
         }
-        lead = times_lead(lead, inverses, &a, at.size) % q;
+        twice_lead = times_factor(twice_lead, inverses, &a, at.size) % q;
         at = stride(f, inverses, twice, top, &c, &a, &z, &mut x, &mut b, at);
         if at.size == 1 { // Q in b
             break at.index.0;
         }
     };
-    found(f, Index(first), at, lead)
+    found(f, Index(first), at, twice_lead)
 }

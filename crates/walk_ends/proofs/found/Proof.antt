@@ -13,10 +13,10 @@ rem-reduced : tie.Need-rem-reduced
 rem-reduced c = search needs
 
 cast-reduced-2 : tie.Need-cast-reduced-2
-cast-reduced-2 c = let s = c .before .before in omega (arith, mod-lt (s .args .lead) (pos _ (s .pre .0 .0)), s .pre .0 .2)
+cast-reduced-2 c = let s = c .before .before in omega (arith, mod-lt (s .args .twice-lead) (pos _ (s .pre .0 .0)), s .pre .0 .2)
 
 constant-requires : tie.Need-constant-requires
-constant-requires c κs = let s = c .before .before in (s .pre .0, s .pre .1, mod-lt (s .args .lead) (pos _ (s .pre .0 .0)))
+constant-requires c κs = let s = c .before .before in (s .pre .0, s .pre .1, mod-lt (s .args .twice-lead) (pos _ (s .pre .0 .0)))
 
 returns : tie.Need-returns
 returns c = cc (c .constant .ensures)

@@ -11,15 +11,15 @@ use Rattle.spec_definitions.specs.Ticket.{genus}
 use Rattle.spec_definitions.specs.Answers.{found}
 use Rattle.base_polynomial.specs.Record.{poly}
 use Rattle.walk_state.specs.Start.{half-degree, top-is}
-use Rattle.walk_lead.specs.Kept.{Kept, kept-first, kept-reduced}
+use Rattle.walk_lead.specs.Kept.{Kept, largestCoefficient, factor-asks, kept-first, kept-reduced}
 use Rattle.walk_ends.specs.Constant.{monicConstant}
-use Rattle.walk_seek.specs.Steps.{Seeking, Met, seeking-first, seeking-asks, seeking-going, seeking-kept, seeking-next, seeking-met, met-at, last-reduced, outcome-found, outcome-spent}
+use Rattle.walk_seek.specs.Steps.{Seeking, Met, seeking-first, seeking-going, seeking-kept, seeking-next, seeking-met, met-at, last-reduced, outcome-found, outcome-spent}
 use Rattle.walk_seek.proofs.seek.Statement.{statement}
 use Rattle.walk_seek.proofs.seek.Tie as tie
 
 abbrev Inv-loop : tie.InvT-loop
 Inv-loop f n radicand size inverses d twice budget top a₀ b₀ c₀ x₀ y₀ z₀ at₀ q lead₀ a b c x y z at lead =
-    Seeking (prime (f .q)) (genus n) (poly radicand size) budget a b x at × Kept (prime (f .q)) (genus n) (poly radicand size) (at .index .0) 4095 lead
+    Seeking (prime (f .q)) (genus n) (poly radicand size) budget a b x at × Kept (prime (f .q)) (genus n) (poly radicand size) (at .index .0) largestCoefficient lead
 
 abbrev μ-loop : tie.MeasureT-loop
 μ-loop f n radicand size inverses d twice budget top a₀ b₀ c₀ x₀ y₀ z₀ at₀ q lead₀ a b c x y z at lead = budget - at .index .0
@@ -54,15 +54,15 @@ returns c =
     let s = start l in
     outcome-spent (s .args .n) (s .pre .1 .0) (l .loop .inv .0) (c .if1 .taken)
 
-times-lead-requires : tie.Need-times-lead-requires Inv-loop μ-loop
-times-lead-requires c κs =
+times-factor-requires : tie.Need-times-factor-requires Inv-loop μ-loop
+times-factor-requires c κs =
     let o = c .before in
     let l = o .before .before in
     let s = start l in
     let h = s .pre .1 .0 in
     let p = s .pre .1 .1 .1 in
     let e = top-of s in
-    seeking-asks h e p (l .loop .inv .0) (o .if1 .left) (l .loop .inv .1) (omega arith)
+    factor-asks h p (l .loop .inv .0 .walked .state) (l .loop .inv .1) (omega arith)
 
 stride-requires : tie.Need-stride-requires Inv-loop μ-loop
 stride-requires c κs =
@@ -88,8 +88,8 @@ returns-2 c =
     let t2 = seeking-next h e p (l .loop .inv .0) (o .if1 .left) (k .stride .ensures) (i .if2 .left) in
     outcome-spent (s .args .n) h t2 (c .if3 .taken)
 
-times-lead-requires-2 : tie.Need-times-lead-requires-2 Inv-loop μ-loop
-times-lead-requires-2 c κs =
+times-factor-requires-2 : tie.Need-times-factor-requires-2 Inv-loop μ-loop
+times-factor-requires-2 c κs =
     let o2 = c .before in
     let i = o2 .before .before in
     let k = i .before .before in
@@ -101,8 +101,8 @@ times-lead-requires-2 c κs =
     let p = s .pre .1 .1 .1 in
     let e = top-of s in
     let t2 = seeking-next h e p (l .loop .inv .0) (o .if1 .left) (k .stride .ensures) (i .if2 .left) in
-    let w2 = seeking-kept h e p (l .loop .inv .0) (o .if1 .left) (k .stride .ensures) (l .loop .inv .1) (m .times-lead .ensures) in
-    seeking-asks h e p t2 (o2 .if3 .left) w2 (omega arith)
+    let w2 = seeking-kept h e p (l .loop .inv .0) (o .if1 .left) (k .stride .ensures) (l .loop .inv .1) (m .times-factor .ensures) in
+    factor-asks h p (t2 .walked .state) w2 (omega arith)
 
 stride-requires-2 : tie.Need-stride-requires-2 Inv-loop μ-loop
 stride-requires-2 c κs =
@@ -138,8 +138,8 @@ returns-3 c =
     let t3 = seeking-next h e p t2 (o2 .if3 .left) (k2 .stride2 .ensures) (i2 .if4 .left) in
     outcome-spent (s .args .n) h t3 (c .if5 .taken)
 
-times-lead-requires-3 : tie.Need-times-lead-requires-3 Inv-loop μ-loop
-times-lead-requires-3 c κs =
+times-factor-requires-3 : tie.Need-times-factor-requires-3 Inv-loop μ-loop
+times-factor-requires-3 c κs =
     let o3 = c .before in
     let i2 = o3 .before .before in
     let k2 = i2 .before .before in
@@ -155,13 +155,13 @@ times-lead-requires-3 c κs =
     let p = s .pre .1 .1 .1 in
     let e = top-of s in
     let t2 = seeking-next h e p (l .loop .inv .0) (o .if1 .left) (k .stride .ensures) (i .if2 .left) in
-    let w2 = seeking-kept h e p (l .loop .inv .0) (o .if1 .left) (k .stride .ensures) (l .loop .inv .1) (m .times-lead .ensures) in
+    let w2 = seeking-kept h e p (l .loop .inv .0) (o .if1 .left) (k .stride .ensures) (l .loop .inv .1) (m .times-factor .ensures) in
     let t3 = seeking-next h e p t2 (o2 .if3 .left) (k2 .stride2 .ensures) (i2 .if4 .left) in
-    let w3 = seeking-kept h e p t2 (o2 .if3 .left) (k2 .stride2 .ensures) w2 (m2 .times-lead2 .ensures) in
-    seeking-asks h e p t3 (o3 .if5 .left) w3 (omega arith)
+    let w3 = seeking-kept h e p t2 (o2 .if3 .left) (k2 .stride2 .ensures) w2 (m2 .times-factor2 .ensures) in
+    factor-asks h p (t3 .walked .state) w3 (omega arith)
 
-rem-lead : tie.Need-rem-lead Inv-loop μ-loop
-rem-lead c =
+rem-twice-lead : tie.Need-rem-twice-lead Inv-loop μ-loop
+rem-twice-lead c =
     let o3 = c .before .before in
     let i2 = o3 .before .before in
     let k2 = i2 .before .before in
@@ -173,9 +173,6 @@ rem-lead c =
     let o = m .before .before in
     let l = o .before .before in
     let s = start l in
-    let h = s .pre .1 .0 in
-    let p = s .pre .1 .1 .1 in
-    let e = top-of s in
     pos _ (s .pre .0 .0)
 
 stride-requires-3 : tie.Need-stride-requires-3 Inv-loop μ-loop
@@ -211,10 +208,6 @@ loop-less c =
     let m = k .before .before .before .before .before .before in
     let o = m .before .before in
     let l = o .before .before in
-    let s = start l in
-    let h = s .pre .1 .0 in
-    let p = s .pre .1 .1 .1 in
-    let e = top-of s in
     omega (arith, l .loop .inv .0 .reached, o .if1 .left, k .stride .ensures .index-is, k2 .stride2 .ensures .index-is, k3 .stride3 .ensures .index-is)
 
 loop-again : tie.Need-loop-again Inv-loop μ-loop
@@ -236,17 +229,17 @@ loop-again c =
     let p = s .pre .1 .1 .1 in
     let e = top-of s in
     let t2 = seeking-next h e p (l .loop .inv .0) (o .if1 .left) (k .stride .ensures) (i .if2 .left) in
-    let w2 = seeking-kept h e p (l .loop .inv .0) (o .if1 .left) (k .stride .ensures) (l .loop .inv .1) (m .times-lead .ensures) in
+    let w2 = seeking-kept h e p (l .loop .inv .0) (o .if1 .left) (k .stride .ensures) (l .loop .inv .1) (m .times-factor .ensures) in
     let t3 = seeking-next h e p t2 (o2 .if3 .left) (k2 .stride2 .ensures) (i2 .if4 .left) in
-    let w3 = seeking-kept h e p t2 (o2 .if3 .left) (k2 .stride2 .ensures) w2 (m2 .times-lead2 .ensures) in
-    (seeking-next h e p t3 (o3 .if5 .left) (k3 .stride3 .ensures) (c .if6 .left), kept-reduced h (seeking-kept h e p t3 (o3 .if5 .left) (k3 .stride3 .ensures) w3 (m3 .times-lead3 .ensures)))
+    let w3 = seeking-kept h e p t2 (o2 .if3 .left) (k2 .stride2 .ensures) w2 (m2 .times-factor2 .ensures) in
+    (seeking-next h e p t3 (o3 .if5 .left) (k3 .stride3 .ensures) (c .if6 .left), kept-reduced h (seeking-kept h e p t3 (o3 .if5 .left) (k3 .stride3 .ensures) w3 (m3 .times-factor3 .ensures)))
 
 -- the start from where the three ways out of the loop meet
 abbrev from-join : tie.Joined2 Inv-loop μ-loop → tie.Start Inv-loop μ-loop
 from-join c = start (c .before .before .before .before .before .before .before .before .before .before .before .before)
 
 -- where the loop is left, after any of its three steps
-met : (c : tie.Joined2 Inv-loop μ-loop) → (let s = from-join c in Met (prime (s .args .f .q)) (genus (s .args .n)) (poly (s .args .radicand .now) (s .args .size)) (s .args .budget) (c .if2 .at) × (c .if2 .first ≡ c .if2 .at .index .0) × ((k : ℕ) × Kept (prime (s .args .f .q)) (genus (s .args .n)) (poly (s .args .radicand .now) (s .args .size)) (c .if2 .at .index .0) k (c .if2 .lead)))
+met : (c : tie.Joined2 Inv-loop μ-loop) → (let s = from-join c in Met (prime (s .args .f .q)) (genus (s .args .n)) (poly (s .args .radicand .now) (s .args .size)) (s .args .budget) (c .if2 .at) × (c .if2 .first ≡ c .if2 .at .index .0) × ((k : ℕ) × Kept (prime (s .args .f .q)) (genus (s .args .n)) (poly (s .args .radicand .now) (s .args .size)) (c .if2 .at .index .0) k (c .if2 .twice-lead)))
 met c =
     let k = c .before .before in
     let m = k .before .before .before .before .before .before in
@@ -256,7 +249,7 @@ met c =
     let h = s .pre .1 .0 in
     let p = s .pre .1 .1 .1 in
     let e = top-of s in
-    let w = seeking-kept h e p (l .loop .inv .0) (o .if1 .left) (k .stride .ensures) (l .loop .inv .1) (m .times-lead .ensures) in
+    let w = seeking-kept h e p (l .loop .inv .0) (o .if1 .left) (k .stride .ensures) (l .loop .inv .1) (m .times-factor .ensures) in
     ⊎-elim (λ v. met-at (v .1) (v .2) (v .3) (seeking-met h e p (l .loop .inv .0) (o .if1 .left) (k .stride .ensures) (v .0 .taken)) w)
     (λ v.
     ⊎-elim
@@ -282,7 +275,7 @@ returns-4 c =
     let s = from-join j in
     let at = j .if2 .at in
     let m = met j in
-    c .found .ensures ∙ ap (λ (i : ℕ). found (at .degree .0) i (monicConstant (prime (s .args .f .q)) i (at .last) (j .if2 .lead % s .args .f .q))) (m .1) ∙ outcome-found (s .args .n) (s .pre .1 .0) (m .0) (m .2 .1)
+    c .found .ensures ∙ ap (λ (i : ℕ). found (at .degree .0) i (monicConstant (prime (s .args .f .q)) i (at .last) (j .if2 .twice-lead % s .args .f .q))) (m .1) ∙ outcome-found (s .args .n) (s .pre .1 .0) (m .0) (m .2 .1)
 
 pub seek-spec : {M : Type 1} → statement M
 seek-spec =
@@ -295,14 +288,14 @@ seek-spec =
     cast-q
     loop-holds
     returns
-    times-lead-requires
+    times-factor-requires
     stride-requires
     returns-2
-    times-lead-requires-2
+    times-factor-requires-2
     stride-requires-2
     returns-3
-    times-lead-requires-3
-    rem-lead
+    times-factor-requires-3
+    rem-twice-lead
     stride-requires-3
     loop-less
     loop-again

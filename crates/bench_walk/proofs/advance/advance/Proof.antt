@@ -8,14 +8,14 @@ use Rattle.spec_bridge.specs.Residues.{pos}
 use Rattle.spec_definitions.specs.Ticket.{genus}
 use Rattle.base_polynomial.specs.Record.{poly}
 use Rattle.walk_state.specs.Start.{half-degree, top-is}
-use Rattle.walk_lead.specs.Kept.{Kept, kept-first, kept-reduced}
-use Rattle.bench_walk.specs.Advance.{Advancing, advancing-first, advancing-asks, advancing-going, advancing-kept, advancing-next, reached}
+use Rattle.walk_lead.specs.Kept.{Kept, largestCoefficient, factor-asks, kept-first, kept-reduced}
+use Rattle.bench_walk.specs.Advance.{Advancing, advancing-first, advancing-going, advancing-kept, advancing-next, advanced-kept}
 use Rattle.bench_walk.proofs.advance.advance.Statement.{statement}
 use Rattle.bench_walk.proofs.advance.advance.Tie as tie
 
 abbrev Inv-loop : tie.InvT-loop
 Inv-loop f n radicand size inverses d twice steps top a₀ b₀ c₀ x₀ y₀ z₀ at₀ q lead₀ a b c x y z at lead =
-    Advancing (prime (f .q)) (genus n) (poly radicand size) steps a b x at × Kept (prime (f .q)) (genus n) (poly radicand size) (at .index .0) 4095 lead
+    Advancing (prime (f .q)) (genus n) (poly radicand size) steps a b x at × Kept (prime (f .q)) (genus n) (poly radicand size) (at .index .0) largestCoefficient lead
 
 abbrev μ-loop : tie.MeasureT-loop
 μ-loop f n radicand size inverses d twice steps top a₀ b₀ c₀ x₀ y₀ z₀ at₀ q lead₀ a b c x y z at lead = steps - at .index .0
@@ -47,17 +47,17 @@ loop-holds c =
 returns : tie.Need-returns Inv-loop μ-loop
 returns c =
     let i = c .before .before .loop .inv in
-    reached (i .0) (i .1) (omega arith) (c .if1 .taken)
+    advanced-kept (i .0) (i .1) (omega arith) (c .if1 .taken)
 
-times-lead-requires : tie.Need-times-lead-requires Inv-loop μ-loop
-times-lead-requires c κs =
+times-factor-requires : tie.Need-times-factor-requires Inv-loop μ-loop
+times-factor-requires c κs =
     let o = c .before in
     let l = o .before .before in
     let s = start l in
     let h = s .pre .1 .0 in
     let p = s .pre .1 .1 .1 in
     let e = top-of s in
-    advancing-asks h e p (l .loop .inv .0) (o .if1 .left) (l .loop .inv .1) (omega arith)
+    factor-asks h p (l .loop .inv .0 .walked .state) (l .loop .inv .1) (omega arith)
 
 stride-requires : tie.Need-stride-requires Inv-loop μ-loop
 stride-requires c κs =
@@ -80,11 +80,11 @@ returns-2 c =
     let p = s .pre .1 .1 .1 in
     let e = top-of s in
     let t2 = advancing-next h e p (l .loop .inv .0) (o .if1 .left) (k .stride .ensures) in
-    let w2 = advancing-kept h e p (l .loop .inv .0) (o .if1 .left) (k .stride .ensures) (l .loop .inv .1) (m .times-lead .ensures) in
-    reached t2 w2 (omega arith) (c .if2 .taken)
+    let w2 = advancing-kept h e p (l .loop .inv .0) (o .if1 .left) (k .stride .ensures) (l .loop .inv .1) (m .times-factor .ensures) in
+    advanced-kept t2 w2 (omega arith) (c .if2 .taken)
 
-times-lead-requires-2 : tie.Need-times-lead-requires-2 Inv-loop μ-loop
-times-lead-requires-2 c κs =
+times-factor-requires-2 : tie.Need-times-factor-requires-2 Inv-loop μ-loop
+times-factor-requires-2 c κs =
     let o2 = c .before in
     let k = o2 .before .before in
     let m = k .before .before .before .before .before .before in
@@ -95,8 +95,8 @@ times-lead-requires-2 c κs =
     let p = s .pre .1 .1 .1 in
     let e = top-of s in
     let t2 = advancing-next h e p (l .loop .inv .0) (o .if1 .left) (k .stride .ensures) in
-    let w2 = advancing-kept h e p (l .loop .inv .0) (o .if1 .left) (k .stride .ensures) (l .loop .inv .1) (m .times-lead .ensures) in
-    advancing-asks h e p t2 (o2 .if2 .left) w2 (omega arith)
+    let w2 = advancing-kept h e p (l .loop .inv .0) (o .if1 .left) (k .stride .ensures) (l .loop .inv .1) (m .times-factor .ensures) in
+    factor-asks h p (t2 .walked .state) w2 (omega arith)
 
 stride-requires-2 : tie.Need-stride-requires-2 Inv-loop μ-loop
 stride-requires-2 c κs =
@@ -126,13 +126,13 @@ returns-3 c =
     let p = s .pre .1 .1 .1 in
     let e = top-of s in
     let t2 = advancing-next h e p (l .loop .inv .0) (o .if1 .left) (k .stride .ensures) in
-    let w2 = advancing-kept h e p (l .loop .inv .0) (o .if1 .left) (k .stride .ensures) (l .loop .inv .1) (m .times-lead .ensures) in
+    let w2 = advancing-kept h e p (l .loop .inv .0) (o .if1 .left) (k .stride .ensures) (l .loop .inv .1) (m .times-factor .ensures) in
     let t3 = advancing-next h e p t2 (o2 .if2 .left) (k2 .stride2 .ensures) in
-    let w3 = advancing-kept h e p t2 (o2 .if2 .left) (k2 .stride2 .ensures) w2 (m2 .times-lead2 .ensures) in
-    reached t3 w3 (omega arith) (c .if3 .taken)
+    let w3 = advancing-kept h e p t2 (o2 .if2 .left) (k2 .stride2 .ensures) w2 (m2 .times-factor2 .ensures) in
+    advanced-kept t3 w3 (omega arith) (c .if3 .taken)
 
-times-lead-requires-3 : tie.Need-times-lead-requires-3 Inv-loop μ-loop
-times-lead-requires-3 c κs =
+times-factor-requires-3 : tie.Need-times-factor-requires-3 Inv-loop μ-loop
+times-factor-requires-3 c κs =
     let o3 = c .before in
     let k2 = o3 .before .before in
     let m2 = k2 .before .before .before .before .before .before in
@@ -146,13 +146,13 @@ times-lead-requires-3 c κs =
     let p = s .pre .1 .1 .1 in
     let e = top-of s in
     let t2 = advancing-next h e p (l .loop .inv .0) (o .if1 .left) (k .stride .ensures) in
-    let w2 = advancing-kept h e p (l .loop .inv .0) (o .if1 .left) (k .stride .ensures) (l .loop .inv .1) (m .times-lead .ensures) in
+    let w2 = advancing-kept h e p (l .loop .inv .0) (o .if1 .left) (k .stride .ensures) (l .loop .inv .1) (m .times-factor .ensures) in
     let t3 = advancing-next h e p t2 (o2 .if2 .left) (k2 .stride2 .ensures) in
-    let w3 = advancing-kept h e p t2 (o2 .if2 .left) (k2 .stride2 .ensures) w2 (m2 .times-lead2 .ensures) in
-    advancing-asks h e p t3 (o3 .if3 .left) w3 (omega arith)
+    let w3 = advancing-kept h e p t2 (o2 .if2 .left) (k2 .stride2 .ensures) w2 (m2 .times-factor2 .ensures) in
+    factor-asks h p (t3 .walked .state) w3 (omega arith)
 
-rem-lead : tie.Need-rem-lead Inv-loop μ-loop
-rem-lead c =
+rem-twice-lead : tie.Need-rem-twice-lead Inv-loop μ-loop
+rem-twice-lead c =
     let o3 = c .before .before in
     let k2 = o3 .before .before in
     let m2 = k2 .before .before .before .before .before .before in
@@ -162,9 +162,6 @@ rem-lead c =
     let o = m .before .before in
     let l = o .before .before in
     let s = start l in
-    let h = s .pre .1 .0 in
-    let p = s .pre .1 .1 .1 in
-    let e = top-of s in
     pos _ (s .pre .0 .0)
 
 stride-requires-3 : tie.Need-stride-requires-3 Inv-loop μ-loop
@@ -195,10 +192,6 @@ loop-less c =
     let m = k .before .before .before .before .before .before in
     let o = m .before .before in
     let l = o .before .before in
-    let s = start l in
-    let h = s .pre .1 .0 in
-    let p = s .pre .1 .1 .1 in
-    let e = top-of s in
     omega (arith, l .loop .inv .0 .reached, o .if1 .left, k .stride .ensures .index-is, k2 .stride2 .ensures .index-is, c .stride3 .ensures .index-is)
 
 loop-again : tie.Need-loop-again Inv-loop μ-loop
@@ -217,10 +210,10 @@ loop-again c =
     let p = s .pre .1 .1 .1 in
     let e = top-of s in
     let t2 = advancing-next h e p (l .loop .inv .0) (o .if1 .left) (k .stride .ensures) in
-    let w2 = advancing-kept h e p (l .loop .inv .0) (o .if1 .left) (k .stride .ensures) (l .loop .inv .1) (m .times-lead .ensures) in
+    let w2 = advancing-kept h e p (l .loop .inv .0) (o .if1 .left) (k .stride .ensures) (l .loop .inv .1) (m .times-factor .ensures) in
     let t3 = advancing-next h e p t2 (o2 .if2 .left) (k2 .stride2 .ensures) in
-    let w3 = advancing-kept h e p t2 (o2 .if2 .left) (k2 .stride2 .ensures) w2 (m2 .times-lead2 .ensures) in
-    (advancing-next h e p t3 (o3 .if3 .left) (c .stride3 .ensures), kept-reduced h (advancing-kept h e p t3 (o3 .if3 .left) (c .stride3 .ensures) w3 (m3 .times-lead3 .ensures)))
+    let w3 = advancing-kept h e p t2 (o2 .if2 .left) (k2 .stride2 .ensures) w2 (m2 .times-factor2 .ensures) in
+    (advancing-next h e p t3 (o3 .if3 .left) (c .stride3 .ensures), kept-reduced h (advancing-kept h e p t3 (o3 .if3 .left) (c .stride3 .ensures) w3 (m3 .times-factor3 .ensures)))
 
 pub advance-spec : {M : Type 1} → statement M
 advance-spec =
@@ -233,14 +226,14 @@ advance-spec =
     cast-q
     loop-holds
     returns
-    times-lead-requires
+    times-factor-requires
     stride-requires
     returns-2
-    times-lead-requires-2
+    times-factor-requires-2
     stride-requires-2
     returns-3
-    times-lead-requires-3
-    rem-lead
+    times-factor-requires-3
+    rem-twice-lead
     stride-requires-3
     loop-less
     loop-again)

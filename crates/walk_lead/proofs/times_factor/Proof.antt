@@ -1,12 +1,12 @@
--- `times_lead` meets its contract: the leading coefficient is a place of the table, and the product fits.
+-- `times_factor` meets its contract: the leading coefficient is a place of the table, and the product fits.
 use Prim.Native.Nat.{ℕ, _+_, _<_, _≤_}
 use native.Mathlib.Nat.{mul-le-mul}
 use native.Mathlib.Omega.{arith}
 use mathlib.Core.Path.{refl}
 use borrow.Author.Needs.{needs}
-use Rattle.walk_lead.specs.Kept.{factors, twoFactors}
-use Rattle.walk_lead.proofs.times_lead.Statement.{statement}
-use Rattle.walk_lead.proofs.times_lead.Tie as tie
+use Rattle.walk_lead.specs.Kept.{largestFactor, twoFactors}
+use Rattle.walk_lead.proofs.times_factor.Statement.{statement}
+use Rattle.walk_lead.proofs.times_factor.Tie as tie
 
 sub-inverse : tie.Need-sub-inverse
 sub-inverse c = search needs
@@ -32,19 +32,19 @@ cast-inverse-2 c = search needs
 add-result : tie.Need-add-result
 add-result c = search needs
 
-twice-small : {v : ℕ} → v < 4096 → v + v ≤ factors
+twice-small : {v : ℕ} → v < 4096 → v + v ≤ largestFactor
 twice-small l = omega arith
 
 mul-result : tie.Need-mul-result
 mul-result c =
     let s = c .before .before in
-    omega (arith, mul-le-mul {n₂ = twoFactors} {m₂ = factors} (s .pre .0 .2) (twice-small (s .pre .1 .1)))
+    omega (arith, mul-le-mul {n₂ = twoFactors} {m₂ = largestFactor} (s .pre .fits) (twice-small (s .pre .small)))
 
 returns : tie.Need-returns
 returns c = refl
 
-pub times-lead-spec : {M : Type 1} → statement M
-times-lead-spec =
+pub times-factor-spec : {M : Type 1} → statement M
+times-factor-spec =
     tie.close
     (tie.spec
     sub-inverse
