@@ -382,14 +382,14 @@ def expected(name, numbers):
     if name in ("samples/units", "samples/listings"):
         lengths, fill = numbers.counted(), numbers.take(1)[0]
         return (lent_unit if name == "samples/units" else lent_listing)(w, lengths, fill)
-    calls = {"regulators": regulator, "half": half, "several": several, "units": unit, "listings": listing}
+    calls = {"regulators": regulator, "half": half, "several": several, "allowed": several, "units": unit, "listings": listing}
     return calls[os.path.basename(name)](w)
 
 
 def main():
     wrong = 0
-    files = ["regulators", "half", "several", "units", "listings", "products"]
-    for name in files + ["samples/" + name for name in files[:-1]]:
+    samples = ["regulators", "half", "several", "units", "listings"]
+    for name in samples + ["allowed", "products"] + ["samples/" + name for name in samples]:
         jobs = total = 0
         tally = {}
         with open(os.path.join(HERE, name + ".txt")) as file:
@@ -398,7 +398,7 @@ def main():
                 total += len(numbers.rest)
                 jobs += 1
                 mine = expected(name, numbers)
-                for kind in mine[1::4] if "several" in name else mine[:1]:
+                for kind in mine[1::4] if "several" in name or name == "allowed" else mine[:1]:
                     tally[kind] = tally.get(kind, 0) + 1
                 if mine != numbers.rest:
                     wrong += 1

@@ -297,6 +297,7 @@ int main(int argc, char **argv) {
     half(vectors(argv[1], "samples/half.txt"));
     several(vectors(argv[1], "several.txt"));
     several(vectors(argv[1], "samples/several.txt"));
+    several(vectors(argv[1], "allowed.txt"));
     units(vectors(argv[1], "units.txt"));
     lent(vectors(argv[1], "samples/units.txt"), 4);
     listings(vectors(argv[1], "listings.txt"));
@@ -310,5 +311,5 @@ int main(int argc, char **argv) {
     expect(none.words == 0 && none.count == 1 && out[0] == FOSKADOIN_WRONG_SHAPE && !out[1], "no ticket at several primes");
     printf("C: %zu jobs, %zu tickets by half the walk and by the whole, %zu wrong\n", jobs, compared, wrong);
     // every line of the files was read
-    return wrong != 0 || jobs != 3135;
+    return wrong != 0 || jobs != 3444;
 }

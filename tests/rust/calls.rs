@@ -218,7 +218,7 @@ fn main() {
     }
     says(&half(&[]), &[], &[1, 0, 0, 0]);
     let compared = halves();
-    for name in ["several.txt", "samples/several.txt"] {
+    for name in ["several.txt", "samples/several.txt", "allowed.txt"] {
         for line in lines(&folder, name) {
             several(line);
             jobs += 1;
@@ -275,6 +275,6 @@ fn main() {
         assert_eq!(b.distance, sign * line.wide() as i64);
         jobs += 1;
     }
-    assert_eq!(jobs, 3135);
+    assert_eq!(jobs, 3444);
     println!("Rust: {jobs} jobs, {compared} tickets by half the walk and by the whole, 0 wrong");
 }

@@ -1,1 +1,1 @@
-pub mod Primes
+pub mod Divisors

@@ -1,27 +1,35 @@
-// Which q are allowed: the odd primes below 4,096, looked up in a table.
-mod table;
-
+// Which q are allowed: the odd primes below 4,096, found by division.
 ghost use mathlib.Core.Path.{_≡_};
 ghost use Rattle.spec_arithmetic.specs.Primes.{oddPrime};
-use crate::table::prime_at;
 
-// Whether q is an odd prime below 4,096, by halving the part of the table where it can stand.
+// 2¹²: every q that is allowed is below it.
+const BOUND: u32 = 4096;
+
+// The root of that: a composite number below 2¹² has a divisor from 2 up and below 2⁶.
+const ROOT: u32 = 64;
+
+// Whether q is an odd prime below 4,096: odd, and divided by no odd number from 3 up whose square is at most q.
 pub fn is_odd_prime(q: u32) -> bool
     ensures { λ r. ⌜ r ≡ oddPrime q ⌝ }
 {
-    let mut low: usize = 0;
-    let mut high: usize = 563;
-    while low < high {
-        let middle = low + (high - low) / 2;
-        let p = prime_at(middle);
-        if p == q {
+    if q < 3 {
+        return false;
+    }
+    if q >= BOUND {
+        return false;
+    }
+    if q % 2 == 0 {
+        return false;
+    }
+    let mut d: u32 = 3;
+    while d < ROOT {
+        if d * d > q {
             return true;
         }
-        if p < q {
-            low = middle + 1;
-        } else {
-            high = middle;
+        if q % d == 0 {
+            return false;
         }
+        d += 2;
     }
-    false
+    true
 }

@@ -52,7 +52,7 @@ no-divisor-prime q p (suc k) d h = go (ltb q (d * d)) refl (eqb (q % d) 0) refl 
     go false u false v rest = rest
 
 -- no divisor from 2 on whose square is at most q: then none below q
-prime-of-roots : (q : ℕ) → 2 ≤ q → ((e : ℕ) → 2 ≤ e → e * e ≤ q → q % e ≡ 0 → ⊥) → Prime q
+pub prime-of-roots : (q : ℕ) → 2 ≤ q → ((e : ℕ) → 2 ≤ e → e * e ≤ q → q % e ≡ 0 → ⊥) → Prime q
 prime-of-roots q two free = record { two = two; none = none }
   where
     none : (d : ℕ) → 2 ≤ d → d < q → q % d ≡ 0 → ⊥

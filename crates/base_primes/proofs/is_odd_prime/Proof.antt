@@ -1,81 +1,77 @@
--- The search halves the part of the table where q can stand: every entry before it is below q, every entry
--- after it is above. The list's rule then decides.
-use Prim.Native.Nat.{ℕ, _≤_, _<_, _+_, _-_, _/_}
+-- Before d is tried nothing from 2 up and below it divides q, and d is odd. Where the square of d is above q, or d is
+-- 64 or more, q is prime.
+use Prim.Native.Nat.{_≤_, _-_, _*_, _%_}
+use native.Mathlib.Nat.{mul-le-mul}
 use native.Mathlib.Omega.{arith}
-use mathlib.Core.Path.{_≡_, sym, ap, _∙_}
-use mathlib.Core.Logic.{⊎-elim}
-use lib.ListN.{getD}
+use mathlib.Core.Path.{_≡_, refl, sym}
 use borrow.Author.Needs.{needs}
-use Rattle.math_ring.specs.Order.{le-or-lt}
-use Rattle.spec_arithmetic.specs.Primes.{oddPrime}
-use Rattle.base_primes.specs.Primes.{primes, less-from, more-from, not-listed, prime-listed}
+use Rattle.spec_bridge.specs.Prime.{odd-prime-more}
+use Rattle.base_primes.specs.Divisors.{NoneBelow, none-below-three, none-below-next}
+use Rattle.base_primes.specs.Divisors.{not-odd-prime, divided-not-odd-prime, undivided-odd-prime}
 use Rattle.base_primes.proofs.is_odd_prime.Statement.{statement}
 use Rattle.base_primes.proofs.is_odd_prime.Tie as tie
 
 abbrev Inv-loop : tie.InvT-loop
-Inv-loop q low₀ high₀ low high = (high ≤ 563) × ((k : ℕ) → k < low → getD primes k 0 < q) × ((k : ℕ) → high ≤ k → k < 563 → q < getD primes k 0)
+Inv-loop q d₀ d = (3 ≤ d) × (d ≤ 65) × (d % 2 ≡ 1) × NoneBelow q d
 
 abbrev μ-loop : tie.MeasureT-loop
-μ-loop q low₀ high₀ low high = high - low
-
-loop-holds : tie.Need-loop-holds Inv-loop μ-loop
-loop-holds c = search needs
-
-sub-middle : tie.Need-sub-middle Inv-loop μ-loop
-sub-middle c = search needs
-
-add-middle : tie.Need-add-middle Inv-loop μ-loop
-add-middle c = search needs
-
-prime-at-requires : tie.Need-prime-at-requires Inv-loop μ-loop
-prime-at-requires c κs = search needs
+μ-loop q d₀ d = 65 - d
 
 returns : tie.Need-returns Inv-loop μ-loop
-returns c =
-    let a = c .before in
-    let l = a .before .before .loop in
-    let e : getD primes (l .low + (l .high - l .low) / 2) 0 ≡ c .before .before .before .before .args .q = omega arith in
-    sym (prime-listed _ (omega arith)) ∙ ap oddPrime e
+returns c = sym (not-odd-prime _ (λ r. let w = odd-prime-more _ r in omega arith))
 
-add-low : tie.Need-add-low Inv-loop μ-loop
-add-low c = search needs
+returns-2 : tie.Need-returns-2 Inv-loop μ-loop
+returns-2 c = sym (not-odd-prime _ (λ r. let w = r .small in omega arith))
+
+returns-3 : tie.Need-returns-3 Inv-loop μ-loop
+returns-3 c = sym (not-odd-prime _ (λ r. let w = r .odd in omega arith))
+
+loop-holds : tie.Need-loop-holds Inv-loop μ-loop
+loop-holds c = (omega arith, omega arith, refl, none-below-three _ (c .if3 .left))
+
+mul-if4 : tie.Need-mul-if4 Inv-loop μ-loop
+mul-if4 c =
+    let d = c .before .loop .d in
+    let below : d ≤ 64 = omega arith in
+    let w : d * d ≤ 64 * 64 = mul-le-mul below below in
+    omega arith
+
+returns-4 : tie.Need-returns-4 Inv-loop μ-loop
+returns-4 c =
+    let l = c .before .before in
+    let odd = l .before .if3 .left in
+    sym (undivided-odd-prime _ (l .loop .d) (omega arith) (omega arith) odd (omega arith) (l .loop .inv .3))
+
+rem-if5 : tie.Need-rem-if5 Inv-loop μ-loop
+rem-if5 c = search needs
+
+returns-5 : tie.Need-returns-5 Inv-loop μ-loop
+returns-5 c =
+    let l = c .before .before .before in
+    sym (divided-not-odd-prime _ (l .loop .d) (omega arith) (omega arith) (c .if5 .taken))
+
+add-d : tie.Need-add-d Inv-loop μ-loop
+add-d c = search needs
 
 loop-less : tie.Need-loop-less Inv-loop μ-loop
 loop-less c = search needs
 
 loop-again : tie.Need-loop-again Inv-loop μ-loop
 loop-again c =
-    let l = c .before .before .before .before .loop in
-    (search needs, less-from _ _ (omega arith) (omega arith), l .inv .2)
+    let l = c .before .before .before in
+    let i = l .loop .inv in
+    let odd = l .before .if3 .left in
+    (omega arith, omega arith, omega arith, none-below-next _ _ odd (i .2) (c .if5 .left) (i .3))
 
-loop-less-2 : tie.Need-loop-less-2 Inv-loop μ-loop
-loop-less-2 c = search needs
-
-loop-again-2 : tie.Need-loop-again-2 Inv-loop μ-loop
-loop-again-2 c =
-    let l = c .before .before .before .before .loop in
-    let w = c .before .if1 .left in
-    (omega arith, l .inv .1, more-from _ _ (omega arith))
-
-returns-2 : tie.Need-returns-2 Inv-loop μ-loop
-returns-2 c =
-    let l = c .before .loop in
-    sym (not-listed _ (λ k h e. ⊎-elim (λ s. let w = l .inv .2 k (omega arith) h in omega arith) (λ s. let w = l .inv .1 k s in omega arith) (le-or-lt (l .low) k)))
+returns-6 : tie.Need-returns-6 Inv-loop μ-loop
+returns-6 c =
+    let l = c .before in
+    let d = l .loop .d in
+    let from : 64 ≤ d = omega arith in
+    let w : 64 * 64 ≤ d * d = mul-le-mul from from in
+    let odd = l .before .if3 .left in
+    sym (undivided-odd-prime _ d (omega arith) (omega arith) odd (omega arith) (l .loop .inv .3))
 
 pub is-odd-prime-spec : {M : Type 1} → statement M
 is-odd-prime-spec =
-    tie.close
-    (tie.spec
-    Inv-loop
-    μ-loop
-    loop-holds
-    sub-middle
-    add-middle
-    prime-at-requires
-    returns
-    add-low
-    loop-less
-    loop-again
-    loop-less-2
-    loop-again-2
-    returns-2)
+    tie.close (tie.spec Inv-loop μ-loop returns returns-2 returns-3 loop-holds mul-if4 returns-4 rem-if5 returns-5 add-d loop-less loop-again returns-6)
