@@ -155,8 +155,8 @@ struct foskadoin_giant_step_numbers foskadoin_giant_step(const uint32_t *ticket,
    Any words and any lengths, 2^32 and more too, have their answer: no call relies on its caller for more.
 
    Threads. No call allocates memory, keeps a state or makes a system call; of the C library the code uses
-   memcpy and memset alone. So calls may run at the same time in several threads, as long as no list that one
-   of them writes is passed to another.
+   memcpy, memmove and memset alone. So calls may run at the same time in several threads, as long as no list
+   that one of them writes is passed to another.
 
    Stack. The stored vectors (n up to 64) reach 39,000 bytes. Four functions are recursive: the greatest
    common divisor of D and its derivative (a level for each division, at most n), that of two Q with its

@@ -278,8 +278,8 @@ shapes() =
 
 \\ ---- which q are allowed: request R-4
 
-\\ Every q from 0 to 4,223 and some above: squares of primes, primes up to the largest of 28 bits, numbers that are an odd
-\\ prime below 4,096 in their lower bits alone, ends of ranges. x^2 + 1 has no square factor at any odd prime.
+\\ Every q from 0 to 4,223 and some above: squares of primes, primes up to the largest of 28 bits, numbers whose lower
+\\ 12 or 16 bits are an odd prime, ends of ranges. x^2 + 1 has no square factor at any odd prime.
 {large = [4489, 5041, 8191, 20483, 65521, 65535, 65536, 65537, 65539, 2^20 + 7, 2^24 + 43, 2^27 + 3, 16381^2, 2^28 - 57, 2^28 - 2, top]};
 allowed() = sixteens([1, 0, 1], 1, concat([0 .. 4223], large));
 

@@ -1,9 +1,9 @@
 #!/usr/bin/env python3
 """Writes the jobs of ../crates/test_ticket to its file stdin and the answers to its file stdout.
 
-The answers follow document 01's sentences and share no method with the engine: a prime has no divisor at all
-from 2 up to itself, and D has a square factor exactly where the determinant of Sylvester's matrix of D and its
-derivative is 0; for small fields every square is tried as well.
+The answers follow document 01's sentences: a prime has no divisor at all from 2 up and below itself, where the engine
+stops at the root, and D has a square factor exactly where the determinant of Sylvester's matrix of D and its
+derivative is 0, which the engine does not compute; for small fields every square is tried as well.
 
     tickets.py                 writes the stored jobs
     tickets.py SEED N DIR      writes N jobs of random words to DIR instead

@@ -52,8 +52,8 @@ no-divisor-prime q p (suc k) d h = go (ltb q (d * d)) refl (eqb (q % d) 0) refl 
     go false u false v rest = rest
 
 -- no divisor from 2 on whose square is at most q: then none below q
-pub prime-of-roots : (q : ℕ) → 2 ≤ q → ((e : ℕ) → 2 ≤ e → e * e ≤ q → q % e ≡ 0 → ⊥) → Prime q
-prime-of-roots q two free = record { two = two; none = none }
+pub prime-up-to-root : (q : ℕ) → 2 ≤ q → ((e : ℕ) → 2 ≤ e → e * e ≤ q → q % e ≡ 0 → ⊥) → Prime q
+prime-up-to-root q two free = record { two = two; none = none }
   where
     none : (d : ℕ) → 2 ≤ d → d < q → q % d ≡ 0 → ⊥
     none d h low z =
@@ -76,12 +76,19 @@ odd-prime-true q t = go (ltb q 4096) refl (ltb 2 q) refl t
     go true u true v t = record { prime = prime; odd = odd; small = ltb-true q 4096 u }
       where
         prime : Prime q
-        prime = prime-of-roots q (let w : 2 < q = ltb-true 2 q v in omega arith) (λ e h sq z. no-divisor-true 62 2 q t e h (⊎-elim (λ big. absurd (let w : 64 * 64 ≤ e * e = mul-le-mul big big in let s : q < 4096 = ltb-true q 4096 u in omega arith)) (λ l. l) (le-or-lt 64 e)) sq z)
+        prime = prime-up-to-root q (let w : 2 < q = ltb-true 2 q v in omega arith) (λ e h sq z. no-divisor-true 62 2 q t e h (⊎-elim (λ big. absurd (let w : 64 * 64 ≤ e * e = mul-le-mul big big in let s : q < 4096 = ltb-true q 4096 u in omega arith)) (λ l. l) (le-or-lt 64 e)) sq z)
 
         odd : q % 2 ≡ 1
         odd = let low : q % 2 < 2 = mod-lt q (omega arith) in let not : q % 2 ≡ 0 → ⊥ = prime .none 2 (omega arith) (ltb-true 2 q v) in ⊎-elim (λ h. omega arith) (λ h. absurd (not (omega arith))) (le-or-lt 1 (q % 2))
     go true u false v t = absurd (false≢true t)
     go false u c v t = absurd (false≢true t)
+
+pub not-odd-prime : (q : ℕ) → (OddPrime q → ⊥) → oddPrime q ≡ false
+not-odd-prime q none = go (oddPrime q) refl
+  where
+    go : (b : Bool) → oddPrime q ≡ b → oddPrime q ≡ false
+    go true e = absurd (none (odd-prime-true q e))
+    go false e = e
 
 pub odd-prime-more : (q : ℕ) → OddPrime q → 2 < q
 odd-prime-more q r = ⊎-elim (λ (e : 2 ≡ q). absurd (let z : _≡_ {A = ℕ} 0 1 = ap (λ n. n % 2) e ∙ r .odd in omega arith)) (λ h. h) (eq-or-lt-of-le (r .prime .two))

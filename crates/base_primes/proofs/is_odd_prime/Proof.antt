@@ -1,18 +1,18 @@
--- Before d is tried nothing from 2 up and below it divides q, and d is odd. Where the square of d is above q, or d is
--- 64 or more, q is prime.
+-- Before d is tried nothing from 2 up and below it divides q, and d is odd. Where the square of d is above q, or
+-- d is 64 or more, q is prime.
 use Prim.Native.Nat.{_≤_, _-_, _*_, _%_}
 use native.Mathlib.Nat.{mul-le-mul}
 use native.Mathlib.Omega.{arith}
 use mathlib.Core.Path.{_≡_, refl, sym}
 use borrow.Author.Needs.{needs}
-use Rattle.spec_bridge.specs.Prime.{odd-prime-more}
-use Rattle.base_primes.specs.Divisors.{NoneBelow, none-below-three, none-below-next}
-use Rattle.base_primes.specs.Divisors.{not-odd-prime, divided-not-odd-prime, undivided-odd-prime}
+use Rattle.spec_bridge.specs.Prime.{odd-prime-more, not-odd-prime}
+use Rattle.base_primes.specs.Divisors.{UndividedBelow, undivided-below-three, undivided-below-next}
+use Rattle.base_primes.specs.Divisors.{divided-not-odd-prime, undivided-odd-prime}
 use Rattle.base_primes.proofs.is_odd_prime.Statement.{statement}
 use Rattle.base_primes.proofs.is_odd_prime.Tie as tie
 
 abbrev Inv-loop : tie.InvT-loop
-Inv-loop q d₀ d = (3 ≤ d) × (d ≤ 65) × (d % 2 ≡ 1) × NoneBelow q d
+Inv-loop q d₀ d = (3 ≤ d) × (d ≤ 65) × (d % 2 ≡ 1) × UndividedBelow q d
 
 abbrev μ-loop : tie.MeasureT-loop
 μ-loop q d₀ d = 65 - d
@@ -27,7 +27,7 @@ returns-3 : tie.Need-returns-3 Inv-loop μ-loop
 returns-3 c = sym (not-odd-prime _ (λ r. let w = r .odd in omega arith))
 
 loop-holds : tie.Need-loop-holds Inv-loop μ-loop
-loop-holds c = (omega arith, omega arith, refl, none-below-three _ (c .if3 .left))
+loop-holds c = (omega arith, omega arith, refl, undivided-below-three _ (c .if3 .left))
 
 mul-if4 : tie.Need-mul-if4 Inv-loop μ-loop
 mul-if4 c =
@@ -61,7 +61,7 @@ loop-again c =
     let l = c .before .before .before in
     let i = l .loop .inv in
     let odd = l .before .if3 .left in
-    (omega arith, omega arith, omega arith, none-below-next _ _ odd (i .2) (c .if5 .left) (i .3))
+    (omega arith, omega arith, omega arith, undivided-below-next _ _ odd (i .2) (c .if5 .left) (i .3))
 
 returns-6 : tie.Need-returns-6 Inv-loop μ-loop
 returns-6 c =
