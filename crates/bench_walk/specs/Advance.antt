@@ -1,6 +1,5 @@
 -- Steps past every constant Q: where the walk stands between them, within the number asked for.
-use Prim.Native.Nat.{ℕ, suc, _*_, _≤_, _<_}
-use native.Mathlib.Numerals.{add-one}
+use Prim.Native.Nat.{ℕ, suc, _≤_, _<_}
 use native.Mathlib.Omega.{arith}
 use mathlib.Core.Path.{_≡_, ap, _∙_, subst}
 use mathlib.Core.List.{List}
@@ -15,7 +14,7 @@ use Rattle.walk_stride.specs.declared.Progress.{Progress}
 use Rattle.walk_stride.specs.Progress.{Begun, Going, Taken}
 use Rattle.walk_stride.specs.Walked.{Walked, walked-first, going}
 use Rattle.walk_stride.specs.Stride.{stride-walked}
-use Rattle.walk_lead.specs.Kept.{Kept, largestFactor, twoFactors, factorOf, kept-next}
+use Rattle.walk_lead.specs.Kept.{Kept, twoFactors}
 
 pub record Advancing (f : FieldName) (g : ℕ) (D : List ℕ) (steps : ℕ) (before current rest : List ℕ) (at : Progress) : Type 0 where
   pub walked : Walked f g D before current rest at
@@ -39,9 +38,6 @@ module _ {q g top : ℕ} {D table d twice : List ℕ} (h : Admitted (prime q) g 
   -- what the next step asks for
   pub advancing-going : steps < budgets → Going (prime q) top table twice before current rest at
   advancing-going l = going h e p (t .walked) (let k = less in omega arith)
-
-  pub advancing-kept : {remains after : List ℕ} {to : Progress} → Taken (prime q) top twice before current rest remains after at to → {k n r : ℕ} → Kept (prime q) g D (at .index .0) k n → r ≡ n * factorOf table current (at .size) → Kept (prime q) g D (to .index .0) (k * largestFactor) r
-  advancing-kept {to = to} u w m = kept-next h p (t .walked .state) w m (to .index .0) (u .index-is ∙ add-one (at .index .0))
 
   pub advancing-next : {remains after : List ℕ} {to : Progress} → Taken (prime q) top twice before current rest remains after at to → Advancing (prime q) g D steps current after remains to
   advancing-next u = record { walked = stride-walked h e p (t .walked) u; reached = (let i = u .index-is in let l = less in omega arith) }

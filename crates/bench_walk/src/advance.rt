@@ -18,7 +18,7 @@ use walk_state::start::prepare;
 use walk_stride::begin;
 use walk_stride::stride;
 
-// The degree reached, and what stands for the product of 2/lc Q_j.
+// The degree reached, and the product of 2/lc Q_j, or what stands for it before it is reduced.
 #[repr(C)]
 pub struct Made {
     pub degree: u64,

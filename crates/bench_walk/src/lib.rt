@@ -5,8 +5,7 @@ pub mod half;
 
 ghost use mathlib.Core.Path.{_≡_};
 ghost use Prim.Native.Nat.{_≤_};
-ghost use Rattle.walk_lead.specs.Kept.{twoFactors};
-ghost use Rattle.bench_walk.specs.Steps.{degreeAfter};
+ghost use Rattle.bench_walk.specs.Steps.{degreeAfter, productAfter};
 use crate::advance::Made;
 use crate::advance::run_on;
 use crate::half::Tried;
@@ -16,12 +15,12 @@ use ticket_read::read_ticket;
 // How many budgets there are: 2²⁸.
 const BUDGETS: u64 = 268435456;
 
-// The degree of p_{steps − 1} with the product, of which only a bound is promised, or 0 and 0 where the ticket is refused
-// or 2²⁸ steps or more are asked for. The ticket's budget has no part.
+// The degree of p_{steps − 1} and the product of 2/lc Q_j for all j below `steps`, or 0 and 0 where the ticket is
+// refused or 2²⁸ steps or more are asked for. The ticket's budget has no part.
 #[no_mangle]
 pub extern "C" fn bench_walk(ticket: &[u32], steps: u64) -> Made
     ensures degree { λ r. ⌜ r .degree ≡ degreeAfter (now (ticket .entry)) steps ⌝ }
-    ensures bounded { λ r. ⌜ r .product ≤ twoFactors ⌝ }
+    ensures product { λ r. ⌜ r .product ≡ productAfter (now (ticket .entry)) steps ⌝ }
 {
     if BUDGETS <= steps {
         return Made {
@@ -36,7 +35,11 @@ pub extern "C" fn bench_walk(ticket: &[u32], steps: u64) -> Made
             product: 0,
         };
     }
-    run_on(t.field, t.n, t.radicand, steps)
+    let made = run_on(t.field, t.n, t.radicand, steps);
+    Made {
+        degree: made.degree,
+        product: made.product % t.field.q as u64,
+    }
 }
 
 // The degree of p_{steps − 1}, or 0 as above, and how often the tests said that half the walk stops. The

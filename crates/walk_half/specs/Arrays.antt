@@ -12,17 +12,17 @@ use Rattle.spec_arithmetic.specs.Field.{FieldName, prime, ops, modulo}
 use Rattle.spec_arithmetic.specs.Polynomials.{pad, lead, scale}
 use Rattle.spec_definitions.specs.Walk.{Q}
 use Rattle.spec_bridge.specs.Model.{series}
-use Rattle.spec_bridge.specs.Trim.{Trim, trim-ext, lead-is}
+use Rattle.spec_bridge.specs.Trim.{Trim, trim-ext}
 use Rattle.spec_bridge.specs.Arithmetic.{at-scale, trim-scale, series-scale}
 use Rattle.spec_bridge.specs.Residues.{model, field, pos}
 use Rattle.spec_laws.specs.Admitted.{Admitted, surd-of}
-use Rattle.spec_laws.specs.Surd.{Q-trim, r-trim}
-use Rattle.spec_laws.specs.Fraction.{Q-deg, Q-some, Q-length}
+use Rattle.spec_laws.specs.Surd.{r-trim}
+use Rattle.spec_laws.specs.Fraction.{Q-deg, Q-some}
 use Rattle.spec_laws.specs.State.{left, left-length}
 use Rattle.spec_half.specs.Middles.{lead-not-zero}
 use Rattle.spec_half.specs.Computed.{Cross}
 use Rattle.base_polynomial.specs.Pad.{at-pad}
-use Rattle.walk_state.specs.State.{rootD, State}
+use Rattle.walk_state.specs.State.{rootD, State, Q-at, last-is-lead}
 use Rattle.walk_middle.specs.Middle.{Proportional}
 
 -- Q_i in an array, and its size
@@ -53,14 +53,6 @@ module _ {q g : ℕ} {D : List ℕ} (h : Admitted (prime q) g D) where
   pub remainders-same : {i j m n : ℕ} {b x r c y s : List ℕ} → State (prime q) g D i b x r m → State (prime q) g D j c y s n → r ≡ s → left (modulo q) D d i ≡ left (modulo q) D d j
   remainders-same {i} {j} t u e = pad-same _ _ (left-trim i) (left-trim j) (left-fits i) (left-fits j) (sym (t .left-is) ∙ e ∙ u .left-is)
 
-  -- ---- Q in an array, and its leading coefficient
-  module _ {i m : ℕ} {x : List ℕ} (t : InArray (prime q) g D i x m) where
-    Q-at : (j : ℕ) → getD x j 0 ≡ getD (Qs i) j 0
-    Q-at j = ap (λ (l : List ℕ). getD l j 0) (t .places) ∙ at-pad (modulo q) 129 (Qs i) (let k = Q-length (surd-of h) i in let most = h .genus-most in omega arith) j
-
-    Q-lead : lead (modulo q) (Qs i) ≡ getD x (m - 1) 0
-    Q-lead = lead-is (model q (pos q (h .prime))) (Qs i) ∙ ap (λ (l : List ℕ). getD (Qs i) (length l - 1) 0) (Q-trim (surd-of h) i) ∙ ap (λ (k : ℕ). getD (Qs i) (k - 1) 0) (sym (t .size-is)) ∙ sym (Q-at (m - 1))
-
   -- a multiple of Q by another's leading coefficient has its degree
   Q-multiple : (i j : ℕ) → Deg (field q (h .prime) (h .odd)) (series (model q (pos q (h .prime))) (scale (modulo q) (lead (modulo q) (Qs j)) (Qs i))) (length (Qs i) - 1)
   Q-multiple i j =
@@ -69,10 +61,10 @@ module _ {q g : ℕ} {D : List ℕ} (h : Admitted (prime q) g D) where
   -- ---- cross multiplication
   module _ {i m n : ℕ} {x y : List ℕ} (t : InArray (prime q) g D i x m) (u : InArray (prime q) g D (suc i) y n) where
     product : (j : ℕ) → modulo q .mul (lead (modulo q) (Qs i)) (getD (Qs (suc i)) j 0) ≡ modulo q .mul (getD y j 0) (getD x (m - 1) 0)
-    product j = ap (λ (v : ℕ). v % q) (mul-comm _ _) ∙ ap₂ (λ (v w : ℕ). v * w % q) (sym (Q-at u j)) (Q-lead t)
+    product j = ap (λ (v : ℕ). v % q) (mul-comm _ _) ∙ ap₂ (λ (v w : ℕ). v * w % q) (sym (Q-at h (suc i) y (u .places) j)) (sym (last-is-lead h i x (t .places) m (t .size-is)))
 
     product-next : (j : ℕ) → modulo q .mul (lead (modulo q) (Qs (suc i))) (getD (Qs i) j 0) ≡ modulo q .mul (getD x j 0) (getD y (n - 1) 0)
-    product-next j = ap (λ (v : ℕ). v % q) (mul-comm _ _) ∙ ap₂ (λ (v w : ℕ). v * w % q) (sym (Q-at t j)) (Q-lead u)
+    product-next j = ap (λ (v : ℕ). v % q) (mul-comm _ _) ∙ ap₂ (λ (v w : ℕ). v * w % q) (sym (Q-at h i x (t .places) j)) (sym (last-is-lead h (suc i) y (u .places) n (u .size-is)))
 
     pub cross-of : m ≡ n → Proportional (prime q) x y n → Cross (prime q) (Qs i) (Qs (suc i))
     cross-of e a =

@@ -4,7 +4,7 @@ use native.Mathlib.Nat.{mul-le-mul, mod-lt, mod-mod}
 use native.Mathlib.Omega.{arith}
 use mathlib.Core.Path.{_≡_, sym, ap, ap₂, _∙_, subst}
 use mathlib.Core.List.{List}
-use lib.ListN.{length, getD}
+use lib.ListN.{getD}
 use Rattle.math_ring.specs.Residues.{mul-mod-mod, mod-mul-mod}
 use Rattle.spec_arithmetic.specs.Field.{FieldName, prime, ops, modulo}
 use Rattle.spec_arithmetic.specs.Polynomials.{lead}
@@ -14,8 +14,7 @@ use Rattle.spec_laws.specs.Admitted.{Admitted, surd-of}
 use Rattle.spec_laws.specs.Fraction.{Q-some, Q-length}
 use Rattle.spec_laws.specs.Surd.{Q-oks}
 use Rattle.spec_laws.specs.Leads.{leadsTo, leads-zero, leads-suc, lead-Q-is}
-use Rattle.base_polynomial.specs.Pad.{at-pad}
-use Rattle.walk_state.specs.State.{rootD, State}
+use Rattle.walk_state.specs.State.{rootD, State, last-is-lead}
 use Rattle.walk_state.specs.Start.{Prepared}
 
 -- the largest coefficient, and the largest factor 2/lc Q
@@ -57,11 +56,7 @@ module _ {q g : ℕ} {D : List ℕ} (h : Admitted (prime q) g D) where
   -- ---- one factor more
   module _ {inverses d twice : List ℕ} (p : Prepared (prime q) g D inverses d twice) {i : ℕ} {before current rest : List ℕ} {size : ℕ} (t : State (prime q) g D i before current rest size) where
     lead-is : getD current (size - 1) 0 ≡ lead (modulo q) (Q (modulo q) D (rootD (prime q) g D) i)
-    lead-is =
-        let l : List ℕ = Q (modulo q) D (rootD (prime q) g D) i in
-        ap₂ (λ (x : List ℕ) (k : ℕ). getD x (k - 1) 0) (t .q-is) (t .size-is)
-        ∙ at-pad (modulo q) 129 l (let m = Q-length (surd-of h) i in let n = h .genus-most in omega arith) (length l - 1)
-        ∙ sym (lead-Q-is (surd-of h) i)
+    lead-is = last-is-lead h i current (t .q-is) size (t .size-is)
 
     lead-below : getD current (size - 1) 0 < q
     lead-below = subst (λ (x : ℕ). x < q) (sym (lead-is ∙ lead-Q-is (surd-of h) i)) (Q-oks (surd-of h) i _)

@@ -1,7 +1,6 @@
 -- The steps of a run: where the walk stands between them, that no Q on the way is constant, and the outcome
 -- where the budget is spent or a constant Q is met.
-use Prim.Native.Nat.{ℕ, suc, _*_, _%_, _≤_, _<_}
-use native.Mathlib.Numerals.{add-one}
+use Prim.Native.Nat.{ℕ, suc, _%_, _≤_, _<_}
 use native.Mathlib.Omega.{arith}
 use mathlib.Core.Path.{_≡_, sym, ap, ap₂, _∙_, subst, subst₂}
 use mathlib.Core.List.{List}
@@ -20,7 +19,7 @@ use Rattle.walk_stride.specs.declared.Progress.{Progress}
 use Rattle.walk_stride.specs.Progress.{Begun, Going, Taken}
 use Rattle.walk_stride.specs.Walked.{Walked, NoneTo, walked-first, none-first, going}
 use Rattle.walk_stride.specs.Stride.{stride-walked, stride-last, stride-none, stride-found}
-use Rattle.walk_lead.specs.Kept.{Kept, largestFactor, factorOf, kept-next}
+use Rattle.walk_lead.specs.Kept.{Kept}
 use Rattle.walk_ends.specs.Constant.{monicConstant, found-is, spent-is}
 
 -- the walk stands at an index within the budget, and no Q of an index from 1 on was constant
@@ -49,10 +48,6 @@ module _ {q g top : ℕ} {D table d twice : List ℕ} (h : Admitted (prime q) g 
   module _ {remains after : List ℕ} {to : Progress} (u : Taken (prime q) top twice before current rest remains after at to) where
     pub seeking-next : (to .size ≡ 1 → ⊥) → Seeking (prime q) g D budget current after remains to
     seeking-next f = record { walked = stride-walked h e p (t .walked) u; none = stride-none h e p (t .walked) u (t .none) f; reached = (let i = u .index-is in let l = less in omega arith) }
-
-    -- the product after it
-    pub seeking-kept : {k n r : ℕ} → Kept (prime q) g D (at .index .0) k n → r ≡ n * factorOf table current (at .size) → Kept (prime q) g D (to .index .0) (k * largestFactor) r
-    seeking-kept w m = kept-next h p (t .walked .state) w m (to .index .0) (u .index-is ∙ add-one (at .index .0))
 
     pub seeking-met : to .size ≡ 1 → Met (prime q) g D budget to
     seeking-met f = record { quasi = stride-found h e p (t .walked) u budget (t .none) less f; degree-is = stride-walked h e p (t .walked) u .degree-is; last-is = stride-last h e p (t .walked) u }

@@ -8,7 +8,7 @@ use mathlib.Core.List.{List, [], _∷_}
 use lib.ListN.{length, getD, List·getD-eq-default}
 use Rattle.math_ring.specs.Residues.{FqRing}
 use Rattle.spec_arithmetic.specs.Field.{FieldName, prime, ops, modulo}
-use Rattle.spec_arithmetic.specs.Polynomials.{trim, pad, add, sub, quo, root}
+use Rattle.spec_arithmetic.specs.Polynomials.{trim, pad, lead, add, sub, quo, root}
 use Rattle.spec_definitions.specs.Walk.{Q}
 use Rattle.spec_bridge.specs.Model.{Model, Inverts, series}
 use Rattle.spec_bridge.specs.Arithmetic.{add-cong, sub-cong, mul-cong, oks-add}
@@ -19,6 +19,7 @@ use Rattle.spec_laws.specs.Admitted.{Admitted, surd-of}
 use Rattle.spec_laws.specs.Surd.{Q-zero, Q-oks}
 use Rattle.spec_laws.specs.Fraction.{Q-deg, Q-length}
 use Rattle.spec_laws.specs.Walk.{d-length}
+use Rattle.spec_laws.specs.Leads.{lead-Q-is}
 use Rattle.spec_laws.specs.State.{before, left, before-zero, before-suc, before-oks, before-length, left-zero, left-oks, left-length, left-next, Q-step}
 use Rattle.base_polynomial.specs.Pad.{at-pad}
 use Rattle.base_polynomial.specs.Places.{Within}
@@ -45,6 +46,17 @@ pub record State (f : FieldName) (g : ℕ) (D : List ℕ) (i : ℕ) (before-arra
   pub q-is : current ≡ pad (ops f) 129 (Q (ops f) D (rootD f g D) i)
   pub left-is : rest ≡ pad (ops f) 129 (left (ops f) D (rootD f g D) i)
   pub size-is : size ≡ length (Q (ops f) D (rootD f g D) i)
+
+-- ---- Q in its array
+module _ {q g : ℕ} {D : List ℕ} (h : Admitted (prime q) g D) (i : ℕ) (x : List ℕ) (e : x ≡ pad (modulo q) 129 (Q (modulo q) D (rootD (prime q) g D) i)) where
+  pub Q-at : (j : ℕ) → getD x j 0 ≡ getD (Q (modulo q) D (rootD (prime q) g D) i) j 0
+  Q-at j =
+      ap (λ (l : List ℕ). getD l j 0) e
+      ∙ at-pad (modulo q) 129 _ (let k = Q-length (surd-of h) i in let most = h .genus-most in omega arith) j
+
+  -- its last coefficient is the leading one
+  pub last-is-lead : (size : ℕ) → size ≡ length (Q (modulo q) D (rootD (prime q) g D) i) → getD x (size - 1) 0 ≡ lead (modulo q) (Q (modulo q) D (rootD (prime q) g D) i)
+  last-is-lead size s = ap (λ (k : ℕ). getD x (k - 1) 0) s ∙ Q-at _ ∙ sym (lead-Q-is (surd-of h) i)
 
 module _ (q g : ℕ) (D : List ℕ) (h : Admitted (prime q) g D) where
   abbrev d : List ℕ

@@ -12,8 +12,9 @@ use Rattle.spec_definitions.specs.Answers.{found}
 use Rattle.base_polynomial.specs.Record.{poly}
 use Rattle.walk_state.specs.Start.{half-degree, top-is}
 use Rattle.walk_lead.specs.Kept.{Kept, largestCoefficient, factor-asks, kept-first, kept-reduced}
+use Rattle.walk_lead.specs.Strides.{kept-stride}
 use Rattle.walk_ends.specs.Constant.{monicConstant}
-use Rattle.walk_seek.specs.Steps.{Seeking, Met, seeking-first, seeking-going, seeking-kept, seeking-next, seeking-met, met-at, last-reduced, outcome-found, outcome-spent}
+use Rattle.walk_seek.specs.Steps.{Seeking, Met, seeking-first, seeking-going, seeking-next, seeking-met, met-at, last-reduced, outcome-found, outcome-spent}
 use Rattle.walk_seek.proofs.seek.Statement.{statement}
 use Rattle.walk_seek.proofs.seek.Tie as tie
 
@@ -101,7 +102,7 @@ times-factor-requires-2 c κs =
     let p = s .pre .1 .1 .1 in
     let e = top-of s in
     let t2 = seeking-next h e p (l .loop .inv .0) (o .if1 .left) (k .stride .ensures) (i .if2 .left) in
-    let w2 = seeking-kept h e p (l .loop .inv .0) (o .if1 .left) (k .stride .ensures) (l .loop .inv .1) (m .times-factor .ensures) in
+    let w2 = kept-stride h p (l .loop .inv .0 .walked) (k .stride .ensures) (l .loop .inv .1) (m .times-factor .ensures) in
     factor-asks h p (t2 .walked .state) w2 (omega arith)
 
 stride-requires-2 : tie.Need-stride-requires-2 Inv-loop μ-loop
@@ -155,9 +156,9 @@ times-factor-requires-3 c κs =
     let p = s .pre .1 .1 .1 in
     let e = top-of s in
     let t2 = seeking-next h e p (l .loop .inv .0) (o .if1 .left) (k .stride .ensures) (i .if2 .left) in
-    let w2 = seeking-kept h e p (l .loop .inv .0) (o .if1 .left) (k .stride .ensures) (l .loop .inv .1) (m .times-factor .ensures) in
+    let w2 = kept-stride h p (l .loop .inv .0 .walked) (k .stride .ensures) (l .loop .inv .1) (m .times-factor .ensures) in
     let t3 = seeking-next h e p t2 (o2 .if3 .left) (k2 .stride2 .ensures) (i2 .if4 .left) in
-    let w3 = seeking-kept h e p t2 (o2 .if3 .left) (k2 .stride2 .ensures) w2 (m2 .times-factor2 .ensures) in
+    let w3 = kept-stride h p (t2 .walked) (k2 .stride2 .ensures) w2 (m2 .times-factor2 .ensures) in
     factor-asks h p (t3 .walked .state) w3 (omega arith)
 
 rem-twice-lead : tie.Need-rem-twice-lead Inv-loop μ-loop
@@ -229,10 +230,10 @@ loop-again c =
     let p = s .pre .1 .1 .1 in
     let e = top-of s in
     let t2 = seeking-next h e p (l .loop .inv .0) (o .if1 .left) (k .stride .ensures) (i .if2 .left) in
-    let w2 = seeking-kept h e p (l .loop .inv .0) (o .if1 .left) (k .stride .ensures) (l .loop .inv .1) (m .times-factor .ensures) in
+    let w2 = kept-stride h p (l .loop .inv .0 .walked) (k .stride .ensures) (l .loop .inv .1) (m .times-factor .ensures) in
     let t3 = seeking-next h e p t2 (o2 .if3 .left) (k2 .stride2 .ensures) (i2 .if4 .left) in
-    let w3 = seeking-kept h e p t2 (o2 .if3 .left) (k2 .stride2 .ensures) w2 (m2 .times-factor2 .ensures) in
-    (seeking-next h e p t3 (o3 .if5 .left) (k3 .stride3 .ensures) (c .if6 .left), kept-reduced h (seeking-kept h e p t3 (o3 .if5 .left) (k3 .stride3 .ensures) w3 (m3 .times-factor3 .ensures)))
+    let w3 = kept-stride h p (t2 .walked) (k2 .stride2 .ensures) w2 (m2 .times-factor2 .ensures) in
+    (seeking-next h e p t3 (o3 .if5 .left) (k3 .stride3 .ensures) (c .if6 .left), kept-reduced h (kept-stride h p (t3 .walked) (k3 .stride3 .ensures) w3 (m3 .times-factor3 .ensures)))
 
 -- the start from where the three ways out of the loop meet
 abbrev from-join : tie.Joined2 Inv-loop μ-loop → tie.Start Inv-loop μ-loop
@@ -249,18 +250,18 @@ met c =
     let h = s .pre .1 .0 in
     let p = s .pre .1 .1 .1 in
     let e = top-of s in
-    let w = seeking-kept h e p (l .loop .inv .0) (o .if1 .left) (k .stride .ensures) (l .loop .inv .1) (m .times-factor .ensures) in
+    let w = kept-stride h p (l .loop .inv .0 .walked) (k .stride .ensures) (l .loop .inv .1) (m .times-factor .ensures) in
     ⊎-elim (λ v. met-at (v .1) (v .2) (v .3) (seeking-met h e p (l .loop .inv .0) (o .if1 .left) (k .stride .ensures) (v .0 .taken)) w)
     (λ v.
     ⊎-elim
     (λ v.
     let t2 = seeking-next h e p (l .loop .inv .0) (o .if1 .left) (k .stride .ensures) (v .0 .left) in
-    met-at (v .13) (v .14) (v .15) (seeking-met h e p t2 (v .2 .left) (v .10 .ensures) (v .12 .taken)) (seeking-kept h e p t2 (v .2 .left) (v .10 .ensures) w (v .4 .ensures)))
+    met-at (v .13) (v .14) (v .15) (seeking-met h e p t2 (v .2 .left) (v .10 .ensures) (v .12 .taken)) (kept-stride h p (t2 .walked) (v .10 .ensures) w (v .4 .ensures)))
     (λ v.
     let t2 = seeking-next h e p (l .loop .inv .0) (o .if1 .left) (k .stride .ensures) (v .0 .left) in
-    let w2 = seeking-kept h e p t2 (v .2 .left) (v .10 .ensures) w (v .4 .ensures) in
+    let w2 = kept-stride h p (t2 .walked) (v .10 .ensures) w (v .4 .ensures) in
     let t3 = seeking-next h e p t2 (v .2 .left) (v .10 .ensures) (v .12 .left) in
-    met-at (v .25) (v .26) (v .27) (seeking-met h e p t3 (v .14 .left) (v .22 .ensures) (v .24 .taken)) (kept-reduced h (seeking-kept h e p t3 (v .14 .left) (v .22 .ensures) w2 (v .16 .ensures))))
+    met-at (v .25) (v .26) (v .27) (seeking-met h e p t3 (v .14 .left) (v .22 .ensures) (v .24 .taken)) (kept-reduced h (kept-stride h p (t3 .walked) (v .22 .ensures) w2 (v .16 .ensures))))
     v)
     (c .if2 .came)
 

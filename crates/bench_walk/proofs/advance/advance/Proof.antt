@@ -9,7 +9,8 @@ use Rattle.spec_definitions.specs.Ticket.{genus}
 use Rattle.base_polynomial.specs.Record.{poly}
 use Rattle.walk_state.specs.Start.{half-degree, top-is}
 use Rattle.walk_lead.specs.Kept.{Kept, largestCoefficient, factor-asks, kept-first, kept-reduced}
-use Rattle.bench_walk.specs.Advance.{Advancing, advancing-first, advancing-going, advancing-kept, advancing-next, advanced-kept}
+use Rattle.walk_lead.specs.Strides.{kept-stride}
+use Rattle.bench_walk.specs.Advance.{Advancing, advancing-first, advancing-going, advancing-next, advanced-kept}
 use Rattle.bench_walk.proofs.advance.advance.Statement.{statement}
 use Rattle.bench_walk.proofs.advance.advance.Tie as tie
 
@@ -80,7 +81,7 @@ returns-2 c =
     let p = s .pre .1 .1 .1 in
     let e = top-of s in
     let t2 = advancing-next h e p (l .loop .inv .0) (o .if1 .left) (k .stride .ensures) in
-    let w2 = advancing-kept h e p (l .loop .inv .0) (o .if1 .left) (k .stride .ensures) (l .loop .inv .1) (m .times-factor .ensures) in
+    let w2 = kept-stride h p (l .loop .inv .0 .walked) (k .stride .ensures) (l .loop .inv .1) (m .times-factor .ensures) in
     advanced-kept t2 w2 (omega arith) (c .if2 .taken)
 
 times-factor-requires-2 : tie.Need-times-factor-requires-2 Inv-loop μ-loop
@@ -95,7 +96,7 @@ times-factor-requires-2 c κs =
     let p = s .pre .1 .1 .1 in
     let e = top-of s in
     let t2 = advancing-next h e p (l .loop .inv .0) (o .if1 .left) (k .stride .ensures) in
-    let w2 = advancing-kept h e p (l .loop .inv .0) (o .if1 .left) (k .stride .ensures) (l .loop .inv .1) (m .times-factor .ensures) in
+    let w2 = kept-stride h p (l .loop .inv .0 .walked) (k .stride .ensures) (l .loop .inv .1) (m .times-factor .ensures) in
     factor-asks h p (t2 .walked .state) w2 (omega arith)
 
 stride-requires-2 : tie.Need-stride-requires-2 Inv-loop μ-loop
@@ -126,9 +127,9 @@ returns-3 c =
     let p = s .pre .1 .1 .1 in
     let e = top-of s in
     let t2 = advancing-next h e p (l .loop .inv .0) (o .if1 .left) (k .stride .ensures) in
-    let w2 = advancing-kept h e p (l .loop .inv .0) (o .if1 .left) (k .stride .ensures) (l .loop .inv .1) (m .times-factor .ensures) in
+    let w2 = kept-stride h p (l .loop .inv .0 .walked) (k .stride .ensures) (l .loop .inv .1) (m .times-factor .ensures) in
     let t3 = advancing-next h e p t2 (o2 .if2 .left) (k2 .stride2 .ensures) in
-    let w3 = advancing-kept h e p t2 (o2 .if2 .left) (k2 .stride2 .ensures) w2 (m2 .times-factor2 .ensures) in
+    let w3 = kept-stride h p (t2 .walked) (k2 .stride2 .ensures) w2 (m2 .times-factor2 .ensures) in
     advanced-kept t3 w3 (omega arith) (c .if3 .taken)
 
 times-factor-requires-3 : tie.Need-times-factor-requires-3 Inv-loop μ-loop
@@ -146,9 +147,9 @@ times-factor-requires-3 c κs =
     let p = s .pre .1 .1 .1 in
     let e = top-of s in
     let t2 = advancing-next h e p (l .loop .inv .0) (o .if1 .left) (k .stride .ensures) in
-    let w2 = advancing-kept h e p (l .loop .inv .0) (o .if1 .left) (k .stride .ensures) (l .loop .inv .1) (m .times-factor .ensures) in
+    let w2 = kept-stride h p (l .loop .inv .0 .walked) (k .stride .ensures) (l .loop .inv .1) (m .times-factor .ensures) in
     let t3 = advancing-next h e p t2 (o2 .if2 .left) (k2 .stride2 .ensures) in
-    let w3 = advancing-kept h e p t2 (o2 .if2 .left) (k2 .stride2 .ensures) w2 (m2 .times-factor2 .ensures) in
+    let w3 = kept-stride h p (t2 .walked) (k2 .stride2 .ensures) w2 (m2 .times-factor2 .ensures) in
     factor-asks h p (t3 .walked .state) w3 (omega arith)
 
 rem-twice-lead : tie.Need-rem-twice-lead Inv-loop μ-loop
@@ -210,10 +211,10 @@ loop-again c =
     let p = s .pre .1 .1 .1 in
     let e = top-of s in
     let t2 = advancing-next h e p (l .loop .inv .0) (o .if1 .left) (k .stride .ensures) in
-    let w2 = advancing-kept h e p (l .loop .inv .0) (o .if1 .left) (k .stride .ensures) (l .loop .inv .1) (m .times-factor .ensures) in
+    let w2 = kept-stride h p (l .loop .inv .0 .walked) (k .stride .ensures) (l .loop .inv .1) (m .times-factor .ensures) in
     let t3 = advancing-next h e p t2 (o2 .if2 .left) (k2 .stride2 .ensures) in
-    let w3 = advancing-kept h e p t2 (o2 .if2 .left) (k2 .stride2 .ensures) w2 (m2 .times-factor2 .ensures) in
-    (advancing-next h e p t3 (o3 .if3 .left) (c .stride3 .ensures), kept-reduced h (advancing-kept h e p t3 (o3 .if3 .left) (c .stride3 .ensures) w3 (m3 .times-factor3 .ensures)))
+    let w3 = kept-stride h p (t2 .walked) (k2 .stride2 .ensures) w2 (m2 .times-factor2 .ensures) in
+    (advancing-next h e p t3 (o3 .if3 .left) (c .stride3 .ensures), kept-reduced h (kept-stride h p (t3 .walked) (c .stride3 .ensures) w3 (m3 .times-factor3 .ensures)))
 
 pub advance-spec : {M : Type 1} → statement M
 advance-spec =
