@@ -5,28 +5,19 @@
 //   giant     the same for the giant step
 //   refused   the same for the call that reads ticket and pairs and then refuses them; the library alone
 // A couple's turns follow each other, so that all contenders have the same repetition.
-#include "clock.h"
+#include "ticket.h"
 
 struct pair {
     uint32_t q[32], p[31];
     uint64_t distance;
 };
 
-static uint32_t q, n, D[65], count;
+static uint32_t count;
 static struct pair couples[64][2];
-static uint32_t ticket[70], words;
-
-static uint64_t number(void) {
-    unsigned long long x;
-    if (scanf("%llu", &x) != 1) exit(2);
-    return x;
-}
 
 // q, n, D, how many couples; a pair is n/2 numbers of Q, n/2 - 1 of P, the distance
 static void input(void) {
-    q = number(), n = number();
-    if (n < 4 || n > 64) exit(2);
-    for (uint32_t i = 0; i <= n; i++) D[i] = number();
+    input_ticket();
     count = number();
     if (count > 64) exit(2);
     for (uint32_t k = 0; k < 2 * count; k++) {
@@ -35,9 +26,4 @@ static void input(void) {
         for (uint32_t i = 0; i < n / 2 - 1; i++) x->p[i] = number();
         x->distance = number();
     }
-    ticket[0] = 1u << 28 | q, ticket[1] = 2u << 28 | n, words = 2;
-    for (uint32_t i = 0; i <= n; i++) ticket[words++] = 3u << 28 | D[i];
-    ticket[words++] = 4u << 28;
-    ticket[words] = 15u << 28 | words;
-    words++;
 }

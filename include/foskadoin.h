@@ -17,7 +17,7 @@ extern "C" {
 /* The number of an answer: 0, or that of the first refusal that applies. 1 to 10 and 14 are refused because of
    the input, 14 first of all; 11 to 13 because of the state, which is tested after the input. */
 enum foskadoin_number {
-    FOSKADOIN_FOUND = 0,             /* of a product or giant step: it is there */
+    FOSKADOIN_FOUND = 0,             /* of a product, a giant step or an ideal: it is there */
     FOSKADOIN_WRONG_HEAD = 1,        /* fewer than 7 words, or the first two are not of the kinds 1 and 2 */
     FOSKADOIN_WRONG_PRIME = 2,       /* q is not an odd prime below 4096 */
     FOSKADOIN_WRONG_DEGREE = 3,      /* n is odd, below 2 or above 64 */
@@ -27,7 +27,7 @@ enum foskadoin_number {
     FOSKADOIN_NOT_SQUAREFREE = 7,    /* the square of some polynomial of degree 1 or more divides D */
     FOSKADOIN_WRONG_LISTING = 8,     /* foskadoin_lookup; it shows it by the empty part */
     FOSKADOIN_WRONG_PAIR = 9,        /* foskadoin_product, foskadoin_giant_step: a pair is not an ideal's */
-    FOSKADOIN_WRONG_DISTANCE = 10,   /* foskadoin_giant_step: a distance is above 2^40 */
+    FOSKADOIN_WRONG_DISTANCE = 10,   /* foskadoin_giant_step, foskadoin_ideal_at: a distance is above 2^40 */
     FOSKADOIN_SPENT = 11,            /* regulator, regulators, unit, listing: the quasi-period m is above the
                                         budget b; half: above 2b. The one refusal with counts: the steps made,
                                         for half the indices tried, and the degree reached */
@@ -76,6 +76,11 @@ struct foskadoin_product_numbers {
 struct foskadoin_giant_step_numbers {
     uint64_t words, number, q_size, p_size;
     int64_t f, distance;
+};
+
+/* The answer of foskadoin_ideal_at: sizes as above, the ideal's distance, and the distance of the next ideal. */
+struct foskadoin_ideal_numbers {
+    uint64_t words, number, q_size, p_size, distance, next;
 };
 
 /* The regulator. Refusals 1 to 7 and 11. */
@@ -140,6 +145,14 @@ struct foskadoin_giant_step_numbers foskadoin_giant_step(const uint32_t *ticket,
                                                          const uint32_t *p2, size_t p2_length, uint64_t d2,
                                                          uint32_t *q, uint32_t *p);
 
+/* The last ideal of the endless walk ("The endless walk" below) whose distance is at most y. Refusals 1 to 7, then 10
+   where y is above 2^40; the ticket's budget has no effect, and there is no spent answer: every other y has its ideal.
+   q and p are arrays of 129 numbers, all written, as for the product: Q is monic and P has a lower degree. distance is
+   the ideal's, at most y; next is the distance of the ideal after it, above y. After a refusal both are 0.
+   The time grows with the number of binary digits of y: see "The endless walk". */
+struct foskadoin_ideal_numbers foskadoin_ideal_at(const uint32_t *ticket, size_t ticket_length, uint64_t y,
+                                                  uint32_t *q, uint32_t *p);
+
 #ifdef __cplusplus
 }
 #endif
@@ -147,8 +160,8 @@ struct foskadoin_giant_step_numbers foskadoin_giant_step(const uint32_t *ticket,
 /* What the caller keeps to
    - A list is a pointer and a length. A length counts numbers of 32 bits, not bytes. A list of length 0 may
      have a null pointer; any other pointer is aligned as a uint32_t is, to 4 bytes.
-   - An array (s, q and p of product and giant step) is a pointer to 129 numbers, aligned likewise and never
-     null. The array out of foskadoin_regulators is a pointer to 64 numbers of 64 bits, aligned as a uint64_t
+   - An array (s, q and p of product and giant step, q and p of foskadoin_ideal_at) is a pointer to 129 numbers,
+     aligned likewise and never null. The array out of foskadoin_regulators is a pointer to 64 numbers of 64 bits, aligned as a uint64_t
      is, to 8 bytes, and never null.
    - No list or array that a call writes overlaps another one of the same call. A call keeps no pointer after
      it returns.
@@ -158,7 +171,7 @@ struct foskadoin_giant_step_numbers foskadoin_giant_step(const uint32_t *ticket,
    memcpy, memmove and memset alone. So calls may run at the same time in several threads, as long as no list
    that one of them writes is passed to another.
 
-   Stack. The stored vectors (n up to 64) reach 39,000 bytes. Four functions are recursive: the greatest
+   Stack. The stored vectors (n up to 64) reach 41,000 bytes. Four functions are recursive: the greatest
    common divisor of D and its derivative (a level for each division, at most n), that of two Q with its
    factors (likewise, at most n/2), the steps of a reduction (at most n/2) and the inverse modulo q (at most
    21 levels). A smaller stack is not noticed: the call may then end in a fault of memory.
@@ -201,6 +214,14 @@ struct foskadoin_giant_step_numbers foskadoin_giant_step(const uint32_t *ticket,
    The listing. The record of index i, from 1 to m, has Q_(i-1) divided by its leading coefficient as Q,
    P_(i-1) mod Q as P, the distance deg p_(i-2) (0 for i = 1) and the mirror R less the distance, that is the
    distance left to the end of the quasi-period.
+
+   The endless walk. The walk goes on past the quasi-period, at the index i from 0 on with the ideal of Q_i and P_i, made
+   as a record's is, and the distance deg p_(i-1): 0 for i = 0, then strictly rising, by n/2 - deg Q_i from i to i + 1. The
+   ideals come again after m steps, with distances raised by R: those of the indices k m + i are record i + 1 of the
+   listing, i below m, at its distance and k R. So foskadoin_ideal_at at k R + y answers as at y, with distance and next
+   both k R more. It is made by halving: the ideal for y from that for y div 2, by a giant step with itself and then at
+   most 2 n - 3 single steps of the walk; that is a giant step for each binary digit of y, 41 at most. Where y is below
+   R, foskadoin_lookup at y finds the same ideal in the listing.
 
    A pair of product and giant step. Refusal 9: a list of Q has not n/2 numbers, or a list of P not n/2 - 1,
    or a number is q or more, or a Q is not monic, or a P has not a lower degree than its Q, or a Q does not

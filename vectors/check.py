@@ -1,6 +1,7 @@
 #!/usr/bin/env python3
 """Checks every line of the vectors against documents 01 and 02, followed word by word: the walk, the formulas, the order of
 refusals, the lines that the program prints."""
+import functools
 import glob
 import json
 import os
@@ -320,14 +321,8 @@ def sized(a):
     return [len(a)] + a
 
 
-def combine(w, Q1, P1, y1, Q2, P2, y2):
-    r = refusal(w)
-    if not r:
-        q, g, D, _ = read(w)
-        r = 0 if is_ideal(q, g, D, Q1, P1) and is_ideal(q, g, D, Q2, P2) else 9
-    if r:
-        return [r, 0, 0, 0, r, 0, 0, 0, 0, 0, 0]
-    Q1, P1, Q2, P2 = (trim(a[:]) for a in (Q1, P1, Q2, P2))
+def product(q, D, Q1, P1, Q2, P2):
+    """S, Q, P of the product."""
     T, u, v = bezout(q, Q1, Q2)
     S, t, W = bezout(q, T, add(q, P1, P2))
     U, V = mul(q, t, u), mul(q, t, v)
@@ -335,20 +330,79 @@ def combine(w, Q1, P1, y1, Q2, P2, y2):
     assert S == add(q, add(q, mul(q, U, Q1), mul(q, V, Q2)), mul(q, W, add(q, P1, P2)))
     Q = div(q, mul(q, Q1, Q2), mul(q, S, S))
     inner = add(q, mul(q, U, sub(q, P2, P1)), mul(q, W, div(q, sub(q, D, mul(q, P1, P1)), Q1)))
-    P = mod(q, add(q, P1, mul(q, div(q, Q1, S), inner)), Q)
-    product = [0] + sized(S) + sized(Q) + sized(P)
-    if max(y1, y2) > 2 ** 40:
-        return product + [10, 0, 0, 0, 0, 0, 0]
-    d, total, start, k = floor_root(q, g, D), 0, deg(Q), 0
+    return S, Q, mod(q, add(q, P1, mul(q, div(q, Q1, S), inner)), Q)
+
+
+def reduction(q, g, D, d, S, Q, P):
+    """The giant step's ideal and f, from the product."""
+    total, start = 0, deg(Q)
     while deg(Q) > g:
         _, P, Q = step(q, D, d, P, Q)
-        k += 1
         total += deg(div(q, add(q, P, d), Q))
     f = deg(Q) - start + total - deg(S)
     assert -2 * g <= f <= 0
+    return monic(q, Q), mod(q, P, Q), f
+
+
+def wide(y):
+    """The high and the low 32 bits."""
+    return [y >> 32, y % 2 ** 32]
+
+
+def combine(w, Q1, P1, y1, Q2, P2, y2):
+    r = refusal(w)
+    if not r:
+        q, g, D, _ = read(w)
+        r = 0 if is_ideal(q, g, D, Q1, P1) and is_ideal(q, g, D, Q2, P2) else 9
+    if r:
+        return [r, 0, 0, 0, r, 0, 0, 0, 0, 0, 0]
+    S, Q, P = product(q, D, *(trim(a[:]) for a in (Q1, P1, Q2, P2)))
+    answer = [0] + sized(S) + sized(Q) + sized(P)
+    if max(y1, y2) > 2 ** 40:
+        return answer + [10, 0, 0, 0, 0, 0, 0]
+    Q, P, f = reduction(q, g, D, floor_root(q, g, D), S, Q, P)
     distance = y1 + y2 + f
-    size = abs(distance)
-    return product + [0] + sized(monic(q, Q)) + sized(mod(q, P, Q)) + [-f, int(distance < 0), size >> 32, size % 2 ** 32]
+    return answer + [0] + sized(Q) + sized(P) + [-f, int(distance < 0)] + wide(abs(distance))
+
+
+# ---- the ideal at or below a distance (R-5)
+
+NEAR = 256  # y up to which the walk itself is compared
+
+
+def onward(q, D, d, Q, P, distance, y):
+    """Single steps from an ideal to the last at a distance of at most y; with its distance and the next one's."""
+    while True:
+        after = distance + deg(div(q, add(q, P, d), Q))
+        if after > y:
+            return monic(q, Q), mod(q, P, Q), distance, after
+        _, P, Q = step(q, D, d, P, Q)
+        distance = after
+
+
+@functools.lru_cache(maxsize=None)
+def halving(q, D, d, y):
+    """As R-5 says: "the ideal for y comes from the one for y div 2 by a giant step with itself and then single steps".
+    That for 0 is the walk's first. A y and its halves share their answers, which are kept, so D and d are tuples."""
+    g = len(d) - 2
+    if y == 0:
+        return onward(q, D, d, [1], [], 0, 0)
+    Q, P, distance, _ = halving(q, D, d, y // 2)
+    Q, P, f = reduction(q, g, D, d, *product(q, D, Q, P, Q, P))
+    return onward(q, D, d, Q, P, 2 * distance + f, y)
+
+
+def ideal_at(w, y):
+    r = refusal(w) or (10 if y > 2 ** 40 else 0)
+    if r:
+        return [r, 0, 0, 0, 0, 0, 0]
+    q, g, D, _ = read(w)
+    d = floor_root(q, g, D)
+    Q, P, distance, after = halving(q, tuple(D), tuple(d), y)
+    assert distance <= y < after and is_ideal(q, g, D, pad(Q, g + 1), pad(P, g))
+    if y <= NEAR:
+        assert (Q, P, distance, after) == onward(q, D, d, [1], [], 0, y)
+    return [0] + sized(Q) + sized(P) + wide(distance) + wide(after)
 
 
 # ---- the files
@@ -379,6 +433,8 @@ def expected(name, numbers):
         Q1, P1, y1 = numbers.counted(), numbers.counted(), numbers.wide()
         Q2, P2, y2 = numbers.counted(), numbers.counted(), numbers.wide()
         return combine(w, Q1, P1, y1, Q2, P2, y2)
+    if os.path.basename(name) == "ideals_at":
+        return ideal_at(w, numbers.wide())
     if name in ("samples/units", "samples/listings"):
         lengths, fill = numbers.counted(), numbers.take(1)[0]
         return (lent_unit if name == "samples/units" else lent_listing)(w, lengths, fill)
@@ -388,7 +444,7 @@ def expected(name, numbers):
 
 def main():
     wrong = 0
-    samples = ["regulators", "half", "several", "units", "listings"]
+    samples = ["regulators", "half", "several", "units", "listings", "ideals_at"]
     for name in samples + ["allowed", "products"] + ["samples/" + name for name in samples]:
         jobs = total = 0
         tally = {}

@@ -1,5 +1,5 @@
 // Calls the static library from C: every stored vector, every lent list to its last place, what a refusal leaves as
-// it was, the sample answers, and half the walk against the whole.
+// it was, the sample answers, half the walk against the whole, and the ideal at a distance against the listing.
 #include <inttypes.h>
 #include <string.h>
 #include "../../include/foskadoin.h"
@@ -7,7 +7,7 @@
 
 enum { MOST = 1 << 16, MARK = 0xA5A5A5A5 };
 static uint32_t line[MOST];
-static size_t count, at, jobs, compared, wrong;
+static size_t count, at, jobs, compared, listed, looked, wrong;
 
 // The numbers of the next line.
 static int next_line(FILE *file) {
@@ -289,6 +289,84 @@ static void products(FILE *file) {
     }
 }
 
+// Both arrays hold marks before the call, and every place of them is compared; after a refusal all are zeros.
+static void ideals_at(FILE *file) {
+    for (; next_line(file); jobs++) {
+        size_t words;
+        uint32_t *ticket = counted(&words), *Q = list(129, NULL), *P = list(129, NULL);
+        struct foskadoin_ideal_numbers a = foskadoin_ideal_at(ticket, words, wide(), Q, P);
+        expect(a.number == number() && a.words == words, "ideal at");
+        polynomial(Q, a.q_size, "Q of the ideal at"), polynomial(P, a.p_size, "P of the ideal at");
+        expect(a.distance == wide(), "distance of the ideal at");
+        expect(a.next == wide(), "the next distance");
+        expect(at == count, "the end of the line");
+        free(Q), free(P), free(ticket);
+    }
+}
+
+// An array of 129 numbers holds the values of these words and then zeros; the size is the degree and 1.
+static int values(const uint32_t *l, uint64_t size, const uint32_t *words, size_t length) {
+    size_t top = 0;
+    for (size_t i = 0; i < 129; i++) {
+        uint32_t want = i < length ? words[i] & 0xfffffff : 0;
+        if (l[i] != want) return 0;
+        if (want) top = i + 1;
+    }
+    return size == top;
+}
+
+// Every y from 0 to 2R against the listing: the ideal is the record that lookup finds at y modulo R, the next
+// distance is the next record's, or R after the last, and from R on both are raised. The budget is 0, 1 or the largest.
+// A D with a square factor is refused by 7 whatever y is. Answers 1 if D is not refused and R is at most `most`.
+static int whole_turns(uint32_t *ticket, size_t words, uint64_t most) {
+    static uint32_t l[MOST];
+    uint32_t *budget = ticket + words - 2, Q[129], P[129];
+    uint64_t n = ticket[1] & 0xfffffff, size = n + 4;
+    *budget = 4u << 28 | 4000;
+    struct foskadoin_numbers a = foskadoin_listing(ticket, words, l, MOST);
+    uint64_t R = a.regulator, length = a.quasi_period * size;
+    if (a.number == FOSKADOIN_NOT_SQUAREFREE) {
+        for (int i = 0; i < 2; i++) {
+            memset(Q, 0xA5, sizeof Q), memset(P, 0xA5, sizeof P);
+            struct foskadoin_ideal_numbers b = foskadoin_ideal_at(ticket, words, i ? UINT64_MAX : 1, Q, P);
+            expect(b.words == words && b.number == a.number && !b.distance && !b.next, "refusal 7 of the ideal at");
+            expect(values(Q, b.q_size, NULL, 0) && values(P, b.p_size, NULL, 0), "zeros in refusal 7");
+        }
+    }
+    if (a.number != FOSKADOIN_FOUND || R > most) return 0;
+    for (uint64_t y = 0; y <= 2 * R; y++, looked++) {
+        const uint32_t *record = l + foskadoin_lookup(l, length, n, y % R).offset;
+        uint64_t raise = y - y % R, next = record + size < l + length ? distance(record + size) : R;
+        memset(Q, 0xA5, sizeof Q), memset(P, 0xA5, sizeof P);
+        *budget = 4u << 28 | (y % 3 == 0 ? 0 : y % 3 == 1 ? 1 : 0xfffffff);
+        struct foskadoin_ideal_numbers b = foskadoin_ideal_at(ticket, words, y, Q, P);
+        expect(b.words == words && b.number == FOSKADOIN_FOUND, "ideal at every y");
+        expect(values(Q, b.q_size, record + 5, n / 2), "the record's Q");
+        expect(values(P, b.p_size, record + 5 + n / 2, n / 2 - 1), "the record's P");
+        expect(b.distance == distance(record) + raise && b.next == next + raise, "the record's distances");
+    }
+    return 1;
+}
+
+// Every monic D of degree 4 over F_3, and twelve random D of each of sixteen pairs of n and q.
+static void turns(void) {
+    uint32_t ticket[69];
+    for (uint32_t k = 0; k < 81; k++) {
+        size_t words = random_ticket(ticket, 3, 4);
+        for (uint32_t i = 0, rest = k; i < 4; i++, rest /= 3) ticket[i + 2] = 3u << 28 | rest % 3;
+        listed += whole_turns(ticket, words, UINT64_MAX);
+    }
+    expect(listed == 81 - 27, "those without a square factor");
+    for (uint32_t n = 2; n <= 8; n += 2)
+        for (uint32_t i = 0; i < 4; i++)
+            for (int tries = 0, found = 0; found < 12 && tries < 1000; tries++) {
+                size_t words = random_ticket(ticket, (const uint32_t[]){3, 5, 7, 11}[i], n);
+                int one = whole_turns(ticket, words, 200);
+                found += one, listed += one;
+            }
+    expect(listed == 54 + 16 * 12, "twelve of each pair");
+}
+
 int main(int argc, char **argv) {
     if (argc != 2) return 2;
     regulators(vectors(argv[1], "regulators.txt"));
@@ -303,13 +381,17 @@ int main(int argc, char **argv) {
     listings(vectors(argv[1], "listings.txt"));
     lent(vectors(argv[1], "samples/listings.txt"), 1);
     products(vectors(argv[1], "products.txt"));
+    ideals_at(vectors(argv[1], "ideals_at.txt"));
+    ideals_at(vectors(argv[1], "samples/ideals_at.txt"));
     expect(same(foskadoin_regulator(NULL, 0), 0, (uint32_t[]){FOSKADOIN_WRONG_HEAD, 0, 0, 0}), "no ticket");
     expect(same(foskadoin_half(NULL, 0), 0, (uint32_t[]){FOSKADOIN_WRONG_HEAD, 0, 0, 0}), "half of no ticket");
     halves();
+    turns();
     uint64_t out[64] = {0};
     struct foskadoin_several none = foskadoin_regulators(NULL, 0, out);
     expect(none.words == 0 && none.count == 1 && out[0] == FOSKADOIN_WRONG_SHAPE && !out[1], "no ticket at several primes");
-    printf("C: %zu jobs, %zu tickets by half the walk and by the whole, %zu wrong\n", jobs, compared, wrong);
+    printf("C: %zu jobs, %zu tickets by half the walk and by the whole, %zu distances of %zu D by halving and by listing, "
+           "%zu wrong\n", jobs, compared, looked, listed, wrong);
     // every line of the files was read
-    return wrong != 0 || jobs != 3444;
+    return wrong != 0 || jobs != 4317;
 }

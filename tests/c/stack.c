@@ -11,6 +11,7 @@ enum { STACK = 1 << 20, PAINT = 0xC3, WORDS = 256, PLACES = 1 << 16 };
 static uint32_t ticket[WORDS], lists[4][PLACES], Q[2][WORDS], P[2][WORDS];
 static uint64_t outcomes[64];
 static size_t words, sizes[4], listed, n;
+static uint64_t y;
 static struct foskadoin_part part;
 static unsigned char *stack;
 
@@ -34,6 +35,7 @@ static void *giant_step_job(void *none) {
     foskadoin_giant_step(ticket, words, Q[0], sizes[0], P[0], sizes[1], 0, Q[1], sizes[2], P[1], sizes[3], 0, lists[0], lists[1]);
     return none;
 }
+static void *ideal_at_job(void *none) { return foskadoin_ideal_at(ticket, words, y, lists[0], lists[1]), none; }
 
 static struct {
     const char *name;
@@ -41,7 +43,8 @@ static struct {
     size_t most;
 } calls[] = {{"thread", no_job, 0},   {"regulator", regulator_job, 0}, {"unit", unit_job, 0},
              {"listing", listing_job, 0}, {"lookup", lookup_job, 0},   {"product", product_job, 0},
-             {"giant step", giant_step_job, 0}, {"regulators", regulators_job, 0}, {"half", half_job, 0}};
+             {"giant step", giant_step_job, 0}, {"regulators", regulators_job, 0}, {"half", half_job, 0},
+             {"ideal at", ideal_at_job, 0}};
 
 static void measure(int call) {
     pthread_attr_t attributes;
@@ -92,7 +95,15 @@ int main(int argc, char **argv) {
         measure(8);
         if (fscanf(file, "%*[^\n]") != 0) return 2;
     }
-    int over = jobs != 2671 || found == 0;
+    file = vectors(argv[1], "ideals_at.txt");
+    for (; (words = counted(file, ticket)) != SIZE_MAX; jobs++) {
+        uint64_t high, low;
+        if (fscanf(file, "%" SCNu64 " %" SCNu64, &high, &low) != 2) return 2;
+        y = high << 32 | low;
+        measure(9);
+        if (fscanf(file, "%*[^\n]") != 0) return 2;
+    }
+    int over = jobs != 3467 || found == 0;
     printf("stack, bytes, in %zu jobs:", jobs);
     for (size_t i = 0; i < sizeof calls / sizeof *calls; i++) {
         printf(" %s %zu", calls[i].name, calls[i].most);

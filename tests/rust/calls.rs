@@ -1,4 +1,5 @@
-// Calls the static library from Rust: every stored vector, the sample answers, and half the walk against the whole.
+// Calls the static library from Rust: every stored vector, the sample answers, half the walk against the whole, and
+// the ideal at a distance against the listing.
 use std::fs;
 
 #[repr(C)]
@@ -41,6 +42,16 @@ struct GiantStepNumbers {
     distance: i64,
 }
 
+#[repr(C)]
+struct IdealNumbers {
+    words: u64,
+    number: u64,
+    q_size: u64,
+    p_size: u64,
+    distance: u64,
+    next: u64,
+}
+
 extern "C" {
     fn foskadoin_product(ticket: *const u32, length: usize, q1: *const u32, q1n: usize, p1: *const u32, p1n: usize, q2: *const u32, q2n: usize, p2: *const u32, p2n: usize, s: &mut [u32; 129], q: &mut [u32; 129], p: &mut [u32; 129]) -> ProductNumbers;
     fn foskadoin_giant_step(ticket: *const u32, length: usize, q1: *const u32, q1n: usize, p1: *const u32, p1n: usize, d1: u64, q2: *const u32, q2n: usize, p2: *const u32, p2n: usize, d2: u64, q: &mut [u32; 129], p: &mut [u32; 129]) -> GiantStepNumbers;
@@ -50,6 +61,7 @@ extern "C" {
     fn foskadoin_unit(ticket: *const u32, length: usize, p: *mut u32, pn: usize, s: *mut u32, sn: usize, x: *mut u32, xn: usize, y: *mut u32, yn: usize) -> Numbers;
     fn foskadoin_listing(ticket: *const u32, length: usize, out: *mut u32, n: usize) -> Numbers;
     fn foskadoin_lookup(list: *const u32, length: usize, n: u64, y: u64) -> Part;
+    fn foskadoin_ideal_at(ticket: *const u32, length: usize, y: u64, q: &mut [u32; 129], p: &mut [u32; 129]) -> IdealNumbers;
 }
 
 // What a safe caller writes around the calls: slices do not overlap and carry their lengths.
@@ -77,6 +89,10 @@ fn listing(ticket: &[u32], out: &mut [u32]) -> Numbers {
 fn lookup(list: &[u32], n: u64, y: u64) -> &[u32] {
     let part = unsafe { foskadoin_lookup(list.as_ptr(), list.len(), n, y) };
     &list[part.offset as usize..][..part.length as usize]
+}
+
+fn ideal_at(ticket: &[u32], y: u64, q: &mut [u32; 129], p: &mut [u32; 129]) -> IdealNumbers {
+    unsafe { foskadoin_ideal_at(ticket.as_ptr(), ticket.len(), y, q, p) }
 }
 
 // A line's numbers after each other.
@@ -168,6 +184,58 @@ fn halves() -> usize {
         compare(q, &coefficients, chance(1 << size));
     }
     81 * 13 + 2000
+}
+
+fn value(word: &u32) -> u32 {
+    word % (1 << 28)
+}
+
+fn distance(record: &[u32]) -> u64 {
+    (value(&record[1]) as u64) << 28 | value(&record[2]) as u64
+}
+
+// Every y from 0 to 2R against the listing, from R on with the distances raised, each with one of three budgets. D is
+// x^n and the terms with these coefficients. Answers how many y, none where D is refused or R is above 200.
+fn whole_turns(q: u32, coefficients: &[u32]) -> u64 {
+    let n = coefficients.len();
+    let mut list = vec![0; 1 << 12];
+    let a = listing(&ticket(q, coefficients, 200), &mut list);
+    if a.number != 0 || a.first > 200 {
+        return 0;
+    }
+    let (r, records) = (a.first, &list[..a.second as usize * (n + 4)]);
+    for y in 0..=2 * r {
+        let record = lookup(records, n as u64, y % r);
+        let index = value(&record[0]) as usize;
+        let next = records.chunks(n + 4).nth(index).map_or(r, distance);
+        let (mut places_q, mut places_p) = ([9; 129], [9; 129]);
+        let job = ticket(q, coefficients, [0, 3, (1 << 28) - 1][y as usize % 3]);
+        let b = ideal_at(&job, y, &mut places_q, &mut places_p);
+        assert_eq!([b.words, b.number], [job.len() as u64, 0]);
+        assert_eq!([b.distance, b.next], [distance(record), next].map(|d| d + y / r * r));
+        let (record_q, record_p) = record[5..].split_at(n / 2);
+        for (places, size, words) in [(places_q, b.q_size, record_q), (places_p, b.p_size, record_p)] {
+            assert!(places.into_iter().eq(words.iter().map(value).chain(std::iter::repeat(0)).take(129)));
+            assert_eq!(size as usize, places.iter().rposition(|c| *c != 0).map_or(0, |top| top + 1));
+        }
+    }
+    2 * r + 1
+}
+
+// Every monic D of degree 4 over F_3, and 200 random D of other q and n.
+fn turns() -> u64 {
+    let mut state = 2u64;
+    let mut chance = |below: u32| {
+        state = state.wrapping_mul(6364136223846793005).wrapping_add(1442695040888963407);
+        (state >> 33) as u32 % below
+    };
+    let all = (0..81).map(|k| whole_turns(3, &[k % 3, k / 3 % 3, k / 9 % 3, k / 27])).sum::<u64>();
+    let others = (0..200).map(|_| {
+        let q = [3, 5, 7, 11, 13][chance(5) as usize];
+        let n = [2, 4, 6, 6, 8, 10][chance(6) as usize];
+        whole_turns(q, &(0..n).map(|_| chance(q)).collect::<Vec<u32>>())
+    });
+    all + others.sum::<u64>()
 }
 
 // All 64 numbers of the array, with a number on either side of it, and each prime's outcome against the single job's.
@@ -275,6 +343,22 @@ fn main() {
         assert_eq!(b.distance, sign * line.wide() as i64);
         jobs += 1;
     }
-    assert_eq!(jobs, 3444);
-    println!("Rust: {jobs} jobs, {compared} tickets by half the walk and by the whole, 0 wrong");
+    for name in ["ideals_at.txt", "samples/ideals_at.txt"] {
+        for mut line in lines(&folder, name) {
+            let (ticket, y) = (line.counted(), line.wide());
+            let (mut q, mut p) = ([9; 129], [9; 129]);
+            let a = ideal_at(&ticket, y, &mut q, &mut p);
+            assert_eq!([a.words, a.number], [ticket.len() as u64, line.take(1)[0] as u64]);
+            line.polynomial(&q, a.q_size);
+            line.polynomial(&p, a.p_size);
+            assert_eq!([a.distance, a.next], [line.wide(), line.wide()]);
+            assert_eq!(line.1, line.0.len());
+            jobs += 1;
+        }
+    }
+    let looked = turns();
+    assert!(looked > 10_000);
+    assert_eq!(jobs, 4317);
+    let halved = format!("{compared} tickets by half the walk and by the whole");
+    println!("Rust: {jobs} jobs, {halved}, {looked} distances by halving and by listing, 0 wrong");
 }

@@ -14,15 +14,13 @@ use base_counters::Distance;
 use base_field::Field;
 use base_polynomial::Poly;
 use base_polynomial::linear::zero;
+use ideal_giant::FARTHEST;
 use ideal_giant::step::giant;
 use ideal_pair::Pair;
 use ideal_pair::operand::both;
 use ideal_pair::operand::pair;
 use ideal_reduce::root_of;
 use ticket_read::read_ticket;
-
-// The largest distance that a giant step takes: 2⁴⁰.
-const FARTHEST: u64 = 1099511627776;
 
 // Invariant (`GiantStepSays`): the number of words handed in, the number of a refusal or 0, the reduced
 // ideal, f and the distance: zero in a refusal.

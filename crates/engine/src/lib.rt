@@ -37,3 +37,8 @@ pub mod giant_step {
     pub use call_giant_step::GiantStepAnswer;
     pub use call_giant_step::giant_step;
 }
+
+pub mod ideal_at {
+    pub use call_ideal_at::IdealAtAnswer;
+    pub use call_ideal_at::ideal_at;
+}

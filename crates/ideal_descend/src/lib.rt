@@ -84,6 +84,27 @@ pub fn normal(
     PairSizes { q: i, p: j }
 }
 
+// q and p become the ideal whose Q stands in `current`, of `size` places, and whose P is d − rest, each of at most
+// `places` places: Q over its leading coefficient, P modulo that; their sizes.
+pub fn ended(
+    f: Field,
+    d: &[u32; 129],
+    places: usize,
+    current: &[u32; 129],
+    size: usize,
+    rest: &[u32; 129],
+    q: &mut [u32; 129],
+    p: &mut [u32; 129],
+) -> PairSizes
+    requires { ⌜ IsField f × (0 < size) × (places ≤ 129) ⌝ }
+    requires { ⌜ Held (name f) (now current) size × Within (name f) (now d) places × Within (name f) (now rest) places ⌝ }
+    ensures { λ r. ⌜ Is (name f) (now (q .exit)) (r .q) (monicOf (ops f) (poly (now (current .entry)) size)) ⌝ }
+    ensures { λ r. ⌜ Is (name f) (now (p .exit)) (r .p) (remOf (ops f) (subOf (ops f) (now (d .entry)) (now (rest .entry))) (monicOf (ops f) (poly (now (current .entry)) size))) ⌝ }
+{
+    let k = difference(f, d, rest, places, p);
+    normal(f, current, size, q, p, k)
+}
+
 // q and p become the reduced ideal, where the degree of Q is below h: Q stands in `current`, and P is d − rest.
 fn finish(
     f: Field,
@@ -102,8 +123,7 @@ fn finish(
     ensures { λ r. ⌜ Is (name f) (now (p .exit)) (r .p) (remOf (ops f) (subOf (ops f) (now (d .entry)) (now (rest .entry))) (monicOf (ops f) (poly (now (current .entry)) (at .size)))) ⌝ }
     ensures { λ r. ⌜ r .sum ≡ at .sum ⌝ }
 {
-    let k = difference(f, d, rest, larger(at.top, h + 1), p);
-    let t = normal(f, current, at.size, q, p, k);
+    let t = ended(f, d, larger(at.top, h + 1), current, at.size, rest, q, p);
     Reduced {
         q: t.q,
         p: t.p,

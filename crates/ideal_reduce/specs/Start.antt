@@ -31,7 +31,8 @@ use Rattle.base_polynomial.specs.Places.{Places, Within}
 use Rattle.walk_state.specs.State.{rootD, pad-within}
 use Rattle.ideal_operand.specs.Operand.{heldPair, K, M, I}
 use Rattle.ideal_descend.specs.Recurrence.{before, left}
-use Rattle.ideal_descend.specs.Turn.{At, Begun, Going, Reduces}
+use Rattle.ideal_descend.specs.Stands.{Stands, Begun}
+use Rattle.ideal_descend.specs.Turn.{At, Going, Reduces}
 
 pub record Start (f : FieldName) (g : ℕ) (D : List ℕ) (l : ℕ) (d q : List ℕ) (m : ℕ) (p : List ℕ) (k : ℕ) : Type 0 where
   pub admitted : Admitted f g (poly D l)
@@ -114,6 +115,11 @@ module _ {f : FieldName} {g : ℕ} {D : List ℕ} {l : ℕ} {d q : List ℕ} {m 
       short : length (sub (ops f) root (poly p k)) ≤ 129
       short = difference-short
 
+  -- where the steps stand before the first
+  pub stands-first : {r : List ℕ} → r ≡ pad (ops f) 129 (sub (ops f) root (poly p k)) → {c : List ℕ} → c ≡ pad (ops f) 129 (cofactorAt (ops f) (poly D l) x) → Stands f g (poly D l) x 0 c q r m
+  unfolding before left steps
+  stands-first r-is c-is = record { before-is = c-is; q-is = s .held-q .places; left-is = r-is; size-is = sym (length-poly (f .q) q m (s .held-q)) }
+
   module _ (high : suc g < m) {r : List ℕ} (r-is : r ≡ pad (ops f) 129 (sub (ops f) root (poly p k))) {c : List ℕ} (c-is : c ≡ pad (ops f) 129 (cofactorAt (ops f) (poly D l) x)) where
     -- no more places than Q has
     past : (i : ℕ) → m ≤ i → suc (suc g) ≤ i → getD r i 0 ≡ 0
@@ -122,13 +128,10 @@ module _ {f : FieldName} {g : ℕ} {D : List ℕ} {l : ℕ} {d q : List ℕ} {m 
         ∙ sub-zeros (f .q) (pos (f .q) (s .admitted .prime)) (List·getD-eq-default root 0 {n = i} (let a = d-length (surd-of (s .admitted)) in omega arith)) (at-poly (f .q) p k (s .held-p) i ∙ p-within .past i w)
 
     pub at-first : At f g (poly D l) x c q r m m 0
-    unfolding before left steps degreeSum
+    unfolding degreeSum
     at-first = record {
       index = 0;
-      before-is = c-is;
-      q-is = s .held-q .places;
-      left-is = r-is;
-      size-is = sym (length-poly (f .q) q m (s .held-q));
+      stands = stands-first r-is c-is;
       sum-is = refl;
       above = λ i w. absurd (omega arith);
       top-most = let w = s .q-most in let v = s .admitted .genus-most in omega arith;

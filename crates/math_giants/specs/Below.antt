@@ -18,6 +18,10 @@ use Rattle.math_giants.specs.GiantStep.{GiantStep, drop}
 use Rattle.math_giants.specs.Exists.{walk-giant}
 use Rattle.math_giants.specs.Place.{Placed, GiantPlaced, placed-walk, placed-giant, placed-next}
 
+-- twice y div 2 is y, or 1 less
+pub halves : (y : ℕ) → (y / 2 +ₙ y / 2 ≤ y) × (y ≤ suc (y / 2 +ₙ y / 2))
+halves y = let e : 2 *ₙ (y / 2) +ₙ y % 2 ≡ y = div-add-mod y 2 in let l : y % 2 < 2 = mod-lt y (omega arith) in (omega arith, omega arith)
+
 module _ {A : Type 0} (K : Field A) {g : ℕ} {D : Px K} {o : Root K g D} (w : Walk K o) where
   -- the index i has the last distance of at most y
   pub record Last (y i : ℕ) : Type 0 where
@@ -72,9 +76,6 @@ module _ {A : Type 0} (K : Field A) {g : ℕ} {D : Px K} {o : Root K g D} (w : W
           further n k c i p = ⊎-elim (λ q. subst (λ (j : ℕ). distance K w (suc (j +ₙ l)) ≤ y) (let e : n ≡ i = omega arith in e) k) (λ q. c i q) (le-or-lt n i)
 
   -- ---- from half of y
-  halves : (y : ℕ) → (y / 2 +ₙ y / 2 ≤ y) × (y ≤ suc (y / 2 +ₙ y / 2))
-  halves y = let e : 2 *ₙ (y / 2) +ₙ y % 2 ≡ y = div-add-mod y 2 in let l : y % 2 < 2 = mod-lt y (omega arith) in (omega arith, omega arith)
-
   pub from-half : {Q P : Px K} {δ i : ℕ} → FromHalf Q P δ i
   from-half {δ = δ} y s l G = go (placed-giant K w G s s)
     where

@@ -131,7 +131,7 @@ module _ {A : Type 0} (K : Field A) where
     prior-low zero = D-low K o
     prior-low (suc i) = low-up K (w .Q i) (let l = w .reduced i in omega arith) (w .Q-deg i .low)
 
-    walk-state : (i : ℕ) → State K D (w .Q i) (prior K D (w .Q) i) (w .P i)
+    pub walk-state : (i : ℕ) → State K D (w .Q i) (prior K D (w .Q) i) (w .P i)
     walk-state i = record { κ = w .κ i; deg = w .Q-deg i; norm = norm K w i; size = suc (suc g +ₙ suc g); C-low = prior-low i; P-low = low-up K (w .P i) (omega arith) (P-low K w i) }
 
     -- where there is a walk, D is not a square: it would be d², and Q_1 = D - d² would be 0

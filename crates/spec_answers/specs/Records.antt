@@ -123,18 +123,18 @@ module _ {f : FieldName} {g : ℕ} {D : List ℕ} (h : Admitted f g D) where
   P = walk.P (ops f) D d
 
   -- the constant that makes Q monic is not 0
-  lead-inverse : (i : ℕ) → 0 < ops f .inv (lead (ops f) (Q i))
+  pub lead-inverse : (i : ℕ) → 0 < ops f .inv (lead (ops f) (Q i))
   lead-inverse i = ⊎-elim (λ e. absurd (K .one-not-zero (sym (I .inv-mul (lead (ops f) (Q i)) not-zero) ∙ ap (λ (c : ℕ). F K .mul (M .φ c) (M .φ (lead (ops f) (Q i)))) e ∙ zer-mul (F K) (M .φ (lead (ops f) (Q i)))))) (λ l. l) (eq-zero-or-pos (ops f .inv (lead (ops f) (Q i))))
     where
       not-zero : M .φ (lead (ops f) (Q i)) ≡ F K .zer → ⊥
       not-zero = lead-some M (Q i) (let e = ap length (Q-trim z i) in let k = Q-some z i in omega arith)
 
-  monic-is : (i : ℕ) → monic (ops f) (Q i) ≡ scale (ops f) (ops f .inv (lead (ops f) (Q i))) (Q i)
+  pub monic-is : (i : ℕ) → monic (ops f) (Q i) ≡ scale (ops f) (ops f .inv (lead (ops f) (Q i))) (Q i)
   unfolding monic
   monic-is i = refl
 
   -- P less its remainder is a multiple of the divisor, whatever zeros stand at the end
-  rem-congruent : (a b l r : List ℕ) → ((i : ℕ) → getD l i 0 ≡ getD b i 0) → ((i : ℕ) → getD r i 0 ≡ getD (rem (ops f) a b) i 0) → Divides f l (sub (ops f) a r)
+  pub rem-congruent : (a b l r : List ℕ) → ((i : ℕ) → getD l i 0 ≡ getD b i 0) → ((i : ℕ) → getD r i 0 ≡ getD (rem (ops f) a b) i 0) → Divides f l (sub (ops f) a r)
   rem-congruent a b l r e k = (c, series-same f (is-field h) (sub (ops f) a r) (mul (ops f) l c) (series-sub M a r ∙ ap (λ (u : Px K). addS (F K) (series M a) (negS (F K) u)) r-is ∙ whole ∙ ap (λ (u : Px K). conv (F K) u (series M c)) (sym f-is) ∙ sym (series-mul M l c)))
     where
       c : List ℕ

@@ -85,16 +85,16 @@ module _ (P : ℕ → Type 0) (r : ℕ) (refused : (k : ℕ) → 1 ≤ k → k �
   number-most = ⊎-elim (λ h. h) (λ past. absurd (let e = accepted .1 (λ j low high. none-to past 7 (omega arith) j low (omega arith)) in omega arith)) (le-or-lt r 7)
 
 module _ (w : List ℕ) where
-  passes : None w → refusalOf w ≡ 0
+  pub passes : None w → refusalOf w ≡ 0
   passes none = t1 w .accepted .1 none
 
-  none-applies : refusalOf w ≡ 0 → None w
+  pub none-applies : refusalOf w ≡ 0 → None w
   none-applies e = t1 w .accepted .0 e
 
-  first-number : {k : ℕ} → First k w → refusalOf w ≡ k
+  pub first-number : {k : ℕ} → First k w → refusalOf w ≡ k
   first-number {k} f = t1 w .refused k (f .0) (f .1) .1 (f .2, f .3)
 
-  number-first : (k : ℕ) → k ≢ 0 → refusalOf w ≡ k → First k w
+  pub number-first : (k : ℕ) → k ≢ 0 → refusalOf w ≡ k → First k w
   number-first k some e =
       let most = number-most (λ j. Applies j w) (refusalOf w) (t1 w .refused) (t1 w .accepted) in
       let low : 1 ≤ k = ⊎-elim (λ h. h) (λ h. absurd (some (omega arith))) (le-or-lt 1 k) in

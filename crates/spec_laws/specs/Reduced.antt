@@ -49,8 +49,8 @@ module _ {A B : Type 0} {o : Ops A} (K : Field B) (M : Model o (F K)) (I : Inver
   Q-monic : Monic K (series M Q) (st .κ)
   Q-monic = record { low = λ i l. below-length M Q i (let e = length-monic M I (x .q) in let e′ = size-is in omega arith); top = ap (series M Q) (let e′ = size-is in omega arith) ∙ monic-top M I (x .q) (let e′ = size-is in omega arith) }
 
-  ratio : Associate K (series M Q) (series M (x .q))
-  ratio = record {
+  pub reduced-ratio : Associate K (series M Q) (series M (x .q))
+  reduced-ratio = record {
     factor = M .φ (o .inv (lead o (x .q)));
     some = λ e. some-inv K (M .φ (lead o (x .q))) lead-not (sym (φ-inv K M I (lead o (x .q)) lead-not) ∙ e);
     is = series-monic M I (x .q);
@@ -60,8 +60,8 @@ module _ {A B : Type 0} {o : Ops A} (K : Field B) (M : Model o (F K)) (I : Inver
       lead-not = lead-some M (x .q) (let e′ = size-is in omega arith)
 
   -- P is congruent to the pair's
-  gap : Divides K (series M Q) (series M P - series M (x .p))
-  gap = record {
+  pub reduced-gap : Divides K (series M Q) (series M P - series M (x .p))
+  reduced-gap = record {
     by = - series M (quo o (x .p) Q);
     size = length (quo o (x .p) Q);
     low = low-neg K (series M (quo o (x .p) Q)) _ (below-length M (quo o (x .p) Q));
@@ -73,7 +73,7 @@ module _ {A B : Type 0} {o : Ops A} (K : Field B) (M : Model o (F K)) (I : Inver
     κ = st .κ;
     monic = Q-monic;
     low = λ i l. let e = monic-size K M Q Q-monic in rem-below M I (x .p) Q (omega arith) i (omega arith);
-    divides = divides-rem-none K M I (normAt o D (record { q = Q; p = P })) Q (divides-path K (sym same) (divides-add K whole (divides-neg K (divides-mul K (series M P + series M (x .p)) (f .size) (f .low) gap))));
+    divides = divides-rem-none K M I (normAt o D (record { q = Q; p = P })) Q (divides-path K (sym same) (divides-add K whole (divides-neg K (divides-mul K (series M P + series M (x .p)) (f .size) (f .low) reduced-gap))));
   }
     where
       f : Finite K (series M P + series M (x .p))
@@ -81,7 +81,7 @@ module _ {A B : Type 0} {o : Ops A} (K : Field B) (M : Model o (F K)) (I : Inver
 
       -- Q divides D − P² of the pair
       whole : Divides K (series M Q) (series M (x .q) * C)
-      whole = divides-mul K C (st .size) (st .C-low) (associate-divides K (associate-sym K ratio))
+      whole = divides-mul K C (st .size) (st .C-low) (associate-divides K (associate-sym K reduced-ratio))
 
       same : series M (normAt o D (record { q = Q; p = P })) ≡ series M (x .q) * C - (series M P - series M (x .p)) * (series M P + series M (x .p))
       same = series-norm K M D (record { q = Q; p = P }) ∙ ring-from R[x] (series M D ∷ series M (x .q) ∷ C ∷ series M P ∷ series M (x .p) ∷ []) (times R[x] 𝟙 (st .norm)) (search quote depth 40 fits 9999) tt

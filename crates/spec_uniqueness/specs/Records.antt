@@ -75,15 +75,15 @@ module _ {f : FieldName} {g : ℕ} {D : List ℕ} (h : Admitted f g D) where
   }
 
   -- lists of admissible coefficients with the same polynomial
-  below-unique : (l u : List ℕ) → ((i : ℕ) → Ok f (getD l i 0)) → ((i : ℕ) → Ok f (getD u i 0)) → series M l ≡ series M u → (i : ℕ) → getD l i 0 ≡ getD u i 0
+  pub below-unique : (l u : List ℕ) → ((i : ℕ) → Ok f (getD l i 0)) → ((i : ℕ) → Ok f (getD u i 0)) → series M l ≡ series M u → (i : ℕ) → getD l i 0 ≡ getD u i 0
   below-unique l u low low′ e i = M .inj (getD l i 0) (getD u i 0) (arithmetic f (is-field h) .ok-of _ (low i)) (arithmetic f (is-field h) .ok-of _ (low′ i)) (ap (λ (s : Px K). s i) e)
 
   -- a monic multiple is one
-  monic-unique : (u x y : List ℕ) → lead (ops f) x ≡ 1 → lead (ops f) y ≡ 1 → ((k : ℕ) × (0 < k) × Ok f k × Same f x (scale (ops f) k u)) → ((k : ℕ) × (0 < k) × Ok f k × Same f y (scale (ops f) k u)) → series M x ≡ series M y
+  pub monic-unique : (u x y : List ℕ) → lead (ops f) x ≡ 1 → lead (ops f) y ≡ 1 → ((k : ℕ) × (0 < k) × Ok f k × Same f x (scale (ops f) k u)) → ((k : ℕ) × (0 < k) × Ok f k × Same f y (scale (ops f) k u)) → series M x ≡ series M y
   monic-unique u x y lx ly rx ry = associate-monic-equal K (lead-monic x lx) (lead-monic y ly) (associate-trans K (multiple-associate (rx .0) x u (rx .1) (rx .2) (rx .3)) (associate-sym K (multiple-associate (ry .0) y u (ry .1) (ry .2) (ry .3))))
 
   -- what is congruent to u modulo a monic x and has a lower degree is one
-  rest-unique : (u x y a b : List ℕ) → lead (ops f) x ≡ 1 → series M x ≡ series M y → Divides f x (sub (ops f) u a) → Divides f y (sub (ops f) u b) → size (ops f) a < size (ops f) x → size (ops f) b < size (ops f) y → series M b ≡ series M a
+  pub rest-unique : (u x y a b : List ℕ) → lead (ops f) x ≡ 1 → series M x ≡ series M y → Divides f x (sub (ops f) u a) → Divides f y (sub (ops f) u b) → size (ops f) a < size (ops f) x → size (ops f) b < size (ops f) y → series M b ≡ series M a
   rest-unique u x y a b lx same da db la lb = rigid K (length (trim (ops f) x) - 1) (monic-deg K (lead-monic x lx)) gap (low-sub K (series M b) (series M a) _ (λ i p. below-size M b i (omega (arith, size-is M b, size-is M x, size-is M y, sizes))) (λ i p. below-size M a i (omega (arith, size-is M a, size-is M x))))
     where
       sizes : length (trim (ops f) x) ≡ length (trim (ops f) y)

@@ -4,7 +4,8 @@ use Prim.Native.Nat.{ℕ, _<_}
 use native.Mathlib.Omega.{arith}
 use borrow.Fn.Kinds.{In}
 use borrow.Fn.PlainCycle.{Measures, is, falls, and}
-use Rattle.ideal_descend.specs.Turn.{q-some, rest-within, reduces, going-held, root-within, going-less, going-next}
+use Rattle.ideal_descend.specs.Stands.{q-some}
+use Rattle.ideal_descend.specs.Turn.{rest-within, reduces, going-held, root-within, going-less, going-next}
 use Rattle.ideal_descend.proofs.descend.Reads as descend
 use Rattle.ideal_descend.proofs.descend.Kinds as descend-kinds
 use Rattle.ideal_descend.proofs.+descend.Lts-descend as descend-lts
@@ -35,7 +36,7 @@ descend-finish-requires t c κs =
     let i = s .pre .1 .1 .0 in
     let g = i .admitted .genus-most in
     let e = i .half in
-    ((s .pre .1 .0, omega arith, q-some (i .begun) (i .stands), i .stands .top-most), ((going-held i, root-within i (s .pre .1 .1 .1)), λ n a b. rest-within (i .begun) (i .stands) n a (omega arith)))
+    ((s .pre .1 .0, omega arith, q-some (i .begun) (i .stands .stands), i .stands .top-most), ((going-held i, root-within i (s .pre .1 .1 .1)), λ n a b. rest-within (i .begun) (i .stands) n a (omega arith)))
 
 descend-returns : (t : ℕ) → descend-lts.Need-returns (
   finish-reads.Asked,

@@ -3,7 +3,8 @@ use Prim.Native.Nat.{suc, _-_, _<_}
 use native.Mathlib.Omega.{arith}
 use mathlib.Core.Path.{refl}
 use borrow.Author.Needs.{needs}
-use Rattle.ideal_descend.specs.Turn.{q-some, q-reduced, ready, even-past, quotient-some, at-next, sum-bound}
+use Rattle.ideal_descend.specs.Stands.{q-some, q-reduced}
+use Rattle.ideal_descend.specs.Turn.{at-ready, even-past, quotient-some, at-next, sum-bound}
 use Rattle.ideal_descend.proofs.stride.Statement.{statement}
 use Rattle.ideal_descend.proofs.stride.Tie as tie
 
@@ -23,14 +24,14 @@ inverse-requires : tie.Need-inverse-requires
 inverse-requires c κs =
     let s = c .before in
     let t = s .pre .1 in
-    (s .pre .0 .0, q-reduced (t .begun) (t .stands) (s .args .at .size - 1))
+    (s .pre .0 .0, q-reduced (t .begun) (t .stands .stands) (s .args .at .size - 1))
 
 step-by-requires : tie.Need-step-by-requires
 step-by-requires c κs =
     let v = c .before .before in
     let s = v .before .before in
     let t = s .pre .1 in
-    (s .pre .0 .0, (v .inverse .ensures, ((q-some (t .begun) (t .stands), t .stands .top-least, t .stands .top-most), ready (t .begun) (t .stands) (t .twice-is) (high s))))
+    (s .pre .0 .0, (v .inverse .ensures, ((q-some (t .begun) (t .stands .stands), t .stands .top-least, t .stands .top-most), at-ready (t .begun) (t .stands) (t .twice-is) (high s))))
 
 height-requires : tie.Need-height-requires
 height-requires c κs =

@@ -1,0 +1,5 @@
+pub mod Normal
+pub mod GiantSteps
+pub mod Steps
+pub mod Entries
+pub mod Landings
