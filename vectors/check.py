@@ -247,19 +247,25 @@ def lent_unit(w, lengths, fill):
     return answer + [v for length, list_ in zip(lengths, written) for v in list_ + [fill] * (length - len(list_))]
 
 
+# ---- listing and lookup
+
+def records(w, R, seen):
+    """Index, distance, mirror, Q and P of each record. "The mirror becomes R less the distance plus deg Q" (R-6)."""
+    q, g, D, b = read(w)
+    for index, (P, Q, distance) in enumerate(seen, 1):
+        yield index, distance, R - distance + deg(Q), pad(monic(q, Q), g + 1), pad(mod(q, P, Q), g)
+
+
 def listing(w):
     if refusal(w):
         return [refusal(w), 0, 0, 0, 0]
     answer, seen, _ = walk(w)
     if answer[0]:
         return answer + [0]
-    q, g, D, b = read(w)
     out = []
-    for i, (P, Q, delta) in enumerate(seen, 1):
-        mirror = answer[1] - delta
-        out += [5 * KIND + i, 6 * KIND + (delta >> 28), 7 * KIND + delta % KIND, 10 * KIND + (mirror >> 28), 11 * KIND + mirror % KIND]
-        out += [8 * KIND + v for v in pad(monic(q, Q), g + 1)]
-        out += [9 * KIND + v for v in pad(mod(q, P, Q), g)]
+    for index, distance, mirror, Q, P in records(w, answer[1], seen):
+        out += [5 * KIND + index, 6 * KIND + (distance >> 28), 7 * KIND + distance % KIND]
+        out += [10 * KIND + (mirror >> 28), 11 * KIND + mirror % KIND] + [8 * KIND + v for v in Q] + [9 * KIND + v for v in P]
     return answer + [len(out)] + out
 
 
@@ -270,6 +276,35 @@ def lent_listing(w, lengths, fill):
     if len(written) > length:
         answer, written = [13, 0, 0, 0], []
     return answer + written + [fill] * (length - len(written))
+
+
+def read_back(words, n):
+    """Index, distance, mirror, Q and P of each record, from the words of a listing."""
+    values = [v % KIND for v in words]
+    for at in range(0, len(values), n + 4):
+        index, high, low, mirror_high, mirror_low = values[at:at + 5]
+        Q, P = values[at + 5:at + 5 + n // 2], values[at + 5 + n // 2:at + n + 4]
+        yield index, high * KIND + low, mirror_high * KIND + mirror_low, Q, P
+
+
+def lookup(words, n, y):
+    """Offset and length of the last record with a distance of at most y; 0 and 0 is refusal 8."""
+    if n % 2 or n < 2 or n > 64 or not words or len(words) % (n + 4):
+        return [0, 0]
+    kinds = [5, 6, 7, 10, 11] + [8] * (n // 2) + [9] * (n // 2 - 1)
+    distances = [distance for _, distance, _, _, _ in read_back(words, n)]
+    if [v // KIND for v in words] != kinds * len(distances) or distances[0] or distances != sorted(set(distances)):
+        return [0, 0]
+    return [(n + 4) * (sum(distance <= y for distance in distances) - 1), n + 4]
+
+
+def conjugates(q, R, listed):
+    """Whether the records are as R-6 has them, without its formula: "the record at that distance, or record 1 where the
+    mirror is R, is the conjugate: the same Q, and P negated modulo Q", and the mirror of record 1 alone is R. As P has a
+    lower degree than Q, P negated modulo Q has the coefficients of P negated modulo q."""
+    at = {distance: (Q, P) for _, distance, _, Q, P in listed}
+    at[R] = at[0]
+    return all(at.get(mirror) == (Q, [-c % q for c in P]) and (mirror == R) == (index == 1) for index, _, mirror, Q, P in listed)
 
 
 # ---- the program
@@ -293,9 +328,8 @@ def lines_of(data):
     if answer[2] * (2 * g + 6) > LENT:
         return ["refused 13"]
     lines = ["found " + " ".join(map(str, answer[1:]))]
-    for index, (P, Q, distance) in enumerate(seen, 1):
-        record = [index, distance, answer[1] - distance] + pad(monic(q, Q), g + 1) + pad(mod(q, P, Q), g)
-        lines.append(" ".join(map(str, record)))
+    for index, distance, mirror, Q, P in records(w, answer[1], seen):
+        lines.append(" ".join(map(str, [index, distance, mirror] + Q + P)))
     return lines
 
 
@@ -429,6 +463,8 @@ class Numbers:
 
 def expected(name, numbers):
     w = numbers.counted()
+    if name == "samples/lookups":
+        return lookup(w, numbers.take(1)[0], numbers.wide())
     if name == "products":
         Q1, P1, y1 = numbers.counted(), numbers.counted(), numbers.wide()
         Q2, P2, y2 = numbers.counted(), numbers.counted(), numbers.wide()
@@ -442,10 +478,38 @@ def expected(name, numbers):
     return calls[os.path.basename(name)](w)
 
 
+def tallied(name, answer):
+    """The numbers of the answer's outcomes, 0 or that of a refusal."""
+    if name == "samples/lookups":
+        return [0 if answer[1] else 8]
+    return answer[1::4] if "several" in name or name == "allowed" else answer[:1]
+
+
+def stored_listings():
+    """The found listings of the two files and of the program's cases, as they stand there: file and line, q, R, the records."""
+    for name in "listings", "samples/listings":
+        with open(os.path.join(HERE, name + ".txt")) as file:
+            for at, line in enumerate(file, 1):
+                numbers = Numbers(line)
+                w = numbers.counted()
+                if name == "samples/listings":
+                    numbers.counted(), numbers.take(1)  # the lent list
+                number, R, m, _ = numbers.take(4)
+                if number == 0:
+                    q, n = (v % KIND for v in w[:2])
+                    words = numbers.counted() if name == "listings" else numbers.take(m * (n + 4))
+                    yield f"{name}.txt:{at}", q, R, list(read_back(words, n))
+    for where, data, lines in program_samples():
+        if lines[0].startswith("found"):
+            q, n = (int.from_bytes(data[i:i + 4], "little") % KIND for i in (0, 4))
+            rows = [[int(v) for v in line.split()] for line in lines[1:]]
+            yield where, q, int(lines[0].split()[1]), [(*row[:3], row[3:3 + n // 2], row[3 + n // 2:]) for row in rows]
+
+
 def main():
-    wrong = 0
+    wrong = mirrored = 0
     samples = ["regulators", "half", "several", "units", "listings", "ideals_at"]
-    for name in samples + ["allowed", "products"] + ["samples/" + name for name in samples]:
+    for name in samples + ["allowed", "products"] + ["samples/" + name for name in samples + ["lookups"]]:
         jobs = total = 0
         tally = {}
         with open(os.path.join(HERE, name + ".txt")) as file:
@@ -454,7 +518,7 @@ def main():
                 total += len(numbers.rest)
                 jobs += 1
                 mine = expected(name, numbers)
-                for kind in mine[1::4] if "several" in name or name == "allowed" else mine[:1]:
+                for kind in tallied(name, mine):
                     tally[kind] = tally.get(kind, 0) + 1
                 if mine != numbers.rest:
                     wrong += 1
@@ -466,6 +530,12 @@ def main():
             wrong += 1
             print(f"{where}: the documents give {lines_of(data)}, the case has {lines}")
     print(f"samples of the program: {len(cases)}")
+    for where, q, R, listed in stored_listings():
+        mirrored += len(listed)
+        if not conjugates(q, R, listed):
+            wrong += 1
+            print(f"{where}: a mirror is not the distance of the conjugate")
+    print(f"records with the conjugate at the mirror: {mirrored}")
     sys.exit(1 if wrong else 0)
 
 

@@ -323,19 +323,42 @@ units() =
 \\ A distance in two words, high and low 28 bits.
 twowords(k, j, y) = [word(k, y >> 28), word(j, y % 2^28)];
 
+\\ The ideal spanned by the multiples of p + s*sqrt(D).
+multiples(D, p, s) = ideal([p, D * s; s, p]);
+
+\\ The mirrors of the records that the p + s*sqrt(D) generate, given as [p, s]: request R-6. The conjugate ideal, spanned by the
+\\ multiples of p - s*sqrt(D), is the ideal of exactly one record; the mirror is the distance of that record, or R if it is the first.
+\\ The mirror is also the degree of p - s*sqrt(D) times the unit u + t*sqrt(D), that is of A + B*sqrt(D). With root(D, 0), the
+\\ polynomial part of sqrt(D), in its place, only terms of degrees below deg B are lost.
+mirrors(D, generators, R, unit1) =
+{
+  my(ideals = [multiples(D, v[1], v[2]) | v <- generators], out = List(), [u, t] = unit1, p, s, I1, places, y, A, B);
+  foreach (generators, v,
+    [p, s] = v;
+    I1 = multiples(D, p, -s);
+    places = select(J -> J == I1, ideals, 1);
+    if (#places != 1, error("the conjugate is not that of just one record"));
+    y = if (places[1] == 1, R, poldegree(generators[places[1]][1]));
+    A = p * u - D * s * t; B = p * t - s * u;
+    if (poldegree(B) >= y || poldegree(A + B * root(D, 0)) != y, error("not the degree of the conjugate generator times the unit"));
+    listput(out, y));
+  Vec(out);
+};
+
 \\ Record i + 1: Q_i from the norm of the convergent before a_i, P_i from its product with the conjugate of the one before that.
 records(D, list, m, R) =
 {
-  my(g = poldegree(D) / 2 - 1, out = List(), C = matid(2) * Mod(1, characteristic(D)), Q, P, delta);
+  my(g = poldegree(D) / 2 - 1, ideals = List(), generators = List(), C = matid(2) * Mod(1, characteristic(D)), Q, P, mirrors1);
   for (i = 0, m - 1,
     Q = monic(Pol((-1)^i * norm2(D, C[1, 1], C[2, 1])));
     P = Pol((-1)^(i + 1) * (C[1, 1] * C[1, 2] - D * C[2, 1] * C[2, 2])) % Q;
     \\ the same ideal as the multiples of p + s*sqrt(D)
-    if ([1, Q, P] != ideal([C[1, 1], D * C[2, 1]; C[2, 1], C[1, 1]]), error("not the ideal of the convergent"));
-    delta = poldegree(C[1, 1]);
-    listput(out, concat([[word(5, i + 1)], twowords(6, 7, delta), twowords(10, 11, R - delta), [word(8, v) | v <- pad(Q, g + 1)], [word(9, v) | v <- pad(P, g)]]));
+    if ([1, Q, P] != multiples(D, C[1, 1], C[2, 1]), error("not the ideal of the convergent"));
+    listput(ideals, [Q, P]); listput(generators, [C[1, 1], C[2, 1]]);
     C = C * [list[i + 1], 1; 1, 0]);
-  concat(Vec(out));
+  mirrors1 = mirrors(D, Vec(generators), R, monicpair(list, m));
+  concat(vector(m, i, concat([[word(5, i)], twowords(6, 7, poldegree(generators[i][1])), twowords(10, 11, mirrors1[i]),
+    [word(8, v) | v <- pad(ideals[i][1], g + 1)], [word(9, v) | v <- pad(ideals[i][2], g)]])));
 };
 
 listings() =

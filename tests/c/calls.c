@@ -1,5 +1,6 @@
 // Calls the static library from C: every stored vector, every lent list to its last place, what a refusal leaves as
-// it was, the sample answers, half the walk against the whole, and the ideal at a distance against the listing.
+// it was, the sample answers, half the walk against the whole, the ideal at a distance against the listing, and each
+// record against the conjugate at its mirror.
 #include <inttypes.h>
 #include <string.h>
 #include "../../include/foskadoin.h"
@@ -7,7 +8,7 @@
 
 enum { MOST = 1 << 16, MARK = 0xA5A5A5A5 };
 static uint32_t line[MOST];
-static size_t count, at, jobs, compared, listed, looked, wrong;
+static size_t count, at, jobs, compared, listed, looked, mirrored, wrong;
 
 // The numbers of the next line.
 static int next_line(FILE *file) {
@@ -213,6 +214,10 @@ static uint64_t distance(const uint32_t *record) {
     return (uint64_t)(record[1] & 0xfffffff) << 28 | (record[2] & 0xfffffff);
 }
 
+static uint64_t mirror(const uint32_t *record) {
+    return (uint64_t)(record[3] & 0xfffffff) << 28 | (record[4] & 0xfffffff);
+}
+
 static int is(struct foskadoin_part part, uint64_t offset, uint64_t length) {
     return part.offset == offset && part.length == length;
 }
@@ -229,6 +234,32 @@ static void lookups(const uint32_t *l, size_t length, uint64_t n) {
     expect(is(foskadoin_lookup(l, length, 66, 0), 0, 0), "lookup with n = 66");
 }
 
+// P negated modulo Q: as P has a lower degree than Q, each coefficient is negated modulo q.
+static int negated(const uint32_t *a, const uint32_t *b, size_t length, uint32_t q) {
+    for (size_t i = 0; i < length; i++) {
+        uint32_t c = a[i] & 0xfffffff;
+        if ((b[i] & 0xfffffff) != (c ? q - c : 0)) return 0;
+    }
+    return 1;
+}
+
+// Request R-6. The mirror of record 1 alone is R, and that record is its own conjugate; lookup at R hands back the last
+// record. Every other mirror is below R, and lookup at it hands back the conjugate: a record at just that distance, with
+// the same Q and with P negated modulo Q, whose own mirror is the distance of the record that it is the conjugate of.
+static void conjugates(const uint32_t *l, size_t length, uint64_t n, uint32_t q, uint64_t R) {
+    uint64_t size = n + 4;
+    for (const uint32_t *record = l; record < l + length; record += size, mirrored++) {
+        uint64_t y = mirror(record);
+        expect(y <= R && (y == R) == (record == l), "the mirror of record 1 alone is R");
+        struct foskadoin_part part = foskadoin_lookup(l, length, n, y);
+        expect(part.length == size && (y < R || part.offset == length - size), "lookup at the mirror");
+        const uint32_t *other = y < R ? l + part.offset : l;
+        expect(y >= R || (distance(other) == y && mirror(other) == distance(record)), "the conjugate's distance and mirror");
+        expect(!memcmp(record + 5, other + 5, n / 2 * 4), "the conjugate's Q");
+        expect(negated(record + 5 + n / 2, other + 5 + n / 2, n / 2 - 1, q), "the conjugate's P");
+    }
+}
+
 static void listings(FILE *file) {
     for (; next_line(file); jobs++) {
         size_t words, length;
@@ -239,6 +270,7 @@ static void listings(FILE *file) {
         expect(same(foskadoin_listing(ticket, words, l, length + 3), words, four), "listing");
         expect(!length || !memcmp(l, want, length * 4), "the records");
         expect(marked(l, length, length + 3), "words after the records");
+        if (four[0] == FOSKADOIN_FOUND) conjugates(l, length, ticket[1] & 0xfffffff, ticket[0] & 0xfffffff, four[1]);
         free(l);
         if (four[0] == FOSKADOIN_FOUND) {
             l = list(length - 1, NULL);
@@ -264,6 +296,18 @@ static void polynomial(const uint32_t *l, uint64_t size, const char *what) {
 static uint64_t wide(void) {
     uint64_t high = number();
     return high << 32 | number();
+}
+
+// The sample answers of lookup.
+static void sample_lookups(FILE *file) {
+    for (; next_line(file); jobs++) {
+        size_t length;
+        uint32_t *l = counted(&length), n = number();
+        uint64_t y = wide(), offset = number();
+        expect(is(foskadoin_lookup(l, length, n, y), offset, number()), "the sample's lookup");
+        expect(at == count, "the end of the line");
+        free(l);
+    }
 }
 
 static void products(FILE *file) {
@@ -317,7 +361,8 @@ static int values(const uint32_t *l, uint64_t size, const uint32_t *words, size_
 
 // Every y from 0 to 2R against the listing: the ideal is the record that lookup finds at y modulo R, the next
 // distance is the next record's, or R after the last, and from R on both are raised. The budget is 0, 1 or the largest.
-// A D with a square factor is refused by 7 whatever y is. Answers 1 if D is not refused and R is at most `most`.
+// A D with a square factor is refused by 7 whatever y is. Each record of a listing is compared with its conjugate,
+// whatever R is. Answers 1 if D is not refused and R is at most `most`.
 static int whole_turns(uint32_t *ticket, size_t words, uint64_t most) {
     static uint32_t l[MOST];
     uint32_t *budget = ticket + words - 2, Q[129], P[129];
@@ -333,6 +378,7 @@ static int whole_turns(uint32_t *ticket, size_t words, uint64_t most) {
             expect(values(Q, b.q_size, NULL, 0) && values(P, b.p_size, NULL, 0), "zeros in refusal 7");
         }
     }
+    if (a.number == FOSKADOIN_FOUND) conjugates(l, length, n, ticket[0] & 0xfffffff, R);
     if (a.number != FOSKADOIN_FOUND || R > most) return 0;
     for (uint64_t y = 0; y <= 2 * R; y++, looked++) {
         const uint32_t *record = l + foskadoin_lookup(l, length, n, y % R).offset;
@@ -365,6 +411,7 @@ static void turns(void) {
                 found += one, listed += one;
             }
     expect(listed == 54 + 16 * 12, "twelve of each pair");
+    expect(mirrored > 10000, "some thousands of records");
 }
 
 int main(int argc, char **argv) {
@@ -380,6 +427,7 @@ int main(int argc, char **argv) {
     lent(vectors(argv[1], "samples/units.txt"), 4);
     listings(vectors(argv[1], "listings.txt"));
     lent(vectors(argv[1], "samples/listings.txt"), 1);
+    sample_lookups(vectors(argv[1], "samples/lookups.txt"));
     products(vectors(argv[1], "products.txt"));
     ideals_at(vectors(argv[1], "ideals_at.txt"));
     ideals_at(vectors(argv[1], "samples/ideals_at.txt"));
@@ -391,7 +439,7 @@ int main(int argc, char **argv) {
     struct foskadoin_several none = foskadoin_regulators(NULL, 0, out);
     expect(none.words == 0 && none.count == 1 && out[0] == FOSKADOIN_WRONG_SHAPE && !out[1], "no ticket at several primes");
     printf("C: %zu jobs, %zu tickets by half the walk and by the whole, %zu distances of %zu D by halving and by listing, "
-           "%zu wrong\n", jobs, compared, looked, listed, wrong);
+           "%zu records and the conjugates at their mirrors, %zu wrong\n", jobs, compared, looked, listed, mirrored, wrong);
     // every line of the files was read
-    return wrong != 0 || jobs != 4317;
+    return wrong != 0 || jobs != 4372;
 }

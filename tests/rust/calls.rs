@@ -1,5 +1,5 @@
-// Calls the static library from Rust: every stored vector, the sample answers, half the walk against the whole, and
-// the ideal at a distance against the listing.
+// Calls the static library from Rust: every stored vector, the sample answers, half the walk against the whole, the
+// ideal at a distance against the listing, and each record against the conjugate at its mirror.
 use std::fs;
 
 #[repr(C)]
@@ -194,16 +194,49 @@ fn distance(record: &[u32]) -> u64 {
     (value(&record[1]) as u64) << 28 | value(&record[2]) as u64
 }
 
-// Every y from 0 to 2R against the listing, from R on with the distances raised, each with one of three budgets. D is
-// x^n and the terms with these coefficients. Answers how many y, none where D is refused or R is above 200.
-fn whole_turns(q: u32, coefficients: &[u32]) -> u64 {
+fn mirror(record: &[u32]) -> u64 {
+    (value(&record[3]) as u64) << 28 | value(&record[4]) as u64
+}
+
+// Request R-6. The mirror of record 1 alone is R, and that record is its own conjugate; lookup at R hands back the last
+// record. Every other mirror is below R, and lookup at it hands back the conjugate: a record at just that distance, with
+// the same Q and with P negated modulo Q, whose own mirror is the distance of the record that it is the conjugate of.
+// Answers how many records there are.
+fn conjugates(records: &[u32], n: usize, q: u32, r: u64) -> usize {
+    let size = n + 4;
+    for (at, record) in records.chunks(size).enumerate() {
+        let y = mirror(record);
+        assert_eq!((y == r, y < r), (at == 0, at > 0), "the mirror of record 1 alone is R");
+        let there = lookup(records, n as u64, y);
+        let other = if y < r { there } else { record };
+        if y < r {
+            assert_eq!([distance(other), mirror(other)], [y, distance(record)]);
+        } else {
+            assert_eq!(there.as_ptr(), records[records.len() - size..].as_ptr());
+        }
+        let ((own_q, own_p), (other_q, other_p)) = (record[5..].split_at(n / 2), other[5..].split_at(n / 2));
+        assert_eq!(own_q, other_q);
+        // as P has a lower degree than Q, each coefficient is negated modulo q
+        assert!(own_p.iter().map(|c| (q - value(c)) % q).eq(other_p.iter().map(value)));
+    }
+    records.len() / size
+}
+
+// Every y from 0 to 2R against the listing, from R on with the distances raised, each with one of three budgets; and each
+// record against its conjugate. D is x^n and the terms with these coefficients. Answers how many y, none where R is above
+// 200, and how many records; no y and no record where D is refused.
+fn whole_turns(q: u32, coefficients: &[u32]) -> (u64, usize) {
     let n = coefficients.len();
     let mut list = vec![0; 1 << 12];
     let a = listing(&ticket(q, coefficients, 200), &mut list);
-    if a.number != 0 || a.first > 200 {
-        return 0;
+    if a.number != 0 {
+        return (0, 0);
     }
     let (r, records) = (a.first, &list[..a.second as usize * (n + 4)]);
+    let mirrored = conjugates(records, n, q, r);
+    if r > 200 {
+        return (0, mirrored);
+    }
     for y in 0..=2 * r {
         let record = lookup(records, n as u64, y % r);
         let index = value(&record[0]) as usize;
@@ -219,23 +252,23 @@ fn whole_turns(q: u32, coefficients: &[u32]) -> u64 {
             assert_eq!(size as usize, places.iter().rposition(|c| *c != 0).map_or(0, |top| top + 1));
         }
     }
-    2 * r + 1
+    (2 * r + 1, mirrored)
 }
 
-// Every monic D of degree 4 over F_3, and 200 random D of other q and n.
-fn turns() -> u64 {
+// Every monic D of degree 4 over F_3, and 600 random D of other q and n. Answers how many y and how many records.
+fn turns() -> (u64, usize) {
     let mut state = 2u64;
     let mut chance = |below: u32| {
         state = state.wrapping_mul(6364136223846793005).wrapping_add(1442695040888963407);
         (state >> 33) as u32 % below
     };
-    let all = (0..81).map(|k| whole_turns(3, &[k % 3, k / 3 % 3, k / 9 % 3, k / 27])).sum::<u64>();
-    let others = (0..200).map(|_| {
+    let all = (0..81).map(|k| whole_turns(3, &[k % 3, k / 3 % 3, k / 9 % 3, k / 27]));
+    let others = (0..600).map(|_| {
         let q = [3, 5, 7, 11, 13][chance(5) as usize];
         let n = [2, 4, 6, 6, 8, 10][chance(6) as usize];
         whole_turns(q, &(0..n).map(|_| chance(q)).collect::<Vec<u32>>())
     });
-    all + others.sum::<u64>()
+    all.chain(others).fold((0, 0), |sum, one| (sum.0 + one.0, sum.1 + one.1))
 }
 
 // All 64 numbers of the array, with a number on either side of it, and each prime's outcome against the single job's.
@@ -309,6 +342,14 @@ fn main() {
         lent(line, |ticket, l| listing(ticket, &mut l[0]));
         jobs += 1;
     }
+    for mut line in lines(&folder, "samples/lookups.txt") {
+        let (list, n, y, part) = (line.counted(), line.take(1)[0] as u64, line.wide(), line.take(2));
+        let found = lookup(&list, n, y);
+        assert_eq!((found.as_ptr(), found.len()), (list[part[0] as usize..].as_ptr(), part[1] as usize));
+        assert_eq!(line.1, line.0.len());
+        jobs += 1;
+    }
+    let mut mirrored = 0;
     for mut line in lines(&folder, "listings.txt") {
         let (ticket, four, want) = (line.counted(), line.take(4), line.counted());
         let mut out = vec![9; want.len() + 1];
@@ -322,6 +363,7 @@ fn main() {
                 assert_eq!(lookup(&want, n, y), record);
             }
             assert!(lookup(&out, n, 0).is_empty());
+            mirrored += conjugates(&out[..want.len()], n as usize, value(&ticket[0]), four[1] as u64);
         }
         jobs += 1;
     }
@@ -356,9 +398,11 @@ fn main() {
             jobs += 1;
         }
     }
-    let looked = turns();
-    assert!(looked > 10_000);
-    assert_eq!(jobs, 4317);
+    let (looked, more) = turns();
+    mirrored += more;
+    assert!(looked > 10_000 && mirrored > 10_000);
+    assert_eq!(jobs, 4372);
     let halved = format!("{compared} tickets by half the walk and by the whole");
-    println!("Rust: {jobs} jobs, {halved}, {looked} distances by halving and by listing, 0 wrong");
+    let turned = format!("{looked} distances by halving and by listing");
+    println!("Rust: {jobs} jobs, {halved}, {turned}, {mirrored} records and the conjugates at their mirrors, 0 wrong");
 }

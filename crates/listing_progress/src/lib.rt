@@ -2,12 +2,11 @@
 ghost use mathlib.Core.Path.{_≡_};
 ghost use Prim.Native.Nat.{_+_, _/_, _<_, _≤_};
 ghost use lib.ListN.{length};
-ghost use Rattle.spec_arithmetic.specs.Words.{pairs};
-ghost use Rattle.spec_definitions.specs.Ticket.{budgets};
+ghost use Rattle.spec_definitions.specs.Ticket.{budgets, degrees};
 ghost use Rattle.base_field.specs.Named.{IsField, name};
 ghost use Rattle.base_polynomial.specs.Places.{Within};
 ghost use Rattle.base_polynomial.specs.Record.{Held as HeldAt};
-ghost use Rattle.listing_record.specs.Stored.{stored};
+ghost use Rattle.listing_words.specs.Stored.{stored};
 ghost use Rattle.listing_record.specs.Entry.{recordFrom};
 use base_counters::Distance;
 use base_counters::Index;
@@ -31,7 +30,7 @@ pub fn record_at(
     requires { ⌜ (2 ≤ n) × (n ≤ 64) × (0 < at .size) ⌝ }
     requires { ⌜ Within (name f) (now d) (n / 2 + 1) × Within (name f) (now rest) (n / 2 + 1) ⌝ }
     requires { ⌜ HeldAt (name f) (now current) (at .size) ⌝ }
-    requires { ⌜ (place + (n + 4) ≤ length (now out)) × (at .index .0 + 1 < budgets) × (at .degree .0 ≤ r .0) × (r .0 < pairs) ⌝ }
+    requires { ⌜ (place + (n + 4) ≤ length (now out)) × (at .index .0 + 1 < budgets) × (at .degree .0 ≤ r .0) × (r .0 ≤ degrees) ⌝ }
     ensures { λ _. ⌜ now (out .exit) ≡ stored (now (out .entry)) place (recordFrom (name f) n (r .0) (at .index .0 + 1) (at .degree .0) (now (d .entry)) (now (rest .entry)) (now (current .entry)) (at .size)) ⌝ }
 {
     write_record(

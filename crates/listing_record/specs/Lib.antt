@@ -1,3 +1,2 @@
-pub mod Stored
 pub mod Entry
 pub mod Remainder

@@ -1,16 +1,16 @@
 -- A difference of places as a polynomial, and the remainder of one by a monic polynomial: what each function
 -- asks of the results before it.
-use Prim.Native.Nat.{ℕ, _≤_, _<_}
+use Prim.Native.Nat.{ℕ, _-_, _≤_, _<_}
 use native.Mathlib.Omega.{arith}
 use mathlib.Core.Path.{_≡_, sym, ap, ap₂, _∙_, subst}
 use mathlib.Core.List.{List}
 use lib.ListN.{length, getD}
 use Rattle.math_ring.specs.Residues.{FqRing}
 use Rattle.spec_arithmetic.specs.Field.{prime, modulo}
-use Rattle.spec_arithmetic.specs.Polynomials.{trim, sub, rem, monic}
+use Rattle.spec_arithmetic.specs.Polynomials.{trim, deg, sub, rem, monic}
 use Rattle.spec_arithmetic.specs.Words.{values}
 use Rattle.spec_bridge.specs.Arithmetic.{at-sub, trim-sub, oks-sub}
-use Rattle.spec_bridge.specs.Monic.{trim-monic, length-monic}
+use Rattle.spec_bridge.specs.Monic.{trim-monic, length-monic, deg-monic}
 use Rattle.spec_bridge.specs.Division.{trim-rem, oks-rem, rem-less}
 use Rattle.spec_bridge.specs.Model.{Model, Inverts}
 use Rattle.spec_bridge.specs.Prime.{Prime}
@@ -41,6 +41,10 @@ module _ (q : ℕ) (b : List ℕ) (size : ℕ) (held : Held (prime q) b size) (c
   -- it keeps the size
   pub monic-size : Prime q → k ≡ size
   monic-size p = is .size-is ∙ length-monic (model q (held-positive q b size held)) (inverts q (held-positive q b size held) p) (poly b size) ∙ held-size q b size held
+
+  -- so its degree is one less
+  pub monic-degree : Prime q → deg (modulo q) (monic (modulo q) (poly b size)) ≡ size - 1
+  monic-degree p = deg-monic (model q (held-positive q b size held)) (inverts q (held-positive q b size held) p) (poly b size) ∙ ap (λ (n : ℕ). n - 1) (held-size q b size held)
 
   pub monic-kept : Prime q → Is (prime q) c size (monic (modulo q) (poly b size))
   monic-kept p = subst (λ (n : ℕ). Is (prime q) c n (monic (modulo q) (poly b size))) (monic-size p) is

@@ -1,6 +1,6 @@
 -- What holds at each turn of the listing: where the walk stands, and the records of the indices 1 to the
 -- walk's, stored from the first place on.
-use Prim.Native.Nat.{ℕ, suc, _+_, _-_, _*_, _/_, _≤_, _<_}
+use Prim.Native.Nat.{ℕ, suc, _+_, _*_, _/_, _≤_, _<_}
 use native.Mathlib.Nat.{mul-le-mul, suc-mul, zero-mul}
 use native.Mathlib.Numerals.{add-one}
 use native.Mathlib.Omega.{arith}
@@ -11,7 +11,7 @@ use Rattle.spec_arithmetic.specs.Field.{FieldName, prime, ops, modulo}
 use Rattle.spec_definitions.specs.Ticket.{genus, ticket, budgets, degrees}
 use Rattle.spec_definitions.specs.Walk.{degreeBefore}
 use Rattle.spec_definitions.specs.Answers.{rootOf}
-use Rattle.spec_definitions.specs.Listing.{mirrorOf, recordWords, entryOf, recordOf, recordsFrom, listingOf}
+use Rattle.spec_definitions.specs.Listing.{Entry, mirrorOf, recordWords, entryOf, recordOf, recordsFrom, listingOf}
 use Rattle.spec_laws.specs.Admitted.{Admitted, surd-of}
 use Rattle.spec_laws.specs.Walk.{d-length}
 use Rattle.spec_laws.specs.Convergents.{degree-rise, degree-most as degree-bound}
@@ -24,9 +24,9 @@ use Rattle.walk_stride.specs.declared.Progress.{Progress}
 use Rattle.walk_stride.specs.Progress.{Begun, Going, Turned}
 use Rattle.walk_stride.specs.Walked.{Walked, walked-first, going}
 use Rattle.walk_stride.specs.Stride.{turn-walked}
-use Rattle.listing_record.specs.Stored.{stored, stored-none, stored-append, stored-first, length-stored}
+use Rattle.listing_words.specs.Stored.{stored, stored-none, stored-append, stored-first, length-stored}
 use Rattle.listing_records.specs.Ideal.{left-within, ideal-is}
-use Rattle.listing_record.specs.Entry.{recordFrom}
+use Rattle.listing_record.specs.Entry.{entryFrom, recordFrom}
 use Rattle.listing_records.specs.Records.{records-next}
 
 -- what is asked for the records of the indices 1 to m in the list `old`: R is the degree of p_{m−1}
@@ -112,8 +112,11 @@ module _ {q n : ℕ} {D : List ℕ} {m R : ℕ} {old : List ℕ} (a : Listable (
       listed-going more = going (a .admitted) top-of p (t .walked) (let l = a .index-fits in omega arith)
 
       record-is : (budget : ℕ) → recordFrom (prime q) n R (at .index .0 + 1) (at .degree .0) e rest current (at .size) ≡ recordOf (ticket (prime q) n D budget) R (at .index .0)
-      unfolding recordFrom recordOf entryOf mirrorOf rootOf
-      record-is budget = λ j. recordWords (modulo q) n (R - t .walked .degree-is j) (record { index = add-one (at .index .0) j; distance = t .walked .degree-is j; ideal = ideal-is q (genus n) D (a .admitted) (at .index .0) before current rest (at .size) (t .walked .state) e (p .root-is) j })
+      unfolding recordOf recordFrom entryFrom entryOf rootOf
+      record-is budget = ap (λ (x : Entry). recordWords (modulo q) n (mirrorOf (modulo q) R x) x) entry-is
+        where
+          entry-is : entryFrom (prime q) (at .index .0 + 1) (at .degree .0) e rest current (at .size) ≡ entryOf (ticket (prime q) n D budget) (at .index .0)
+          entry-is = λ j. record { index = add-one (at .index .0) j; distance = t .walked .degree-is j; ideal = ideal-is q (genus n) D (a .admitted) (at .index .0) before current rest (at .size) (t .walked .state) e (p .root-is) j }
 
       pub listed-next : {w before′ current′ rest′ : List ℕ} {to : Progress} → w ≡ stored out place (recordFrom (prime q) n R (at .index .0 + 1) (at .degree .0) e rest current (at .size)) → Turned (prime q) (n / 2 + 1) twice before current rest before′ current′ rest′ at to → Listed (prime q) n D R old w before′ current′ rest′ to (place + (n + 4))
       listed-next {w} {to = to} put u =

@@ -14,15 +14,14 @@ use Rattle.math_algebra.specs.Polynomial.{F, Px, _≺_ as Low, Deg, Monic, low-
 use Rattle.math_algebra.specs.Divides.{divides-trans, divides-by-deg}
 use Rattle.math_algebra.specs.Division.{Division, division}
 use Rattle.math_algebra.specs.Gcd.{IsGcd, gcd-exists, gcd-zero, gcd-low, gcd-monic}
-use Rattle.math_surd.specs.Root.{Root, No-square, D-low}
+use Rattle.math_surd.specs.Root.{Root, No-square}
 use Rattle.math_surd.specs.Step.{State, next-P, next-Q, next}
 use Rattle.math_surd.specs.Big.{Big, dichotomy}
-use Rattle.math_surd.specs.Walk.{Walk, prior, norm, Q-one}
+use Rattle.math_surd.specs.Walk.{Walk, walk-state, Q-one}
 use Rattle.math_surd.specs.Ideal.{Follows, step-follows}
 use Rattle.math_algebra.specs.Finite.{Finite, finite-mul, finite-monic}
 use Rattle.math_ideals.specs.Product.{Common, Multipliers, product-Q, product-P, product-P-finite, product-meets}
 use Rattle.math_ideals.specs.Steps.{Steps, first-reduced}
-use Rattle.math_symmetry.specs.Period.{P-low}
 use Rattle.math_giants.specs.GiantStep.{GiantStep, product-state}
 
 module _ {A : Type 0} (K : Field A) where
@@ -127,13 +126,6 @@ module _ {A : Type 0} (K : Field A) where
 
   -- ---- ideals of the walk
   module _ {g : ℕ} {D : Px K} {o : Root K g D} (w : Walk K o) where
-    prior-low : (i : ℕ) → Low K (prior K D (w .Q) i) (suc (suc g +ₙ suc g))
-    prior-low zero = D-low K o
-    prior-low (suc i) = low-up K (w .Q i) (let l = w .reduced i in omega arith) (w .Q-deg i .low)
-
-    pub walk-state : (i : ℕ) → State K D (w .Q i) (prior K D (w .Q) i) (w .P i)
-    walk-state i = record { κ = w .κ i; deg = w .Q-deg i; norm = norm K w i; size = suc (suc g +ₙ suc g); C-low = prior-low i; P-low = low-up K (w .P i) (omega arith) (P-low K w i) }
-
     -- where there is a walk, D is not a square: it would be d², and Q_1 = D - d² would be 0
     pub walk-no-square : No-square K D
     walk-no-square f n h e = ⊎-elim (λ b. root 𝟙 (ring R[x] [] (search quote depth 40 fits 9999) tt) (near-zero 𝟙 one b)) (λ b. root (- 𝟙) (ring R[x] [] (search quote depth 40 fits 9999) tt) (near-zero (- 𝟙) (deg-neg K 𝟙 0 one) b)) (dichotomy K o n f 𝟙 0 h one (low-path K _ square (low-zero K _)))
@@ -152,4 +144,4 @@ module _ {A : Type 0} (K : Field A) where
         root y u z = deg-not-zero K (w .Q-deg 1) (ring-from R[x] (w .Q 1 ∷ o .d ∷ o .e ∷ D ∷ f ∷ y ∷ []) (plus R[x] (times R[x] 𝟙 (Q-one K w)) (plus R[x] (times R[x] (- 𝟙) (o .is)) (plus R[x] (times R[x] 𝟙 e) (plus R[x] (times R[x] (f + o .d * y) z) (times R[x] (o .d * o .d) u))))) (search quote depth 40 fits 9999) tt)
 
     pub walk-giant : (i j : ℕ) → GiantStep K o (w .Q i) (w .P i) (w .Q j) (w .P j)
-    walk-giant i j = giant-exists o walk-no-square (walk-state i) (walk-state j)
+    walk-giant i j = giant-exists o walk-no-square (walk-state K w i) (walk-state K w j)

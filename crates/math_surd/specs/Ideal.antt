@@ -3,7 +3,7 @@
 -- Q.
 use Prim.Native.Nat.{ℕ, suc, _+_ as _+ₙ_}
 use native.Mathlib.Omega.{arith}
-use mathlib.Core.Path.{_≡_, sym, subst}
+use mathlib.Core.Path.{_≡_, sym, ap, _∙_, subst}
 use mathlib.Core.List.{[], _∷_}
 use Rattle.math_ring.specs.Ring.{CRing}
 use Rattle.math_ring.specs.Identity.{ring, ring-from, times, plus, quote}
@@ -12,7 +12,7 @@ use Rattle.math_algebra.specs.Field.{Field}
 use Rattle.math_algebra.specs.Polynomial.{F, Px, _≺_ as Low, Deg, low-up, low-neg, low-sub, low-path, deg-unique}
 use Rattle.math_algebra.specs.Divides.{Divides, divides-path, divides-add, divides-neg, divides-sub, divides-zero, rigid}
 use Rattle.math_algebra.specs.Division.{Division}
-use Rattle.math_algebra.specs.Associate.{Associate, associate-refl, associate-sym, associate-trans, associate-deg, associate-cofactor, divides-associate}
+use Rattle.math_algebra.specs.Associate.{Associate, associate-refl, associate-sym, associate-trans, associate-path, associate-deg, associate-cofactor, divides-associate}
 use Rattle.math_surd.specs.Root.{Root, No-square}
 use Rattle.math_surd.specs.Step.{State, next-P, next-Q, next-P-is, exact, next}
 
@@ -53,6 +53,16 @@ module _ {A : Type 0} (K : Field A) where
     where
       join : (P - P′) + (P′ - P″) ≡ P - P″
       join = ring R[x] (P ∷ P′ ∷ P″ ∷ []) (search quote depth 40 fits 9999) tt
+
+  pub same-path : {Q P Q′ P′ : P[x]} → Q ≡ Q′ → P ≡ P′ → SameIdeal Q P Q′ P′
+  same-path {P′ = P′} q p = record { ratio = associate-path K q; congruent = divides-path K (sym (ap (λ (f : P[x]). f - P′) p ∙ R[x] .add-neg P′)) (divides-zero K _) }
+
+  -- the conjugates, with P negated, of one ideal
+  pub same-neg : {Q P Q′ P′ : P[x]} → SameIdeal Q P Q′ P′ → SameIdeal Q (- P) Q′ (- P′)
+  same-neg {P = P} {P′ = P′} s = record { ratio = s .ratio; congruent = divides-path K turn (divides-neg K (s .congruent)) }
+    where
+      turn : - (P - P′) ≡ (- P) - (- P′)
+      turn = ring R[x] (P ∷ P′ ∷ []) (search quote depth 40 fits 9999) tt
 
   -- ---- the step as a relation
   module _ {g : ℕ} {D : P[x]} (o : Root K g D) where

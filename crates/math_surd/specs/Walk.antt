@@ -1,5 +1,5 @@
 -- The continued fraction of √D as an endless walk of states (Q i, P i) with partial quotients a i and
--- remainders r i: its equations, the cheap recurrence, and the degrees of P i and a i.
+-- remainders r i: its equations, the cheap recurrence, the degrees of P i and a i, and its states.
 use Prim.Native.Nat.{ℕ, zero, suc, _+_ as _+ₙ_, _-_ as _-ₙ_, _≤_, _<_}
 use native.Mathlib.Omega.{arith}
 use mathlib.Core.Path.{_≡_, sym, ap, ap₂, _∙_}
@@ -9,8 +9,9 @@ use Rattle.math_ring.specs.Identity.{ring, ring-from, times, plus, quote}
 use Rattle.math_ring.specs.Series.{Series, addS}
 use Rattle.math_ring.specs.Degree.{lead-conv}
 use Rattle.math_algebra.specs.Field.{Field}
-use Rattle.math_algebra.specs.Polynomial.{F, Px, _≺_ as Low, Deg, Monic, low-up, low-neg, low-none, low-path, deg-path, deg-dominant, deg-below, deg-factor, monic-dominant, monic-path, one-low}
-use Rattle.math_surd.specs.Root.{Root, deg-twice, d-deg}
+use Rattle.math_algebra.specs.Polynomial.{F, Px, _≺_ as Low, Deg, Monic, low-up, low-neg, low-zero, low-none, low-path, deg-path, deg-dominant, deg-below, deg-factor, monic-dominant, monic-path, one-low}
+use Rattle.math_surd.specs.Root.{Root, deg-twice, d-deg, D-low}
+use Rattle.math_surd.specs.Step.{State}
 
 module _ {A : Type 0} (K : Field A) where
   open CRing (Series (F K)) using (add as _+_, mul as _*_, neg as -_, zer as 𝟘, one as 𝟙)
@@ -101,6 +102,18 @@ module _ {A : Type 0} (K : Field A) where
       where
         same : o .d + (P (suc i) - o .d) ≡ P (suc i)
         same = ring R[x] (P (suc i) ∷ o .d ∷ []) (search quote depth 40 fits 9999) tt
+
+    pub P-low : (i : ℕ) → P i ≺ suc (suc g)
+    P-low zero = low-path K _ (sym P-first) (low-zero K _)
+    P-low (suc i) = P-monic i .low
+
+    -- ---- its states
+    prior-low : (i : ℕ) → prior D Q i ≺ suc (suc g +ₙ suc g)
+    prior-low zero = D-low K o
+    prior-low (suc i) = low-up K (Q i) (let l = reduced i in omega arith) (Q-deg i .low)
+
+    pub walk-state : (i : ℕ) → State K D (Q i) (prior D Q i) (P i)
+    walk-state i = record { κ = κ i; deg = Q-deg i; norm = norm i; size = suc (suc g +ₙ suc g); C-low = prior-low i; P-low = low-up K (P i) (omega arith) (P-low i) }
 
     -- ---- a i Q i has the degree g + 1
     sum-deg : (i : ℕ) → Deg K (P i + o .d) (suc g)

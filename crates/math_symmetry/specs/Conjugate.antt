@@ -14,11 +14,11 @@ use Rattle.math_algebra.specs.Polynomial.{F, Px, low-neg, low-sub}
 use Rattle.math_algebra.specs.Divides.{Divides, divides-path}
 use Rattle.math_algebra.specs.Associate.{associate-refl}
 use Rattle.math_surd.specs.Root.{Root}
-use Rattle.math_surd.specs.Walk.{Walk, κ-first}
+use Rattle.math_surd.specs.Walk.{Walk, κ-first, P-low}
 use Rattle.math_surd.specs.Ideal.{SameIdeal}
 use Rattle.math_surd.specs.Same.{Same, divides-sum}
 use Rattle.math_surd.specs.Distance.{distance, distance-rise, distance-injective}
-use Rattle.math_symmetry.specs.Period.{P-low, constant-divides, same-start}
+use Rattle.math_symmetry.specs.Period.{constant-divides, same-start}
 use Rattle.math_symmetry.specs.Palindrome.{P-symmetric, Q-symmetric, symmetric}
 
 module _ {A : Type 0} (K : Field A) where

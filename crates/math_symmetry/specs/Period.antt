@@ -11,11 +11,11 @@ use Rattle.math_ring.specs.Ring.{CRing}
 use Rattle.math_ring.specs.Identity.{ring-from, times, quote}
 use Rattle.math_ring.specs.Series.{Series}
 use Rattle.math_algebra.specs.Field.{Field}
-use Rattle.math_algebra.specs.Polynomial.{F, Px, _≺_ as Low, Deg, low-sub, low-zero, low-path, low-none}
+use Rattle.math_algebra.specs.Polynomial.{F, Px, _≺_ as Low, Deg, low-sub, low-none}
 use Rattle.math_algebra.specs.Divides.{Divides, divides-one}
 use Rattle.math_algebra.specs.Associate.{Associate, associate-sym, associate-trans, associate-one, associate-path, divides-associate}
 use Rattle.math_surd.specs.Root.{Root}
-use Rattle.math_surd.specs.Walk.{Walk, κ-first, P-monic}
+use Rattle.math_surd.specs.Walk.{Walk, κ-first, P-low}
 use Rattle.math_surd.specs.Ideal.{same-refl, same-trans}
 use Rattle.math_surd.specs.Same.{Same, same-κ, same-add, same-next-P}
 use Rattle.math_surd.specs.Convergents as convergents
@@ -40,7 +40,7 @@ module _ {A : Type 0} (K : Field A) where
   _≺_ = Low K
 
   module _ {g : ℕ} {D : P[x]} {o : Root K g D} (w : Walk K o) where
-    open Walk w using (Q, P, κ, Q-first, P-first, Q-deg, near)
+    open Walk w using (Q, P, κ, Q-first, Q-deg, near)
 
     -- p i is the convergent of index i - 2
     abbrev p : ℕ → P[x]
@@ -56,10 +56,6 @@ module _ {A : Type 0} (K : Field A) where
       pub p-degree : (k i : ℕ) → Deg K (p (suc (k *ₙ m +ₙ i))) (k *ₙ distance K w m +ₙ distance K w i)
 
     -- ---- the proof
-    pub P-low : (i : ℕ) → P i ≺ suc (suc g)
-    P-low zero = low-path K _ (sym P-first) (low-zero K _)
-    P-low (suc i) = P-monic K w i .low
-
     -- a constant Q divides every polynomial
     pub constant-divides : (i : ℕ) → κ i ≡ 0 → (f : P[x]) (n : ℕ) → f ≺ n → Divides K (Q i) f
     constant-divides i c f n h = divides-associate K (associate-sym K (associate-one K (subst (Deg K (Q i)) c (Q-deg i)))) (divides-one K f n h)
@@ -75,7 +71,7 @@ module _ {A : Type 0} (K : Field A) where
       Q-constant = associate-trans K (associate-one K (subst (Deg K (Q m)) constant (Q-deg m))) (associate-path K (sym Q-first))
 
       pub same-start : Same K w m 0
-      same-start = record { ratio = Q-constant; congruent = constant-divides 0 (κ-first K w) (P m - P 0) _ (low-sub K (P m) (P 0) _ (P-low m) (P-low 0)) }
+      same-start = record { ratio = Q-constant; congruent = constant-divides 0 (κ-first K w) (P m - P 0) _ (low-sub K (P m) (P 0) _ (P-low K w m) (P-low K w 0)) }
 
       -- ---- once round
       pub same-period : (i : ℕ) → Same K w (i +ₙ m) i

@@ -17,7 +17,7 @@ use Rattle.spec_definitions.specs.Units.{Lists, unitAnswer}
 use Rattle.spec_definitions.specs.Listing.{listingAnswer}
 use Rattle.spec_laws.specs.Admitted.{admitted}
 use Rattle.spec_laws.specs.Cases.{spent-not-found, refused-not-found, refused-not-spent, found-numbers, spent-numbers}
-use Rattle.spec_refusals.specs.LentLists.{Short, t1-lists}
+use Rattle.spec_refusals.specs.LentLists.{Short, t1-lists, found-passes}
 use Rattle.spec_demands.specs.Continued.{ConstantAt, Walks, constant-told, t2}
 use Rattle.spec_expansion.specs.QuasiPeriod.{IsQuasiPeriod, quasi-period-unique, t2-exists}
 
@@ -130,6 +130,12 @@ module _ (w : List ℕ) (past : refusalOf w ≡ 0) (m : ℕ) (h : IsQuasiPeriod 
 
   listing-said : (l : List ℕ) → ListingFits t m l → FoundOrSpent t m (listingAnswer w l .says)
   listing-said l fits = by-cases t m _ (λ u. let f = within-found u in (f .0, f .1, t1-lists .1 w l .enough _ m (f .0) (f .2) (fits u))) (λ u. t1-lists .1 w l .other (not-found u) ∙ ap said (beyond-spent u))
+
+-- the m of a found outcome is the ticket's quasi-period, and R is deg p_{m−1}
+pub found-period : (w : List ℕ) (R m c : ℕ) → wordsOutcome w ≡ found R m c → IsQuasiPeriod (ticketOf w) m × (R ≡ degreeAt (ticketOf w) m)
+found-period w R m c f =
+    let s = subst (Walks (ticketOf w)) f (t2 w (found-passes w R m c f)) .ends in
+    (record { positive = s .positive; constant = s .constant; least = s .least }, s .regulator)
 
 pub t2-regulator : T2Regulator
 unfolding regulatorOf

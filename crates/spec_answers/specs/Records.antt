@@ -63,14 +63,14 @@ module _ (n j : ℕ) (l : List ℕ) where
   PRead = map value (take (genus n) (drop (j * (n + 4) + (genus n + 6)) l))
 
 -- "Record i, for i from 1 to m, is the ideal with Q_{i−1} made monic and P_{i−1} mod that Q. Its distance is
--- deg p_{i−2}. .. A record's mirror is R less its distance.": here j is i − 1, and `pBefore j` is p_{j−1}.
--- The Q read is monic and a constant multiple of Q_{i−1}; the P read is congruent to P_{i−1} modulo it and
--- has a lower degree.
+-- deg p_{i−2}.": here j is i − 1, and `pBefore j` is p_{j−1}. R-6: "The mirror becomes R less the distance plus
+-- deg Q." The Q read is monic and a constant multiple of Q_{i−1}; the P read is congruent to P_{i−1} modulo it
+-- and has a lower degree.
 pub record RecordRead (t : Ticket) (R j : ℕ) (l : List ℕ) : Type 0 where
   pub kinds : (i : ℕ) → i < t .n + 4 → kind (wordAt (t .n) j l i) ≡ getD (recordKinds (t .n)) i 0
   pub index : value (wordAt (t .n) j l 0) ≡ suc j
   pub distance : distanceRead (t .n) j l ≡ deg (opsOf t) (pBefore (opsOf t) (t .D) (rootOf t) j)
-  pub mirror : mirrorRead (t .n) j l + distanceRead (t .n) j l ≡ R
+  pub mirror : mirrorRead (t .n) j l + distanceRead (t .n) j l ≡ R + deg (opsOf t) (QRead (t .n) j l)
   pub Q-monic : lead (opsOf t) (QRead (t .n) j l) ≡ 1
   pub Q-ratio : (k : ℕ) × (0 < k) × Ok (t .field) k × Same (t .field) (QRead (t .n) j l) (scale (opsOf t) k (walk.Q (opsOf t) (t .D) (rootOf t) j))
   pub P-congruent : Divides (t .field) (QRead (t .n) j l) (sub (opsOf t) (walk.P (opsOf t) (t .D) (rootOf t) j) (PRead (t .n) j l))
@@ -186,22 +186,22 @@ module _ (t : Ticket) (h : Admitted (t .field) (genus (t .n)) (t .D)) (even : su
   P-same : (i : ℕ) → getD Ps i 0 ≡ getD (entryOf t j .ideal .p) i 0
   P-same = at-pad (opsOf t) (genus (t .n)) (entryOf t j .ideal .p) (r .P-whole)
 
-  Q-is : QRead (t .n) j l ≡ Qs
+  pub Q-is : QRead (t .n) j l ≡ Qs
   Q-is =
       ap (λ (x : List ℕ). map value (take (suc (genus (t .n))) x)) after-is
       ∙ ap (map value) (take-at (map (word 8) Qs) (map (word 9) Ps ++ rest) (suc (genus (t .n))) length-Q)
       ∙ values-words 8 Qs (λ i. let e = Q-same i in let k = ok-small (t .field) (is-field h) _ (r .Q-below i) in omega arith)
 
-  P-is : PRead (t .n) j l ≡ Ps
+  pub P-is : PRead (t .n) j l ≡ Ps
   P-is =
       ap (λ (x : List ℕ). map value (take (genus (t .n)) x)) (ap (λ (k : ℕ). drop k l) (let e : j * (t .n + 4) + (genus (t .n) + 6) ≡ j * (t .n + 4) + 5 + suc (genus (t .n)) = omega arith in e) ∙ sym (drop-drop (suc (genus (t .n))) (j * (t .n + 4) + 5) l) ∙ ap (drop (suc (genus (t .n)))) after-is ∙ drop-at (map (word 8) Qs) (map (word 9) Ps ++ rest) (suc (genus (t .n))) length-Q)
       ∙ ap (map value) (take-at (map (word 9) Ps) rest (genus (t .n)) length-P)
       ∙ values-words 9 Ps (λ i. let e = P-same i in let k = ok-small (t .field) (is-field h) _ (r .P-below i) in omega arith)
 
-  Q-read : (i : ℕ) → getD (QRead (t .n) j l) i 0 ≡ getD (entryOf t j .ideal .q) i 0
+  pub Q-read : (i : ℕ) → getD (QRead (t .n) j l) i 0 ≡ getD (entryOf t j .ideal .q) i 0
   Q-read i = ap (λ (x : List ℕ). getD x i 0) Q-is ∙ Q-same i
 
-  P-read : (i : ℕ) → getD (PRead (t .n) j l) i 0 ≡ getD (entryOf t j .ideal .p) i 0
+  pub P-read : (i : ℕ) → getD (PRead (t .n) j l) i 0 ≡ getD (entryOf t j .ideal .p) i 0
   P-read i = ap (λ (x : List ℕ). getD x i 0) P-is ∙ P-same i
 
   kind-read : (i : ℕ) → i < t .n + 4 → kind (wordAt (t .n) j l i) ≡ getD (recordKinds (t .n)) i 0
@@ -209,7 +209,7 @@ module _ (t : Ticket) (h : Admitted (t .field) (genus (t .n)) (t .D)) (even : su
   kind-read i low =
       ap kind (word-is i low)
       ∙ sym (List·getD-map kind (recordOf t R j) i 0)
-      ∙ ap (λ (x : List ℕ). getD x i 0) (kinds-record (t .field) (t .n) (mirrorOf R (entryOf t j)) (entryOf t j) (r .index-fits) (r .distance-fits) (r .mirror-fits) (λ i. ok-small (t .field) (is-field h) _ (r .Q-below i)) (λ i. ok-small (t .field) (is-field h) _ (r .P-below i)))
+      ∙ ap (λ (x : List ℕ). getD x i 0) (kinds-record (t .field) (t .n) (mirrorOf (opsOf t) R (entryOf t j)) (entryOf t j) (r .index-fits) (r .distance-fits) (r .mirror-fits) (λ i. ok-small (t .field) (is-field h) _ (r .Q-below i)) (λ i. ok-small (t .field) (is-field h) _ (r .P-below i)))
 
   -- the value of a word of the record that is known
   value-read : (i c v : ℕ) → i < t .n + 4 → getD (recordOf t R j) i 0 ≡ word c v → v < values → value (wordAt (t .n) j l i) ≡ v
@@ -219,21 +219,24 @@ module _ (t : Ticket) (h : Admitted (t .field) (genus (t .n)) (t .D)) (even : su
   unfolding recordOf recordWords entryOf
   index-read = value-read 0 5 (suc j) (omega arith) refl (r .index-fits)
 
-  distance-read : distanceRead (t .n) j l ≡ entryOf t j .distance
+  pub distance-read : distanceRead (t .n) j l ≡ entryOf t j .distance
   unfolding recordOf recordWords
   distance-read = ap₂ joined (value-read 1 6 (high (entryOf t j .distance)) (omega arith) refl (r .distance-fits)) (value-read 2 7 (low (entryOf t j .distance)) (omega arith) refl (low-less (entryOf t j .distance))) ∙ joined-back (entryOf t j .distance)
 
-  mirror-read : mirrorRead (t .n) j l ≡ mirrorOf R (entryOf t j)
+  abbrev μ : ℕ
+  μ = mirrorOf (opsOf t) R (entryOf t j)
+
+  pub mirror-read : mirrorRead (t .n) j l ≡ mirrorOf (opsOf t) R (entryOf t j)
   unfolding recordOf recordWords
-  mirror-read = ap₂ joined (value-read 3 10 (high (mirrorOf R (entryOf t j))) (omega arith) refl (r .mirror-fits)) (value-read 4 11 (low (mirrorOf R (entryOf t j))) (omega arith) refl (low-less (mirrorOf R (entryOf t j)))) ∙ joined-back (mirrorOf R (entryOf t j))
+  mirror-read = ap₂ joined (value-read 3 10 (high μ) (omega arith) refl (r .mirror-fits)) (value-read 4 11 (low μ) (omega arith) refl (low-less μ)) ∙ joined-back μ
 
   pub record-read : RecordRead t R j l
-  unfolding entryOf idealOf rootOf degreeBefore
+  unfolding deg entryOf idealOf rootOf degreeBefore
   record-read = record {
     kinds = kind-read;
     index = index-read;
     distance = distance-read;
-    mirror = ap₂ _+_ mirror-read distance-read ∙ r .mirror-is;
+    mirror = ap₂ _+_ mirror-read distance-read ∙ r .mirror-is ∙ ap (λ (k : ℕ). R + (k - 1)) (sym (size-same (t .field) (is-field h) _ _ Q-read));
     Q-monic = lead-same (t .field) (is-field h) _ _ Q-read ∙ r .ideal .monic;
     Q-ratio = (opsOf t .inv (lead (opsOf t) (Q h j)), lead-inverse h j, A h .ok-is _ (I h .ok-inv (lead (opsOf t) (Q h j))), λ i. ap (reading (t .field)) (Q-read i ∙ ap (λ (x : List ℕ). getD x i 0) (monic-is h j)));
     P-congruent = rem-congruent h (P h j) (monic (opsOf t) (Q h j)) (QRead (t .n) j l) (PRead (t .n) j l) Q-read P-read;
@@ -243,7 +246,7 @@ module _ (t : Ticket) (h : Admitted (t .field) (genus (t .n)) (t .D)) (even : su
   }
 
 -- ---- the list at exit: its first m·(n + 4) words are the records, one after the other
-record-stands : (t : Ticket) (R m : ℕ) (l : List ℕ) → suc (genus (t .n)) + suc (genus (t .n)) ≡ t .n → take (m * (t .n + 4)) l ≡ listingOf t R m → (j : ℕ) → j < m → recordAt l (t .n) j ≡ recordOf t R j
+pub record-stands : (t : Ticket) (R m : ℕ) (l : List ℕ) → suc (genus (t .n)) + suc (genus (t .n)) ≡ t .n → take (m * (t .n + 4)) l ≡ listingOf t R m → (j : ℕ) → j < m → recordAt l (t .n) j ≡ recordOf t R j
 unfolding recordAt
 record-stands t R m l even e j k =
     ap (λ (x : List ℕ). take (t .n + 4) (drop (j * (t .n + 4)) x)) (sym (take-append-drop (m * (t .n + 4)) l) ∙ ap (λ (x : List ℕ). x ++ drop (m * (t .n + 4)) l) e)

@@ -12,7 +12,7 @@ use Rattle.math_ring.specs.Identity.{ring-from, times, plus, quote}
 use Rattle.math_ring.specs.Order.{le-or-lt}
 use Rattle.math_ring.specs.Series.{S, conv, con}
 use Rattle.spec_arithmetic.specs.Field.{Ops}
-use Rattle.spec_arithmetic.specs.Polynomials.{trim, scale, lead, monic}
+use Rattle.spec_arithmetic.specs.Polynomials.{trim, size, deg, scale, lead, monic}
 use Rattle.spec_bridge.specs.Model.{Model, Inverts, Oks, series}
 use Rattle.spec_bridge.specs.Trim.{Trim, below-length, size-series, lead-some, lead-is}
 use Rattle.spec_bridge.specs.Arithmetic.{at-scale, scale-cong, trim-scale, oks-scale, series-scale}
@@ -66,3 +66,7 @@ module _ {A B : Type 0} {o : Ops A} {R : CRing B} (M : Model o R) (I : Inverts M
 
       no-lead : 1 ≤ length (trim o a) → length (scale o (o .inv (lead o a)) a) < length (trim o a) → φ (lead o a) ≡ R .zer
       no-lead h k = ring-from R (φ (lead o a) ∷ []) (times R (φ (lead o a)) (sym (monic-top a h) ∙ below-length M (monic o a) _ (omega arith))) (search quote depth 40 fits 9999) tt
+
+  pub deg-monic : (a : List A) → deg o (monic o a) ≡ length (trim o a) -ₙ 1
+  unfolding deg size
+  deg-monic a = ap (λ (l : List A). length l -ₙ 1) (trim-monic a) ∙ ap (λ (n : ℕ). n -ₙ 1) (length-monic a)

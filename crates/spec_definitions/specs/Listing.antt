@@ -5,7 +5,7 @@ use mathlib.Core.List.{List, [], _∷_, _++_, map}
 use lib.Dec.{leb}
 use lib.ListN.{length, drop}
 use Rattle.spec_arithmetic.specs.Field.{Ops}
-use Rattle.spec_arithmetic.specs.Polynomials.{monic, rem, pad}
+use Rattle.spec_arithmetic.specs.Polynomials.{deg, monic, rem, pad}
 use Rattle.spec_arithmetic.specs.Words.{word, high, low}
 use Rattle.spec_definitions.specs.Ticket.{Ticket, genus, ticketOf}
 use Rattle.spec_definitions.specs.Walk.{Ideal, walk, degreeBefore}
@@ -25,10 +25,10 @@ pub record ListingAnswer : Type 0 where
 unfoldable pub idealOf : Ops ℕ → Ideal ℕ → Ideal ℕ
 idealOf o s = let m = monic o (s .q) in record { q = m; p = rem o (s .p) m }
 
--- "A record's mirror is R less its distance.": document 01's own term, the distance left to the end of the
--- quasi-period, not the distance of the conjugate ideal
-unfoldable pub mirrorOf : ℕ → Entry → ℕ
-mirrorOf R e = R - e .distance
+-- R-6: "The mirror becomes R less the distance plus deg Q." It is the distance of the conjugate ideal; for the first
+-- record, which is its own conjugate, it is R
+unfoldable pub mirrorOf : Ops ℕ → ℕ → Entry → ℕ
+mirrorOf o R e = (R - e .distance) + deg o (e .ideal .q)
 
 -- "A record is n+4 words: kind 5 index; kinds 6 and 7 distance, high then low 28 bits; kinds 10 and 11
 -- mirror, likewise; kind 8, the g+1 coefficients of Q; kind 9, the g coefficients of P, zeros above each
@@ -45,7 +45,7 @@ module _ (t : Ticket) where
   entryOf j = record { index = suc j; distance = degreeBefore (opsOf t) (t .D) (rootOf t) j; ideal = idealOf (opsOf t) (walk (opsOf t) (t .D) (rootOf t) j) }
 
   unfoldable pub recordOf : ℕ → ℕ → List ℕ
-  recordOf R j = recordWords (opsOf t) (t .n) (mirrorOf R (entryOf j)) (entryOf j)
+  recordOf R j = recordWords (opsOf t) (t .n) (mirrorOf (opsOf t) R (entryOf j)) (entryOf j)
 
   -- the words of k records from the index j + 1 on
   unfoldable pub recordsFrom : ℕ → ℕ → ℕ → List ℕ

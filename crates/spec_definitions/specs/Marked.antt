@@ -93,6 +93,7 @@ jobs =
     ∷ regulator (ticket 7 (0 ∷ 1 ∷ 0 ∷ 0 ∷ 1 ∷ []) 2)
     ∷ regulator (ticket 5 (4 ∷ 4 ∷ 0 ∷ 0 ∷ 1 ∷ []) 7)
     ∷ orders (bytes (ticket 7 (0 ∷ 4 ∷ 0 ∷ 0 ∷ 1 ∷ []) 2))
+    ∷ orders (bytes (ticket 3 (0 ∷ 1 ∷ 1 ∷ 0 ∷ 0 ∷ 2 ∷ 1 ∷ []) 4))
     ∷ []
 
 -- a record's words of the example
@@ -100,7 +101,7 @@ abbrev pub row : ℕ → ℕ → ℕ → ℕ → ℕ → ℕ → List ℕ
 row i δ μ q₀ q₁ p₀ = word 5 i ∷ word 6 0 ∷ word 7 δ ∷ word 10 0 ∷ word 11 μ ∷ word 8 q₀ ∷ word 8 q₁ ∷ word 9 p₀ ∷ []
 
 abbrev pub rows : List ℕ
-rows = row 1 0 7 1 0 0 ++ (row 2 2 5 1 1 1 ++ (row 3 3 4 0 1 1 ++ (row 4 4 3 2 1 0 ++ (row 5 5 2 0 1 2 ++ row 6 6 1 1 1 2))))
+rows = row 1 0 7 1 0 0 ++ (row 2 2 6 1 1 1 ++ (row 3 3 5 0 1 1 ++ (row 4 4 4 2 1 0 ++ (row 5 5 3 0 1 2 ++ row 6 6 2 1 1 2))))
 
 abbrev pub printed : List (List (List ℕ))
 printed =
@@ -135,7 +136,7 @@ printed =
     -- "47 is 13"; "Lent lists keep every word"
     ∷ ((13 ∷ []) ∷ replicate 47 9 ∷ [])
     -- the printed example
-    ∷ (ascii "found 7 6 1\n1 0 7 1 0 0\n2 2 5 1 1 1\n3 3 4 0 1 1\n4 4 3 2 1 0\n5 5 2 0 1 2\n6 6 1 1 1 2\n" ∷ [])
+    ∷ (ascii "found 7 6 1\n1 0 7 1 0 0\n2 2 6 1 1 1\n3 3 5 0 1 1\n4 4 4 2 1 0\n5 5 3 0 1 2\n6 6 2 1 1 2\n" ∷ [])
     -- R-3, "the unit's p is monic": x^4 + x modulo 5, with p_1 = 2x³ + 1 and s_1 = 2x, has p = x³ + 3, s = x and
     -- c = 1/4; x^4 + 4x modulo 7, with p_1 = 4x³ + 1 and s_1 = 4x, has p = x³ + 2, s = x and c = 1/16
     ∷ ((0 ∷ 3 ∷ 2 ∷ 4 ∷ []) ∷ (3 ∷ 0 ∷ 0 ∷ 1 ∷ []) ∷ (0 ∷ 1 ∷ 0 ∷ 0 ∷ []) ∷ replicate 4 0 ∷ replicate 4 0 ∷ [])
@@ -144,7 +145,10 @@ printed =
     -- modulo 5, with an odd m, has c = 2, where (−1)^m·Q_m is 3
     ∷ ((0 ∷ 3 ∷ 2 ∷ 2 ∷ []) ∷ [])
     ∷ ((0 ∷ 8 ∷ 7 ∷ 2 ∷ []) ∷ [])
-    ∷ (ascii "found 3 2 4\n1 0 3 1 0 0\n2 2 1 0 1 0\n" ∷ [])
+    ∷ (ascii "found 3 2 4\n1 0 3 1 0 0\n2 2 2 0 1 0\n" ∷ [])
+    -- R-6, "The mirror becomes R less the distance plus deg Q": x^6 + 2x^5 + x² + x modulo 3 has a Q of each degree
+    -- from 0 to g; its records 2 and 4 are conjugates, and record 3 is its own
+    ∷ (ascii "found 7 4 1\n1 0 7 1 0 0 0 0\n2 3 6 1 0 1 1 0\n3 4 4 0 1 0 0 0\n4 6 3 1 0 1 2 0\n" ∷ [])
     ∷ []
 
 pub marked : map answerTo jobs ≡ printed

@@ -1,6 +1,6 @@
--- T2, the part on listings: in every record nothing is cut, the mirror and the distance make up R, and the
--- pair is an ideal; the words are read back as they were written, and lookup takes the listing.
-use Prim.Native.Nat.{ℕ, zero, suc, _+_, _*_, _-_, _/_, _%_, _≤_, _<_}
+-- T2, the part on listings: in every record nothing is cut, the mirror and the distance make up R and deg Q, and
+-- the pair is an ideal; the words are read back as they were written, and lookup takes the listing.
+use Prim.Native.Nat.{ℕ, suc, _+_, _*_, _-_, _/_, _%_, _≤_, _<_}
 use native.Mathlib.Nat.{mul-le-mul, div-add-mod}
 use native.Mathlib.Omega.{arith}
 use mathlib.Core.Path.{_≡_, sym, ap, _∙_, subst}
@@ -9,26 +9,23 @@ use mathlib.Core.List.{List, map}
 use lib.ListN.{length, getD}
 use borrow.Author.Tests.{eq-eqb, ne-eqb}
 use Rattle.math_algebra.specs.Field.{Field}
-use Rattle.math_algebra.specs.Polynomial.{F, _≺_ as Low, low-up}
-use Rattle.math_surd.specs.Step.{State}
-use Rattle.math_surd.specs.Walk.{prior}
-use Rattle.math_surd.specs.Walk as states
+use Rattle.math_algebra.specs.Polynomial.{F}
+use Rattle.math_surd.specs.Walk.{walk-state}
 use Rattle.spec_arithmetic.specs.Field.{FieldName, ops}
-use Rattle.spec_arithmetic.specs.Polynomials.{trim, monic, rem, root}
-use Rattle.spec_arithmetic.specs.Words.{kind, high, values}
+use Rattle.spec_arithmetic.specs.Polynomials.{trim, deg, monic, rem, root}
+use Rattle.spec_arithmetic.specs.Words.{kind, high, values, pairs}
 use Rattle.spec_definitions.specs.Ticket.{Ticket, genus, ticketOf, refusalOf, wrongDegree, budgets, degrees}
 use Rattle.spec_definitions.specs.Walk.{degreeBefore}
 use Rattle.spec_definitions.specs.Walk as walk
 use Rattle.spec_definitions.specs.Answers.{found, wordsOutcome, opsOf, rootOf}
 use Rattle.spec_definitions.specs.Listing.{idealOf, entryOf, mirrorOf, recordOf, listingOf}
 use Rattle.spec_definitions.specs.Lookup.{recordKinds, recordAt, distanceAt, recordCount, rightKinds, rising, wrongListing}
-use Rattle.spec_bridge.specs.Model.{Model, Inverts, series}
-use Rattle.spec_bridge.specs.Trim.{below-length}
+use Rattle.spec_bridge.specs.Model.{Model, Inverts}
 use Rattle.spec_bridge.specs.Division.{rem-less, oks-rem}
-use Rattle.spec_bridge.specs.Monic.{trim-monic, oks-monic, length-monic}
+use Rattle.spec_bridge.specs.Monic.{trim-monic, oks-monic, length-monic, deg-monic}
 use Rattle.spec_fields.specs.Named.{Ok, arithmetic, ok-small}
 use Rattle.spec_laws.specs.Surd.{Surd, Q-trim}
-use Rattle.spec_laws.specs.Fraction.{fraction, Q-deg, Q-some, Q-length}
+use Rattle.spec_laws.specs.Fraction.{fraction, Q-some, Q-length}
 use Rattle.spec_laws.specs.Convergents.{degree-zero, degree-rise, degree-most}
 use Rattle.spec_laws.specs.Reduced.{reduced-ideal}
 use Rattle.spec_laws.specs.Admitted.{Admitted, is-field, surd-of, admitted, passed, degree-of, budget-less}
@@ -38,12 +35,12 @@ use Rattle.spec_refusals.specs.Records.{kinds-record, count-listing, length-lis
 use Rattle.spec_demands.specs.Continued.{StopsAt, Walks, t2}
 
 -- record j + 1: each number fits into its words of 28 bits, no coefficient is left out, mirror and distance
--- make up R, and the pair is an ideal
+-- make up R and deg Q, and the pair is an ideal
 pub record RecordHolds (t : Ticket) (R j : ℕ) : Type 0 where
   pub index-fits : entryOf t j .index < budgets
   pub distance-fits : high (entryOf t j .distance) < values
-  pub mirror-fits : high (mirrorOf R (entryOf t j)) < values
-  pub mirror-is : mirrorOf R (entryOf t j) + entryOf t j .distance ≡ R
+  pub mirror-fits : high (mirrorOf (opsOf t) R (entryOf t j)) < values
+  pub mirror-is : mirrorOf (opsOf t) R (entryOf t j) + entryOf t j .distance ≡ R + deg (opsOf t) (entryOf t j .ideal .q)
   pub Q-whole : length (entryOf t j .ideal .q) ≤ suc (genus (t .n))
   pub P-whole : length (entryOf t j .ideal .p) ≤ genus (t .n)
   pub Q-below : (i : ℕ) → Ok (t .field) (getD (entryOf t j .ideal .q) i 0)
@@ -83,19 +80,11 @@ module _ {f : FieldName} {g : ℕ} {D : List ℕ} (h : Admitted f g D) where
   abbrev P : ℕ → List ℕ
   P = walk.P (ops f) D d
 
-  state-at : (i : ℕ) → State K (series M D) (series M (Q i)) (prior K (series M D) (λ j. series M (Q j)) i) (series M (P i))
-  state-at i = record { κ = length (Q i) - 1; deg = Q-deg z i; norm = states.norm K (fraction z) i; size = length (before i) + length (P i); C-low = low i; P-low = low-up K _ (omega arith) (below-length M (P i)) }
-    where
-      before : ℕ → List ℕ
-      before zero = D
-      before (suc i) = Q i
-
-      low : (i : ℕ) → Low K (prior K (series M D) (λ j. series M (Q j)) i) (length (before i) + length (P i))
-      low zero = low-up K _ (omega arith) (below-length M D)
-      low (suc i) = low-up K _ (omega arith) (below-length M (Q i))
-
   monic-length : (i : ℕ) → length (monic (ops f) (Q i)) ≡ length (Q i)
   monic-length i = length-monic M I (Q i) ∙ ap length (Q-trim z i)
+
+  monic-degree : (i : ℕ) → deg (ops f) (monic (ops f) (Q i)) ≤ g
+  monic-degree i = let e = deg-monic M I (Q i) in let l = ap length (Q-trim z i) in let k = Q-length z i in omega arith
 
   rem-length : (i : ℕ) → length (rem (ops f) (P i) (monic (ops f) (Q i))) < length (Q i)
   rem-length i =
@@ -108,7 +97,7 @@ module _ {f : FieldName} {g : ℕ} {D : List ℕ} (h : Admitted f g D) where
 
   walk-pair : (i : ℕ) → let x = idealOf (ops f) (walk.walk (ops f) D d i) in IsPair f D (x .q) (x .p)
   unfolding idealOf
-  walk-pair i = is-pair h (oks-monic M I (Q i)) (reduced-ideal K M I D (walk.walk (ops f) D d i) (state-at i))
+  walk-pair i = is-pair h (oks-monic M I (Q i)) (reduced-ideal K M I D (walk.walk (ops f) D d i) (walk-state K (fraction z) i))
 
   -- 2²⁸·32 is far below 2⁵⁶
   degree-fits : (i : ℕ) → i ≤ budgets → degreeBefore (ops f) D d i ≤ degrees
@@ -118,7 +107,7 @@ module _ {f : FieldName} {g : ℕ} {D : List ℕ} (h : Admitted f g D) where
       let w : i * suc g ≤ budgets * 32 = mul-le-mul l y in
       omega arith
 
-high-fits : (x : ℕ) → x ≤ degrees → high x < values
+high-fits : (x : ℕ) → x < pairs → high x < values
 unfolding high
 high-fits x l = let e : values * (x / values) + x % values ≡ x = div-add-mod x values in omega arith
 
@@ -128,8 +117,8 @@ module _ (t : Ticket) (h : Admitted (t .field) (genus (t .n)) (t .D)) (R m : ℕ
   unfolding entryOf idealOf mirrorOf rootOf
   holds j l = record {
     index-fits = omega arith;
-    distance-fits = high-fits _ (degree-fits h j (omega arith));
-    mirror-fits = high-fits _ (let e = is in let k = degree-fits h m (omega arith) in omega arith);
+    distance-fits = high-fits _ (let k = degree-fits h j (omega arith) in omega arith);
+    mirror-fits = high-fits _ (let e = is in let k = degree-fits h m (omega arith) in let y = monic-degree h j in let w = h .genus-most in omega arith);
     mirror-is = let e = is in let k = degree-rise (surd-of h) j m l in omega arith;
     Q-whole = let e = monic-length h j in let k = Q-length (surd-of h) j in omega arith;
     P-whole = let e = rem-length h j in let k = Q-length (surd-of h) j in omega arith;

@@ -10,19 +10,17 @@ use mathlib.Core.Path.{_≡_, sym, subst, ap, _∙_, fun-ext}
 use mathlib.Core.Logic.{_≢_, ⊎-elim}
 use mathlib.Core.List.{List}
 use Rattle.math_ring.specs.Order.{le-or-lt}
-use Rattle.math_ring.specs.Series.{Series}
 use Rattle.math_algebra.specs.Field.{Field}
-use Rattle.math_algebra.specs.Polynomial.{F, Px}
-use Rattle.math_algebra.specs.Divides.{divides-path, divides-zero}
-use Rattle.math_algebra.specs.Associate.{associate-path}
+use Rattle.math_algebra.specs.Polynomial.{F}
 use Rattle.math_counting.specs.Repeats.{Repeats, repeated-value}
 use Rattle.math_surd.specs.Walk.{κ-first}
+use Rattle.math_surd.specs.Ideal.{same-path}
 use Rattle.math_surd.specs.Same.{Same, same-prior, same-κ}
 use Rattle.math_surd.specs.QuasiPeriod.{QuasiPeriod, quasi-period}
 use Rattle.spec_arithmetic.specs.Field.{FieldName, ops}
 use Rattle.spec_arithmetic.specs.Polynomials.{size, root}
 use Rattle.spec_arithmetic.specs.Words.{values}
-use Rattle.spec_definitions.specs.Ticket.{Ticket, ticketOf, refusalOf}
+use Rattle.spec_definitions.specs.Ticket.{Ticket, genus, ticketOf, refusalOf}
 use Rattle.spec_definitions.specs.Walk as walk
 use Rattle.spec_definitions.specs.Answers.{opsOf, rootOf}
 use Rattle.spec_bridge.specs.Model.{Model, series}
@@ -104,7 +102,7 @@ module _ {f : FieldName} {g : ℕ} {D : List ℕ} (h : Admitted f g D) where
       let s = sum-tells B (number values (Q i)) (number values (Q j)) (number values (P i)) (number values (P j)) (Q-below i) (Q-below j) e in
       let a : series M (Q i) ≡ series M (Q j) = fun-ext (λ n. ap (M .φ) (number-tells values (Q i) (Q j) (Q-digits i) (Q-digits j) (s .0) n)) in
       let b : series M (P i) ≡ series M (P j) = fun-ext (λ n. ap (M .φ) (number-tells values (P i) (P j) (P-digits i) (P-digits j) (s .1) n)) in
-      record { ratio = associate-path K a; congruent = divides-path K (sym (ap (λ (u : Px K). Series (F K) .add u (Series (F K) .neg (series M (P j)))) b ∙ Series (F K) .add-neg (series M (P j)))) (divides-zero K (series M (Q j))) }
+      same-path K a b
 
   -- back to the index 0
   same-first : (i k : ℕ) → Same K (fraction z) i (i + k) → Same K (fraction z) 0 k
@@ -129,6 +127,11 @@ module _ {f : FieldName} {g : ℕ} {D : List ℕ} (h : Admitted f g D) where
 
   constant-size : (i : ℕ) → size (ops f) (Q i) ≡ 1 → fraction z .κ i ≡ 0
   constant-size i e = let l = size-length z i in omega arith
+
+-- the quasi-period of the walk over the field
+pub period-of : (t : Ticket) (h : Admitted (t .field) (genus (t .n)) (t .D)) (m : ℕ) → IsQuasiPeriod t m → QuasiPeriod (arithmetic (t .field) (is-field h) .K) (fraction (surd-of h)) m
+unfolding rootOf
+period-of t h m q = record { positive = q .positive; constant = constant-size h m (q .constant); least = λ j l u e. q .least j l u (size-constant h j e) }
 
 pub t2-exists : T2Exists
 unfolding rootOf

@@ -10,9 +10,8 @@ use Rattle.math_algebra.specs.Polynomial.{F}
 use Rattle.math_surd.specs.Step.{State}
 use Rattle.math_surd.specs.Ideal.{SameIdeal}
 use Rattle.math_surd.specs.Same.{Same}
-use Rattle.math_surd.specs.Walk.{prior}
+use Rattle.math_surd.specs.Walk.{prior, walk-state}
 use Rattle.math_surd.specs.Distance.{distance, index-lt}
-use Rattle.math_giants.specs.Exists.{walk-state}
 use Rattle.spec_arithmetic.specs.Polynomials.{trim, size, pad, root}
 use Rattle.spec_definitions.specs.Ticket.{Ticket, genus}
 use Rattle.spec_definitions.specs.Walk.{Ideal, walk, steps}
@@ -164,7 +163,7 @@ module _ (t : Ticket) where
     padded-trim i = (trim-ext M _ _ (q-padded-at i) ∙ q-trim i, trim-ext M _ _ (p-padded-at i) ∙ p-trim i)
 
     -- ---- distances
-    distance-is : (i : ℕ) → δ i ≡ distance K (fraction z) i
+    pub distance-is : (i : ℕ) → δ i ≡ distance K (fraction z) i
     unfolding entryOf rootOf
     distance-is i = degree-distance z i
 

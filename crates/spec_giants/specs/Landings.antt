@@ -8,9 +8,9 @@ use Rattle.math_algebra.specs.Field.{Field}
 use Rattle.math_algebra.specs.Polynomial.{F, Px}
 use Rattle.math_algebra.specs.Associate.{associate-deg}
 use Rattle.math_surd.specs.Ideal.{SameIdeal}
+use Rattle.math_surd.specs.Walk.{walk-state}
 use Rattle.math_surd.specs.Distance.{distance}
 use Rattle.math_giants.specs.GiantStep.{GiantStep, drop, drop-most, giant-Q, giant-P}
-use Rattle.math_giants.specs.Exists.{walk-state}
 use Rattle.math_giants.specs.Lands.{Landed}
 use Rattle.math_giants.specs.Lands as walks
 use Rattle.spec_arithmetic.specs.Polynomials.{root}

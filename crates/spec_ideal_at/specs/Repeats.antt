@@ -3,7 +3,7 @@
 use Prim.Native.Nat.{ℕ, suc, _+_, _*_, _≤_}
 use native.Mathlib.Nat.{add-suc}
 use native.Mathlib.Omega.{arith}
-use mathlib.Core.Path.{_≡_, sym, ap, ap₂, _∙_, subst}
+use mathlib.Core.Path.{_≡_, sym, ap, ap₂, _∙_}
 use mathlib.Core.List.{List}
 use Rattle.math_algebra.specs.Field.{Field}
 use Rattle.math_algebra.specs.Polynomial.{F}
@@ -20,12 +20,10 @@ use Rattle.spec_fields.specs.Named.{arithmetic}
 use Rattle.spec_laws.specs.Surd.{Surd}
 use Rattle.spec_laws.specs.Fraction.{fraction}
 use Rattle.spec_laws.specs.Convergents.{degree-distance}
-use Rattle.spec_laws.specs.QuasiPeriod.{size-length}
 use Rattle.spec_laws.specs.Admitted.{Admitted, is-field, surd-of, admitted}
 use Rattle.spec_refusals.specs.LentLists.{found-passes}
-use Rattle.spec_demands.specs.Continued.{Walks, t2}
-use Rattle.spec_expansion.specs.QuasiPeriod.{IsQuasiPeriod}
-use Rattle.spec_answers.specs.Outcomes.{degreeAt}
+use Rattle.spec_expansion.specs.QuasiPeriod.{IsQuasiPeriod, period-of}
+use Rattle.spec_answers.specs.Outcomes.{degreeAt, found-period}
 use Rattle.spec_giants.specs.Entries.{ideal, Last, entries-equal}
 use Rattle.spec_ideal_at.specs.Halving.{idealAtAnswer}
 use Rattle.spec_ideal_at.specs.Reached.{done-at}
@@ -41,13 +39,8 @@ module _ (t : Ticket) (h : Admitted (t .field) (genus (t .n)) (t .D)) (m : ℕ) 
   abbrev z : Surd K M (genus (t .n)) (t .D) (root (opsOf t) (t .D) (suc (genus (t .n))))
   z = surd-of h
 
-  -- Q is constant at m
-  constant : fraction z .κ m ≡ 0
-  unfolding rootOf
-  constant = let a = q .constant in let b = size-length z m in omega arith
-
   round : walks.Repeats K (fraction z) m
-  round = repeats K (fraction z) m constant
+  round = repeats K (fraction z) m (period-of t h m q .constant)
 
   distance-round : (k i : ℕ) → degreeAt t (k * m + i) ≡ k * degreeAt t m + degreeAt t i
   unfolding rootOf degreeBefore
@@ -58,12 +51,6 @@ module _ (t : Ticket) (h : Admitted (t .field) (genus (t .n)) (t .D)) (m : ℕ) 
 
   repeated : Repeated t m
   repeated = record { ideal = λ k i. entries-equal t h (k * m + i) i (round .ideal k i); distance = distance-round }
-
--- ---- the regulator
-found-period : (w : List ℕ) (R m c : ℕ) → wordsOutcome w ≡ found R m c → IsQuasiPeriod (ticketOf w) m × (R ≡ degreeAt (ticketOf w) m)
-found-period w R m c f =
-    let s = subst (Walks (ticketOf w)) f (t2 w (found-passes w R m c f)) .ends in
-    (record { positive = s .positive; constant = s .constant; least = s .least }, s .regulator)
 
 -- ---- the answer
 module _ (w : List ℕ) (R m c : ℕ) (f : wordsOutcome w ≡ found R m c) (k y : ℕ) (within : k * R + y ≤ farthest) where

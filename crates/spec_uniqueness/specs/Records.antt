@@ -19,7 +19,7 @@ use Rattle.math_algebra.specs.Polynomial.{F, Px, Monic, low-sub, monic-deg}
 use Rattle.math_algebra.specs.Divides.{Divides as DividesK, divides-sub, divides-path, rigid}
 use Rattle.math_algebra.specs.Associate.{Associate, associate-sym, associate-trans, associate-monic-equal}
 use Rattle.spec_arithmetic.specs.Field.{FieldName, ops}
-use Rattle.spec_arithmetic.specs.Polynomials.{trim, size, lead, sub, scale}
+use Rattle.spec_arithmetic.specs.Polynomials.{trim, size, deg, lead, sub, scale}
 use Rattle.spec_arithmetic.specs.Words.{kind, value, joined, values}
 use Rattle.spec_definitions.specs.Ticket.{Ticket, genus, ticketOf, refusalOf}
 use Rattle.spec_definitions.specs.Walk as walk
@@ -39,7 +39,7 @@ use Rattle.spec_refusals.specs.Records.{record-listing}
 use Rattle.spec_refusals.specs.LentLists.{KeepsFrom, t1-lists, found-passes}
 use Rattle.spec_demands.specs.Listings.{t2-listings}
 use Rattle.spec_answers.specs.Refusals.{listing-found}
-use Rattle.spec_answers.specs.Records.{wordAt, QRead, PRead, RecordRead, record-read, t2-records}
+use Rattle.spec_answers.specs.Records.{wordAt, QRead, PRead, RecordRead, size-same, record-read, t2-records}
 use Rattle.spec_uniqueness.specs.Units.{later-at}
 
 -- record j + 1, for j below m: a list that is read as this record has its words
@@ -125,7 +125,8 @@ module _ (t : Ticket) (h : Admitted (t .field) (genus (t .n)) (t .D)) (even : su
   distance-parts = joined-parts _ _ _ _ (value-less (wordAt (t .n) j a 2)) (value-less (wordAt (t .n) j b 2)) (x .distance ∙ sym (y .distance))
 
   mirror-parts : (value (wordAt (t .n) j a 3) ≡ value (wordAt (t .n) j b 3)) × (value (wordAt (t .n) j a 4) ≡ value (wordAt (t .n) j b 4))
-  mirror-parts = joined-parts _ _ _ _ (value-less (wordAt (t .n) j a 4)) (value-less (wordAt (t .n) j b 4)) (let e = x .mirror in let f = y .mirror in let k = x .distance in let l = y .distance in omega arith)
+  unfolding deg
+  mirror-parts = joined-parts _ _ _ _ (value-less (wordAt (t .n) j a 4)) (value-less (wordAt (t .n) j b 4)) (let e = x .mirror in let f = y .mirror in let k = x .distance in let l = y .distance in let s = size-same (t .field) (is-field h) (QRead (t .n) j a) (QRead (t .n) j b) Q-same in omega arith)
 
   value-same : (i : ℕ) → i < t .n + 4 → value (wordAt (t .n) j a i) ≡ value (wordAt (t .n) j b i)
   value-same zero low = x .index ∙ sym (y .index)

@@ -7,10 +7,10 @@ use lib.ListN.{length, getD}
 use Rattle.spec_arithmetic.specs.Field.{modulo}
 use Rattle.spec_arithmetic.specs.Polynomials.{pad}
 use Rattle.spec_arithmetic.specs.Words.{word}
-use Rattle.listing_record.specs.Stored.{stored, stored-none, length-stored, stored-more}
+use Rattle.listing_words.specs.Stored.{stored, stored-none, length-stored, stored-more}
 use borrow.Author.Needs.{needs}
-use Rattle.listing_record.proofs.record.put_coefficients.Statement.{statement}
-use Rattle.listing_record.proofs.record.put_coefficients.Tie as tie
+use Rattle.listing_words.proofs.put_coefficients.Statement.{statement}
+use Rattle.listing_words.proofs.put_coefficients.Tie as tie
 
 abbrev Inv-loop : tie.InvT-loop
 Inv-loop out₀ at kind c count i₀ out i = (i ≤ count) × (length out ≡ length out₀) × ((k : ℕ) → out ≡ stored out₀ at (map (word kind) (pad (modulo k) i c)))

@@ -2,9 +2,9 @@
 use mathlib.Core.Path.{sym, ap, _∙_}
 use mathlib.Core.List.{[], _∷_}
 use borrow.Author.Needs.{needs}
-use Rattle.listing_record.specs.Stored.{stored, stored-one}
-use Rattle.listing_record.proofs.record.put_word.Statement.{statement}
-use Rattle.listing_record.proofs.record.put_word.Tie as tie
+use Rattle.listing_words.specs.Stored.{stored, stored-one}
+use Rattle.listing_words.proofs.put_word.Statement.{statement}
+use Rattle.listing_words.proofs.put_word.Tie as tie
 
 word-requires : tie.Need-word-requires
 word-requires c κs = search needs

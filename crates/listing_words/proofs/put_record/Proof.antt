@@ -1,8 +1,8 @@
 -- A record's parts, stored one after the other.
-use Rattle.listing_record.specs.Stored.{stored-record}
+use Rattle.listing_words.specs.Stored.{stored-record}
 use borrow.Author.Needs.{needs}
-use Rattle.listing_record.proofs.record.put_record.Statement.{statement}
-use Rattle.listing_record.proofs.record.put_record.Tie as tie
+use Rattle.listing_words.proofs.put_record.Statement.{statement}
+use Rattle.listing_words.proofs.put_record.Tie as tie
 
 cast-put-word : tie.Need-cast-put-word
 cast-put-word c = search needs

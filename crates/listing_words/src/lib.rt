@@ -9,7 +9,7 @@ ghost use Rattle.spec_arithmetic.specs.Polynomials.{pad};
 ghost use Rattle.spec_arithmetic.specs.Words.{word as wordOf, high as highOf, low as lowOf, pairs, values};
 ghost use Rattle.spec_definitions.specs.Listing.{recordWords};
 ghost use Rattle.spec_definitions.specs.Ticket.{budgets};
-ghost use Rattle.listing_record.specs.Stored.{stored};
+ghost use Rattle.listing_words.specs.Stored.{stored};
 use base_counters::Distance;
 use base_counters::Index;
 use base_words::high;

@@ -12,7 +12,7 @@ use Rattle.spec_arithmetic.specs.Polynomials.{pad}
 use Rattle.spec_arithmetic.specs.Words.{word, high, low}
 use Rattle.spec_definitions.specs.Ticket.{genus}
 use Rattle.spec_definitions.specs.Listing.{Entry, recordWords}
-use Rattle.base_polynomial.specs.Pad.{length-pad, pad-suc}
+use Rattle.spec_lists.specs.Pad.{length-pad, pad-suc}
 
 -- the list l with the words from a place on
 unfoldable pub stored : List ℕ → ℕ → List ℕ → List ℕ

@@ -4,10 +4,10 @@ use mathlib.Core.List.{[], _∷_}
 use Prim.Native.Nat.{_+_}
 use native.Mathlib.Omega.{arith}
 use Rattle.spec_arithmetic.specs.Words.{word, high, low}
-use Rattle.listing_record.specs.Stored.{stored, stored-append}
+use Rattle.listing_words.specs.Stored.{stored, stored-append}
 use borrow.Author.Needs.{needs}
-use Rattle.listing_record.proofs.record.put_number.Statement.{statement}
-use Rattle.listing_record.proofs.record.put_number.Tie as tie
+use Rattle.listing_words.proofs.put_number.Statement.{statement}
+use Rattle.listing_words.proofs.put_number.Tie as tie
 
 high-requires : tie.Need-high-requires
 high-requires c κs = search needs
