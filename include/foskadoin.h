@@ -214,10 +214,10 @@ struct foskadoin_ideal_numbers foskadoin_ideal_at(const uint32_t *ticket, size_t
    The listing. The record of index i, from 1 to m, has Q_(i-1) divided by its leading coefficient as Q,
    P_(i-1) mod Q as P, the distance deg p_(i-2) (0 for i = 1) and the mirror R less the distance plus deg Q.
 
-   The mirror is the place of the conjugate ideal, which has the same Q, and P negated modulo Q. For record 1, which is
+   The mirror is the distance of the conjugate ideal, which has the same Q, and P negated modulo Q. For record 1, which is
    its own conjugate, it is R. For every other record it is below R, and the record at that distance is the conjugate,
-   the only one in the listing: foskadoin_lookup at the mirror finds it (at R it would find the last record). The mirror
-   of the conjugate is in turn the record's own distance.
+   the only one in the listing: foskadoin_lookup at the mirror finds it (at R it would find the last record). For these
+   the mirror of the conjugate is in turn the record's own distance.
 
    The endless walk. The walk goes on past the quasi-period, at the index i from 0 on with the ideal of Q_i and P_i, made
    as a record's is, and the distance deg p_(i-1): 0 for i = 0, then strictly rising, by n/2 - deg Q_i from i to i + 1. The

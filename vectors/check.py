@@ -486,7 +486,8 @@ def tallied(name, answer):
 
 
 def stored_listings():
-    """The found listings of the two files and of the program's cases, as they stand there: file and line, q, R, the records."""
+    """The found listings of the two files and of the program's cases, as they stand there: file and line, q, R and the
+    records."""
     for name in "listings", "samples/listings":
         with open(os.path.join(HERE, name + ".txt")) as file:
             for at, line in enumerate(file, 1):
@@ -535,7 +536,8 @@ def main():
         if not conjugates(q, R, listed):
             wrong += 1
             print(f"{where}: a mirror is not the distance of the conjugate")
-    print(f"records with the conjugate at the mirror: {mirrored}")
+    wrong += not mirrored
+    print(f"records compared with the conjugate at their mirror: {mirrored}")
     sys.exit(1 if wrong else 0)
 
 

@@ -1,5 +1,6 @@
 \\ The jobs of the vectors and their expected answers, as lines of numbers; README.md gives the layout of a line.
-\\ Each of regulators(), several(), allowed(), units(), listings(), products() prints one file.
+\\ Each of regulators(), several(), allowed(), units(), listings(), products() prints one file; samples() compares the sample
+\\ answers' listings.
 read("series.gp");
 
 line(v) = print(strjoin([Str(t) | t <- v], " "));
@@ -326,10 +327,10 @@ twowords(k, j, y) = [word(k, y >> 28), word(j, y % 2^28)];
 \\ The ideal spanned by the multiples of p + s*sqrt(D).
 multiples(D, p, s) = ideal([p, D * s; s, p]);
 
-\\ The mirrors of the records that the p + s*sqrt(D) generate, given as [p, s]: request R-6. The conjugate ideal, spanned by the
-\\ multiples of p - s*sqrt(D), is the ideal of exactly one record; the mirror is the distance of that record, or R if it is the first.
-\\ The mirror is also the degree of p - s*sqrt(D) times the unit u + t*sqrt(D), that is of A + B*sqrt(D). With root(D, 0), the
-\\ polynomial part of sqrt(D), in its place, only terms of degrees below deg B are lost.
+\\ Request R-6: the mirrors of the records that the p + s*sqrt(D) generate, given as [p, s]. The conjugate ideal, spanned by
+\\ the multiples of p - s*sqrt(D), is the ideal of exactly one record; the mirror is the distance of that record, or R if it
+\\ is the first. It is also the degree of p - s*sqrt(D) times the unit u + t*sqrt(D), that is of A + B*sqrt(D). With
+\\ root(D, 0), the polynomial part of sqrt(D), in its place, only terms of degrees below deg B are lost.
 mirrors(D, generators, R, unit1) =
 {
   my(ideals = [multiples(D, v[1], v[2]) | v <- generators], out = List(), [u, t] = unit1, p, s, I1, places, y, A, B);
@@ -372,6 +373,22 @@ listings() =
     line(concat([[#w], w, a, [#r], r])));
   foreach (jobs[1 .. 12], v, w = ticket(v[1], v[2], v[3] - 1); line(concat([[#w], w, answer(w), [0]])));
   foreach ([[0, 0, 0, 0, 1], [3, 0, 0, 0, 1], [1, 0, 0, 0, 2]], c, w = ticket(3, c, 4); line(concat([[#w], w, answer(w), [0]])));
+};
+
+\\ Compares the found listings of the sample answers: the line has the ticket, the lent list's length and what it held, the
+\\ answer, and every word at the end.
+samples() =
+{
+  my(count = 0, v, w, a, r, D);
+  foreach (readstr("samples/listings.txt"), text,
+    v = apply(eval, strsplit(text, " ")); w = v[2 .. v[1] + 1]; v = v[v[1] + 5 .. #v]; a = v[1 .. 4];
+    if (answer(w) != a && a[1] != 13, error("a sample's answer"));
+    if (a[1], next);
+    D = poly([value(c) | c <- w[3 .. value(w[2]) + 3]], value(w[1]));
+    r = records(D, expand(D, a[3]), a[3], a[2]);
+    if (r != v[5 .. 4 + #r], error("a sample's records"));
+    count++);
+  print("found listings of the samples: ", count);
 };
 
 \\ ---- products and giant steps

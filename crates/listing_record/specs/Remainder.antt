@@ -8,6 +8,7 @@ use lib.ListN.{length, getD}
 use Rattle.math_ring.specs.Residues.{FqRing}
 use Rattle.spec_arithmetic.specs.Field.{prime, modulo}
 use Rattle.spec_arithmetic.specs.Polynomials.{trim, deg, sub, rem, monic}
+use Rattle.spec_arithmetic.specs.Polynomials as polynomials
 use Rattle.spec_arithmetic.specs.Words.{values}
 use Rattle.spec_bridge.specs.Arithmetic.{at-sub, trim-sub, oks-sub}
 use Rattle.spec_bridge.specs.Monic.{trim-monic, length-monic, deg-monic}
@@ -42,10 +43,6 @@ module _ (q : ℕ) (b : List ℕ) (size : ℕ) (held : Held (prime q) b size) (c
   pub monic-size : Prime q → k ≡ size
   monic-size p = is .size-is ∙ length-monic (model q (held-positive q b size held)) (inverts q (held-positive q b size held) p) (poly b size) ∙ held-size q b size held
 
-  -- so its degree is one less
-  pub monic-degree : Prime q → deg (modulo q) (monic (modulo q) (poly b size)) ≡ size - 1
-  monic-degree p = deg-monic (model q (held-positive q b size held)) (inverts q (held-positive q b size held) p) (poly b size) ∙ ap (λ (n : ℕ). n - 1) (held-size q b size held)
-
   pub monic-kept : Prime q → Is (prime q) c size (monic (modulo q) (poly b size))
   monic-kept p = subst (λ (n : ℕ). Is (prime q) c n (monic (modulo q) (poly b size))) (monic-size p) is
 
@@ -68,6 +65,11 @@ module _ (q : ℕ) (b : List ℕ) (size : ℕ) (held : Held (prime q) b size) (c
 
       I : Inverts (model q (held-positive q b size held))
       I = inverts q (held-positive q b size held) p
+
+-- the degree of what is held, made monic
+pub monic-degree : (q : ℕ) (b : List ℕ) (size : ℕ) → Held (prime q) b size → Prime q → deg (modulo q) (monic (modulo q) (poly b size)) ≡ size - 1
+unfolding deg polynomials.size
+monic-degree q b size held p = deg-monic (model q (held-positive q b size held)) (inverts q (held-positive q b size held) p) (poly b size) ∙ ap (λ (n : ℕ). n - 1) (held-size q b size held)
 
 -- a coefficient fits a word's value
 pub value-fits : (q : ℕ) (c : List ℕ) (size : ℕ) → q < 4096 → Held (prime q) c size → (i : ℕ) → getD c i 0 < values

@@ -16,8 +16,8 @@ use base_counters::Index;
 use base_field::Field;
 use listing_words::put_record;
 
-// The record of Q, the first `size` places of `current`, and P = d − rest; r is the regulator. As Q has no zero at its
-// end, its degree is size − 1.
+// The record of Q, the first `size` places of `current`, and P = d − rest; r is the regulator. The mirror is r less the
+// distance plus deg Q, which is size − 1, as Q has no zero at its end.
 pub fn write_record(
     f: Field,
     n: usize,

@@ -3,7 +3,7 @@
 -- Q.
 use Prim.Native.Nat.{ℕ, suc, _+_ as _+ₙ_}
 use native.Mathlib.Omega.{arith}
-use mathlib.Core.Path.{_≡_, sym, ap, _∙_, subst}
+use mathlib.Core.Path.{_≡_, refl, sym, ap, _∙_, subst}
 use mathlib.Core.List.{[], _∷_}
 use Rattle.math_ring.specs.Ring.{CRing}
 use Rattle.math_ring.specs.Identity.{ring, ring-from, times, plus, quote}
@@ -12,7 +12,7 @@ use Rattle.math_algebra.specs.Field.{Field}
 use Rattle.math_algebra.specs.Polynomial.{F, Px, _≺_ as Low, Deg, low-up, low-neg, low-sub, low-path, deg-unique}
 use Rattle.math_algebra.specs.Divides.{Divides, divides-path, divides-add, divides-neg, divides-sub, divides-zero, rigid}
 use Rattle.math_algebra.specs.Division.{Division}
-use Rattle.math_algebra.specs.Associate.{Associate, associate-refl, associate-sym, associate-trans, associate-path, associate-deg, associate-cofactor, divides-associate}
+use Rattle.math_algebra.specs.Associate.{Associate, associate-sym, associate-trans, associate-path, associate-deg, associate-cofactor, divides-associate}
 use Rattle.math_surd.specs.Root.{Root, No-square}
 use Rattle.math_surd.specs.Step.{State, next-P, next-Q, next-P-is, exact, next}
 
@@ -39,8 +39,11 @@ module _ {A : Type 0} (K : Field A) where
     pub ratio : Associate K Q Q′
     pub congruent : Divides K Q′ (P - P′)
 
+  pub same-path : {Q P Q′ P′ : P[x]} → Q ≡ Q′ → P ≡ P′ → SameIdeal Q P Q′ P′
+  same-path {P′ = P′} q p = record { ratio = associate-path K q; congruent = divides-path K (sym (ap (λ (f : P[x]). f - P′) p ∙ R[x] .add-neg P′)) (divides-zero K _) }
+
   pub same-refl : (Q P : P[x]) → SameIdeal Q P Q P
-  same-refl Q P = record { ratio = associate-refl K Q; congruent = divides-path K (sym (R[x] .add-neg P)) (divides-zero K Q) }
+  same-refl Q P = same-path refl refl
 
   pub same-sym : {Q P Q′ P′ : P[x]} → SameIdeal Q P Q′ P′ → SameIdeal Q′ P′ Q P
   same-sym {Q} {P} {Q′} {P′} s = record { ratio = associate-sym K (s .ratio); congruent = divides-path K turn (divides-neg K (divides-associate K (associate-sym K (s .ratio)) (s .congruent))) }
@@ -54,10 +57,7 @@ module _ {A : Type 0} (K : Field A) where
       join : (P - P′) + (P′ - P″) ≡ P - P″
       join = ring R[x] (P ∷ P′ ∷ P″ ∷ []) (search quote depth 40 fits 9999) tt
 
-  pub same-path : {Q P Q′ P′ : P[x]} → Q ≡ Q′ → P ≡ P′ → SameIdeal Q P Q′ P′
-  same-path {P′ = P′} q p = record { ratio = associate-path K q; congruent = divides-path K (sym (ap (λ (f : P[x]). f - P′) p ∙ R[x] .add-neg P′)) (divides-zero K _) }
-
-  -- the conjugates, with P negated, of one ideal
+  -- two pairs of one ideal, P negated in both, are pairs of one ideal, its conjugate
   pub same-neg : {Q P Q′ P′ : P[x]} → SameIdeal Q P Q′ P′ → SameIdeal Q (- P) Q′ (- P′)
   same-neg {P = P} {P′ = P′} s = record { ratio = s .ratio; congruent = divides-path K turn (divides-neg K (s .congruent)) }
     where

@@ -18,7 +18,7 @@ use Rattle.spec_definitions.specs.Listing.{listingAnswer}
 use Rattle.spec_laws.specs.Admitted.{admitted}
 use Rattle.spec_laws.specs.Cases.{spent-not-found, refused-not-found, refused-not-spent, found-numbers, spent-numbers}
 use Rattle.spec_refusals.specs.LentLists.{Short, t1-lists, found-passes}
-use Rattle.spec_demands.specs.Continued.{ConstantAt, Walks, constant-told, t2}
+use Rattle.spec_demands.specs.Continued.{ConstantAt, StopsAt, Walks, constant-told, t2}
 use Rattle.spec_expansion.specs.QuasiPeriod.{IsQuasiPeriod, quasi-period-unique, t2-exists}
 
 module _ (t : Ticket) where
@@ -97,6 +97,9 @@ module _ (t : Ticket) (m : ℕ) where
       found-same (a, u, e) (b, v, f) = e ∙ ap (λ (c : ℕ). said (found (degreeAt t m) m c)) (one a b u v) ∙ sym f
 
 -- ---- the outcome of the words
+stops-period : (t : Ticket) (R m c : ℕ) → StopsAt (t .field) (t .D) (rootOf t) (t .b) R m c → IsQuasiPeriod t m
+stops-period t R m c s = record { positive = s .positive; constant = s .constant; least = s .least }
+
 module _ (w : List ℕ) (past : refusalOf w ≡ 0) (m : ℕ) (h : IsQuasiPeriod (ticketOf w) m) where
   abbrev t : Ticket
   t = ticketOf w
@@ -106,7 +109,7 @@ module _ (w : List ℕ) (past : refusalOf w ≡ 0) (m : ℕ) (h : IsQuasiPeriod 
     where
       go : (x : Outcome) → Walks t x → (c : ℕ) × ConstantAt (t .field) (t .D) (rootOf t) m c × (x ≡ found (degreeAt t m) m c)
       go (found R n c) k =
-          let e : n ≡ m = quasi-period-unique t n m (record { positive = k .ends .positive; constant = k .ends .constant; least = k .ends .least }) h in
+          let e : n ≡ m = quasi-period-unique t n m (stops-period t R n c (k .ends)) h in
           (c, subst (λ (i : ℕ). ConstantAt (t .field) (t .D) (rootOf t) i c) e (k .ends .value), ap (λ (r : ℕ). found r n c) (k .ends .regulator) ∙ ap (λ (i : ℕ). found (degreeAt t i) i c) e)
       go (spent k e) x = absurd (x .ends .none-constant m (h .positive) l (h .constant))
       go (refused j) x = absurd (x .ends)
@@ -135,7 +138,7 @@ module _ (w : List ℕ) (past : refusalOf w ≡ 0) (m : ℕ) (h : IsQuasiPeriod 
 pub found-period : (w : List ℕ) (R m c : ℕ) → wordsOutcome w ≡ found R m c → IsQuasiPeriod (ticketOf w) m × (R ≡ degreeAt (ticketOf w) m)
 found-period w R m c f =
     let s = subst (Walks (ticketOf w)) f (t2 w (found-passes w R m c f)) .ends in
-    (record { positive = s .positive; constant = s .constant; least = s .least }, s .regulator)
+    (stops-period (ticketOf w) R m c s, s .regulator)
 
 pub t2-regulator : T2Regulator
 unfolding regulatorOf

@@ -56,7 +56,7 @@ module _ {A B : Type 0} {o : Ops A} {R : CRing B} (M : Model o R) (I : Inverts M
   unfolding monic
   monic-top a h = ap φ (at-scale M (o .inv (lead o a)) a _) ∙ φ-mul _ _ ∙ ap (λ x. R .mul (φ (o .inv (lead o a))) (φ x)) (sym (lead-is M a)) ∙ I .inv-mul (lead o a) (lead-some M a h)
 
-  -- it keeps the size
+  -- it keeps size and degree
   pub length-monic : (a : List A) → length (monic o a) ≡ length (trim o a)
   unfolding monic
   length-monic a = ⊎-elim (λ h. ⊎-elim (λ k. let w : length (monic o a) ≤ length (trim o a) = short in omega arith) (λ k. absurd (lead-some M a h (no-lead h k))) (le-or-lt (length (trim o a)) (length (monic o a)))) (λ h. let w : length (monic o a) ≤ length (trim o a) = short in omega arith) (le-or-lt 1 (length (trim o a)))
@@ -67,6 +67,10 @@ module _ {A B : Type 0} {o : Ops A} {R : CRing B} (M : Model o R) (I : Inverts M
       no-lead : 1 ≤ length (trim o a) → length (scale o (o .inv (lead o a)) a) < length (trim o a) → φ (lead o a) ≡ R .zer
       no-lead h k = ring-from R (φ (lead o a) ∷ []) (times R (φ (lead o a)) (sym (monic-top a h) ∙ below-length M (monic o a) _ (omega arith))) (search quote depth 40 fits 9999) tt
 
-  pub deg-monic : (a : List A) → deg o (monic o a) ≡ length (trim o a) -ₙ 1
-  unfolding deg size
-  deg-monic a = ap (λ (l : List A). length l -ₙ 1) (trim-monic a) ∙ ap (λ (n : ℕ). n -ₙ 1) (length-monic a)
+  pub size-monic : (a : List A) → size o (monic o a) ≡ size o a
+  unfolding size
+  size-monic a = ap length (trim-monic a) ∙ length-monic a
+
+  pub deg-monic : (a : List A) → deg o (monic o a) ≡ deg o a
+  unfolding deg
+  deg-monic a = ap (λ (n : ℕ). n -ₙ 1) (size-monic a)

@@ -26,6 +26,7 @@ use Rattle.spec_bridge.specs.Monic.{trim-monic, oks-monic, length-monic, deg-mo
 use Rattle.spec_fields.specs.Named.{Ok, arithmetic, ok-small}
 use Rattle.spec_laws.specs.Surd.{Surd, Q-trim}
 use Rattle.spec_laws.specs.Fraction.{fraction, Q-some, Q-length}
+use Rattle.spec_laws.specs.Walk.{deg-Q}
 use Rattle.spec_laws.specs.Convergents.{degree-zero, degree-rise, degree-most}
 use Rattle.spec_laws.specs.Reduced.{reduced-ideal}
 use Rattle.spec_laws.specs.Admitted.{Admitted, is-field, surd-of, admitted, passed, degree-of, budget-less}
@@ -84,7 +85,7 @@ module _ {f : FieldName} {g : ℕ} {D : List ℕ} (h : Admitted f g D) where
   monic-length i = length-monic M I (Q i) ∙ ap length (Q-trim z i)
 
   monic-degree : (i : ℕ) → deg (ops f) (monic (ops f) (Q i)) ≤ g
-  monic-degree i = let e = deg-monic M I (Q i) in let l = ap length (Q-trim z i) in let k = Q-length z i in omega arith
+  monic-degree i = let e = deg-monic M I (Q i) in let l = deg-Q z i in let k = Q-length z i in omega arith
 
   rem-length : (i : ℕ) → length (rem (ops f) (P i) (monic (ops f) (Q i))) < length (Q i)
   rem-length i =

@@ -28,7 +28,8 @@ use Rattle.spec_fields.specs.Named.{Arithmetic, arithmetic, ok-small}
 use Rattle.spec_laws.specs.Surd.{Surd, Q-oks, P-oks}
 use Rattle.spec_laws.specs.Fraction.{fraction, Q-length, Q-some}
 use Rattle.spec_laws.specs.Walk.{P-length}
-use Rattle.spec_laws.specs.QuasiPeriod.{size-length}
+use Rattle.spec_laws.specs.QuasiPeriod.{Quasi, size-length}
+use Rattle.spec_laws.specs.QuasiPeriod as over
 use Rattle.spec_laws.specs.Admitted.{Admitted, is-field, surd-of, admitted}
 use Rattle.spec_expansion.specs.Digits.{Digits, number, number-below, number-tells, sum-tells}
 
@@ -128,10 +129,19 @@ module _ {f : FieldName} {g : ℕ} {D : List ℕ} (h : Admitted f g D) where
   constant-size : (i : ℕ) → size (ops f) (Q i) ≡ 1 → fraction z .κ i ≡ 0
   constant-size i e = let l = size-length z i in omega arith
 
--- the quasi-period of the walk over the field
-pub period-of : (t : Ticket) (h : Admitted (t .field) (genus (t .n)) (t .D)) (m : ℕ) → IsQuasiPeriod t m → QuasiPeriod (arithmetic (t .field) (is-field h) .K) (fraction (surd-of h)) m
-unfolding rootOf
-period-of t h m q = record { positive = q .positive; constant = constant-size h m (q .constant); least = λ j l u e. q .least j l u (size-constant h j e) }
+-- as the first index from 1 to m, and over the field
+module _ (t : Ticket) (h : Admitted (t .field) (genus (t .n)) (t .D)) (m : ℕ) (q : IsQuasiPeriod t m) where
+  pub quasi-of : Quasi (opsOf t) (t .D) (root (opsOf t) (t .D) (suc (genus (t .n)))) m m
+  unfolding rootOf
+  quasi-of = record {
+    positive = q .positive;
+    within = omega arith;
+    constant = sym (size-length (surd-of h) m) ∙ q .constant;
+    least = λ j l u e. q .least j l u (size-length (surd-of h) j ∙ e);
+  }
+
+  pub period-of : QuasiPeriod (arithmetic (t .field) (is-field h) .K) (fraction (surd-of h)) m
+  period-of = over.quasi-period (surd-of h) quasi-of
 
 pub t2-exists : T2Exists
 unfolding rootOf

@@ -28,14 +28,14 @@ use Rattle.spec_bridge.specs.Arithmetic.{series-scale}
 use Rattle.spec_fields.specs.Named.{IsField, Ok, Arithmetic, arithmetic}
 use Rattle.spec_laws.specs.Surd.{Surd}
 use Rattle.spec_laws.specs.Fraction.{fraction}
-use Rattle.spec_laws.specs.QuasiPeriod.{Quasi, NoQuasi, Says, size-length, quasi-says, some-quasi}
+use Rattle.spec_laws.specs.QuasiPeriod.{Quasi, NoQuasi, Says, quasi-says, some-quasi}
 use Rattle.spec_laws.specs.Admitted.{Admitted, is-field, surd-of, admitted}
 use Rattle.spec_laws.specs.Cases as full
 use Rattle.spec_sentences.specs.Sentences.{Same}
 use Rattle.spec_sentences.specs.Arithmetic.{series-same, same-series}
 use Rattle.spec_demands.specs.Continued.{sumTo, Walks, t2}
 use Rattle.spec_demands.specs.LeastDegree.{Solves, LeastFound, least-spent, least-found}
-use Rattle.spec_expansion.specs.QuasiPeriod.{IsQuasiPeriod, t2-exists}
+use Rattle.spec_expansion.specs.QuasiPeriod.{IsQuasiPeriod, t2-exists, quasi-of}
 use Rattle.spec_answers.specs.Refusals.{First, t1-answers}
 use Rattle.spec_answers.specs.Outcomes.{degreeAt}
 use Rattle.spec_half.specs.Half.{Middle, byQ, byP, middlePeriod, firstMiddle, degreesTo, middleRegulator, HalfOutcome, halfFound, halfSpent, halfRefused, halfSaid, half-said-injective, halfOf, wordsHalf, halfAnswer}
@@ -350,18 +350,9 @@ module _ (t : Ticket) (h : Admitted (t .field) (genus (t .n)) (t .D)) where
       either : Finds m says ⊎ Spends says
       either = ⊎-elim (λ l. inl (finds l)) (λ l. inr (spends l)) (le-or-lt m (2 * b))
 
-  quasi-of : (m : ℕ) → IsQuasiPeriod t m → Quasi o D d m m
-  unfolding rootOf
-  quasi-of m q = record {
-    positive = q .positive;
-    within = omega arith;
-    constant = sym (size-length z m) ∙ q .constant;
-    least = λ j p l e. q .least j p l (size-length z j ∙ e);
-  }
-
   found-or-spent : (m : ℕ) → IsQuasiPeriod t m → HalfFoundOrSpent t m (halfSaid (halfOf t))
   unfolding rootOf degreeBefore
-  found-or-spent m q = by-cases m _ (λ l. ap halfSaid (finds-within m m (quasi-of m q) l)) (λ l. ap halfSaid (spent-beyond m m (quasi-of m q) l))
+  found-or-spent m q = by-cases m _ (λ l. ap halfSaid (finds-within m m (quasi-of t h m q) l)) (λ l. ap halfSaid (spent-beyond m m (quasi-of t h m q) l))
 
   -- ---- what it says of every solution
   half-least : LeastHalfIn (t .field) D (rootOf t) (halfOf t)

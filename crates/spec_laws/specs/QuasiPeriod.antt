@@ -13,6 +13,7 @@ use borrow.Author.Tests.{eqb-true, eqb-false}
 use Rattle.math_ring.specs.Order.{le-or-lt}
 use Rattle.math_algebra.specs.Field.{Field}
 use Rattle.math_algebra.specs.Polynomial.{F}
+use Rattle.math_surd.specs.QuasiPeriod.{QuasiPeriod}
 use Rattle.spec_arithmetic.specs.Field.{Ops}
 use Rattle.spec_arithmetic.specs.Polynomials.{size}
 use Rattle.spec_definitions.specs.Walk.{constant?, firstFrom, quasiPeriod}
@@ -20,6 +21,7 @@ use Rattle.spec_definitions.specs.Walk as lists
 use Rattle.spec_bridge.specs.Model.{Model}
 use Rattle.spec_bridge.specs.Trim.{size-is}
 use Rattle.spec_laws.specs.Surd.{Surd, Q-trim}
+use Rattle.spec_laws.specs.Fraction.{fraction, Q-some}
 
 module _ {A : Type 0} (o : Ops A) (D d : List A) where
   abbrev Q : ℕ → List A
@@ -42,6 +44,10 @@ module _ {A : Type 0} (o : Ops A) (D d : List A) where
 module _ {A B : Type 0} {o : Ops A} {K : Field B} {M : Model o (F K)} {g : ℕ} {D d : List A} (s : Surd K M g D d) where
   abbrev q : ℕ → List A
   q = lists.Q o D d
+
+  -- ---- over the field
+  pub quasi-period : {b m : ℕ} → Quasi o D d b m → QuasiPeriod K (fraction s) m
+  quasi-period first = record { positive = first .positive; constant = let e = first .constant in omega arith; least = λ j l u e. first .least j l u (let k = Q-some s j in omega arith) }
 
   -- ---- the test
   pub size-length : (i : ℕ) → size o (q i) ≡ length (q i)

@@ -9,7 +9,6 @@ use lib.ListN.{length}
 use Rattle.math_algebra.specs.Field.{Field}
 use Rattle.math_algebra.specs.Polynomial.{F, Deg, low-up, low-one}
 use Rattle.math_surd.specs.Units.{Scaled}
-use Rattle.math_surd.specs.QuasiPeriod.{QuasiPeriod}
 use Rattle.math_surd.specs.LeastDegree.{Solution}
 use Rattle.math_surd.specs.LeastDegree as least
 use Rattle.spec_arithmetic.specs.Field.{Ops}
@@ -23,7 +22,7 @@ use Rattle.spec_laws.specs.Surd.{Surd}
 use Rattle.spec_laws.specs.Fraction.{fraction, Q-some}
 use Rattle.spec_laws.specs.Convergents.{degree-distance}
 use Rattle.spec_laws.specs.Signs.{normOf, series-norm}
-use Rattle.spec_laws.specs.QuasiPeriod.{Quasi, NoQuasi}
+use Rattle.spec_laws.specs.QuasiPeriod.{Quasi, NoQuasi, quasi-period}
 
 module _ {A B : Type 0} {o : Ops A} {K : Field B} {M : Model o (F K)} {g : ℕ} {D d : List A} (h : Surd K M g D d) where
   abbrev Q : ℕ → List A
@@ -59,16 +58,13 @@ module _ {A B : Type 0} {o : Ops A} {K : Field B} {M : Model o (F K)} {g : ℕ} 
         omega arith
 
     module _ {b m : ℕ} (first : Quasi o D d b m) where
-      quasi-period : QuasiPeriod K (fraction h) m
-      quasi-period = record { positive = first .positive; constant = let e = first .constant in omega arith; least = λ j l u e. first .least j l u (let k = Q-some h j in omega arith) }
-
       pub degree-at-least : degreeBefore o D d m ≤ deg o p
       degree-at-least =
-          let r = least.found K (fraction h) m quasi-period solution in
+          let r = least.found K (fraction h) m (quasi-period h first) solution in
           let e = degree-distance h m in
           let k = degree-of (r .0) (r .1) in
           let l = r .2 in
           omega arith
 
       pub only : deg o p ≡ degreeBefore o D d m → Scaled K (fraction h) m (series M p) (series M s)
-      only e = least.only K (fraction h) m quasi-period solution (let r = least.found K (fraction h) m quasi-period solution in subst (Deg K (series M p)) (sym (degree-of (r .0) (r .1)) ∙ e ∙ degree-distance h m) (r .1))
+      only e = least.only K (fraction h) m (quasi-period h first) solution (let r = least.found K (fraction h) m (quasi-period h first) solution in subst (Deg K (series M p)) (sym (degree-of (r .0) (r .1)) ∙ e ∙ degree-distance h m) (r .1))

@@ -1,11 +1,10 @@
 -- The conjugate of the ideal of an index, on the definitions' lists: for a ticket with the quasi-period m and
--- R = deg p_{m−1}, the conjugate of the ideal of index j is that of index m − j, or of 0 where j is 0. Its distance is the
--- mirror of j, or the mirror is R. Carried by the symmetry of the walk.
+-- R = deg p_{m−1}, the conjugate of the ideal of index j is that of index m − j, or of 0 where j is 0. Where j is not
+-- 0 its distance is the mirror of j; the mirror of 0 is R. Carried by the symmetry of the walk.
 use Prim.Native.Nat.{ℕ, zero, suc, _-_, _<_}
 use native.Mathlib.Omega.{arith}
-use mathlib.Core.Path.{_≡_, sym, ap, _∙_}
-use mathlib.Core.List.{List, [], _∷_}
-use lib.ListN.{length}
+use mathlib.Core.Path.{_≡_, sym, _∙_}
+use mathlib.Core.List.{[], _∷_}
 use Rattle.math_ring.specs.Identity.{ring, quote}
 use Rattle.math_ring.specs.Series.{Series, addS, negS}
 use Rattle.math_algebra.specs.Field.{Field}
@@ -19,14 +18,16 @@ use Rattle.math_symmetry.specs.Distinct.{distinct}
 use Rattle.spec_arithmetic.specs.Polynomials.{deg, root}
 use Rattle.spec_definitions.specs.Ticket.{Ticket, genus}
 use Rattle.spec_definitions.specs.Walk.{degreeBefore}
+use Rattle.spec_definitions.specs.Walk as walk
 use Rattle.spec_definitions.specs.Answers.{opsOf, rootOf}
 use Rattle.spec_definitions.specs.Listing.{idealOf, entryOf, mirrorOf}
 use Rattle.spec_bridge.specs.Model.{Model, series}
 use Rattle.spec_bridge.specs.Trim.{series-ext}
 use Rattle.spec_bridge.specs.Monic.{deg-monic}
 use Rattle.spec_fields.specs.Named.{arithmetic}
-use Rattle.spec_laws.specs.Surd.{Surd, Q-trim}
+use Rattle.spec_laws.specs.Surd.{Surd}
 use Rattle.spec_laws.specs.Fraction.{fraction}
+use Rattle.spec_laws.specs.Walk.{deg-Q}
 use Rattle.spec_laws.specs.Admitted.{Admitted, is-field, surd-of}
 use Rattle.spec_expansion.specs.QuasiPeriod.{IsQuasiPeriod, period-of}
 use Rattle.spec_answers.specs.Outcomes.{degreeAt}
@@ -75,7 +76,7 @@ module _ (t : Ticket) where
 
       degree-is : (j : ℕ) → deg (opsOf t) (ideal t j .q) ≡ fraction z .κ j
       unfolding entryOf idealOf rootOf
-      degree-is j = deg-monic M (z .inverts) _ ∙ ap (λ (l : List ℕ). length l - 1) (Q-trim z j)
+      degree-is j = let a = deg-monic M (z .inverts) (walk.Q (opsOf t) (t .D) (rootOf t) j) in let b = deg-Q z j in omega arith
 
       mirror-is : (j : ℕ) → μ R j ≡ conjugate-distance K (fraction z) m j
       unfolding mirrorOf

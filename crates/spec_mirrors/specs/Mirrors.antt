@@ -1,6 +1,6 @@
--- R-6: the mirror of a record is the distance of its conjugate, read from the words of the list at exit. For each record
--- of a found listing the record at the distance `mirror`, or record 1 where the mirror is R, is its conjugate, and no
--- other record is; where the mirror is below R, lookup at it hands that record back.
+-- R-6: the mirror of a record is the distance of its conjugate, read from the words of the list at exit. For each
+-- record of a found listing the record at the distance `mirror`, or record 1 where the mirror is R, is its conjugate,
+-- and no other record is; where the mirror is below R, lookup at it hands that record back.
 use Prim.Native.Nat.{ℕ, suc, _+_, _*_, _≤_, _<_}
 use native.Mathlib.Nat.{eq-zero-or-pos}
 use native.Mathlib.Omega.{arith}
@@ -47,8 +47,8 @@ use Rattle.spec_mirrors.specs.Conjugates.{μ, conjugate-Q, conjugate-sum
 pub record ConjugateRead (t : Ticket) (l : List ℕ) (i j : ℕ) : Type 0 where
   -- "the same Q"
   pub same-Q : QRead (t .n) i l ≡ QRead (t .n) j l
-  -- "and P negated modulo Q": the remainder of −P by Q, in g coefficients; without a remainder, Q divides the sum of
-  -- the two P
+  -- "and P negated modulo Q": the remainder of −P by Q, in g coefficients; and, without `rem`, Q divides the sum of the
+  -- two P
   pub minus-P : PRead (t .n) i l ≡ pad (opsOf t) (genus (t .n)) (rem (opsOf t) (sub (opsOf t) [] (PRead (t .n) j l)) (QRead (t .n) j l))
   pub sum : Divides (t .field) (QRead (t .n) j l) (add (opsOf t) (PRead (t .n) i l) (PRead (t .n) j l))
 
@@ -64,7 +64,7 @@ pub record MirrorHolds (t : Ticket) (R m j : ℕ) (l : List ℕ) : Type 0 where
   -- no other record is at that distance, and no other is the conjugate
   pub only-there : (i : ℕ) → i < m → distanceRead (t .n) i l ≡ mirrorRead (t .n) j l → i ≡ at
   pub only-conjugate : (i : ℕ) → i < m → ConjugateRead t l i j → i ≡ at
-  -- the mirror of the conjugate is the record's own distance
+  -- where the mirror is below R, the mirror of the conjugate is the record's own distance
   pub back : mirrorRead (t .n) j l < R → mirrorRead (t .n) at l ≡ distanceRead (t .n) j l
   -- the mirror is R for record 1 and for no other
   pub whole : (mirrorRead (t .n) j l ≡ R) ↔ (j ≡ 0)

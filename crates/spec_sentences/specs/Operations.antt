@@ -24,7 +24,7 @@ use Rattle.spec_bridge.specs.Arithmetic.{at-add, at-sub, at-scale, oks-add, oks
 use Rattle.spec_bridge.specs.Product.{dots, dots-mul}
 use Rattle.spec_bridge.specs.Division.{oks-quo, oks-rem, trim-quo, trim-rem}
 use Rattle.spec_bridge.specs.Derivative.{φ-times, ok-times, series-derivative, oks-derivative, trim-derivative}
-use Rattle.spec_bridge.specs.Monic.{oks-monic, trim-monic, length-monic, monic-top}
+use Rattle.spec_bridge.specs.Monic.{oks-monic, length-monic, size-monic, monic-top}
 use Rattle.spec_bridge.specs.Bezout.{oks-gcd, trim-gcd}
 use Rattle.spec_bridge.specs.Root.{oks-root, trim-root}
 use Rattle.spec_bridge.specs.Residues.{pos, model, inverse-lt, inverse-mul, to-path, to-val}
@@ -178,7 +178,7 @@ module _ (f : FieldName) (named : IsField f) where
     below = inverse-lt (f .q) (pos (f .q) (named .prime)) (lead (ops f) a);
     is = λ i. refl;
     leads = lead-is-one f named (monic (ops f) a) {n = length (trim (ops f) a) - 1} (oks-monic Mₚ I a) (record { low = λ i l. below-length Mₚ (monic (ops f) a) i (let e = length-monic Mₚ I a in omega (arith, long)); top = monic-top Mₚ I a long });
-    same-size = size-is Mₚ (monic (ops f) a) ∙ ap length (trim-monic Mₚ I a) ∙ length-monic Mₚ I a ∙ sym (size-is Mₚ a);
+    same-size = size-monic Mₚ I a;
   }
     where
       long : 0 < length (trim (ops f) a)

@@ -46,7 +46,7 @@ returns c =
     let s = i .before .before .before .before in
     let a = s .args in
     let x = i .ideal-of .ensures in
-    record-written (a .f .q) (a .n) (a .r .0) (a .index .0) (a .distance .0) (a .d .now) (a .rest .now) (a .current .now) (a .size) _ _ _ (a .out .now) (a .at) (s .pre .1 .0 .1) (monic-degree _ _ _ (s .pre .1 .1 .1 .0) _ _ (x .0) (s .pre .0 .0)) (x .0 .places) (x .1 .places) (c .before .before .put-record .ensures (a .f .q))
+    record-written (a .f .q) (a .n) (a .r .0) (a .index .0) (a .distance .0) (a .d .now) (a .rest .now) (a .current .now) (a .size) _ _ _ (a .out .now) (a .at) (s .pre .1 .0 .1) (monic-degree _ _ _ (s .pre .1 .1 .1 .0) (s .pre .0 .0)) (x .0 .places) (x .1 .places) (c .before .before .put-record .ensures (a .f .q))
 
 pub write-record-spec : {M : Type 1} → statement M
 write-record-spec =
