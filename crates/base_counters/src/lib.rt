@@ -1,5 +1,7 @@
 // The two counts of a walk. Each is a type of its own, so that one is never taken for the other:
 // a conversion is always by name, `Index(n)` or `i.0`.
+#![tactic(auto)]
+
 
 // A walk's index, the source's i; also the quasi-period and the number of steps taken.
 #[derive(Drop)]

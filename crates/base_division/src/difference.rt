@@ -1,7 +1,7 @@
 // The difference v − w·u in place: arrays by reference, with the sizes that the caller keeps, and one reduction
 // a coefficient.
 ghost use Rattle.std.specs.Prelude.{◌≡◌, ◌+◌, ◌*◌, ◌-◌, ◌<◌, ◌≤◌, ◌%◌, length, get_or};
-ghost use Rattle.spec_arithmetic.specs.Polynomials.{sub as subOf, mul as mulOf};
+ghost use Rattle.spec_arithmetic.specs.Polynomials.{sub as sub_of, mul as mul_of};
 ghost use Rattle.base_places.specs.Places.{Places, Within};
 ghost use Rattle.base_places.specs.Record.{poly, Is};
 ghost use Rattle.base_field.specs.Named.{name, ops, IsField, Ok};
@@ -33,7 +33,7 @@ fn rest_many(
     requires field { IsField f × (l ≤ 129) × (i < 129) × Ok f (get_or v.now i 0) }
     requires within { Within (name f) w.now l }
     requires within_2 { Within (name f) u.now k }
-    ensures { result ≡ (ops f).sub (get_or v.now i 0) (get_or (mulOf (ops f) w.now u.now) i 0) }
+    ensures { result ≡ (ops f).sub (get_or v.now i 0) (get_or (mul_of (ops f) w.now u.now) i 0) }
 {
     let product = base_field::reduce(f, terms(f, w, u, i, l, k));
     base_field::sub(f, v[i], product)
@@ -52,7 +52,7 @@ fn rest_two(
     requires field { IsField f × (l ≤ 2) × (i < 129) × Ok f (get_or v.now i 0) }
     requires within { Within (name f) w.now l }
     requires within_2 { Within (name f) u.now k }
-    ensures { result ≡ (ops f).sub (get_or v.now i 0) (get_or (mulOf (ops f) w.now u.now) i 0) }
+    ensures { result ≡ (ops f).sub (get_or v.now i 0) (get_or (mul_of (ops f) w.now u.now) i 0) }
 {
     let y = below(u, i);
     less_two(f, v[i], w[0], w[1], u[i], y)
@@ -71,7 +71,7 @@ pub fn rest_at(
     requires field { IsField f × (l ≤ 129) × (i < 129) × Ok f (get_or v.now i 0) }
     requires within { Within (name f) w.now l }
     requires within_2 { Within (name f) u.now k }
-    ensures { result ≡ (ops f).sub (get_or v.now i 0) (get_or (mulOf (ops f) w.now u.now) i 0) }
+    ensures { result ≡ (ops f).sub (get_or v.now i 0) (get_or (mul_of (ops f) w.now u.now) i 0) }
 {
     if l <= 2 {
         rest_two(f, v, w, l, u, k, i)
@@ -95,7 +95,7 @@ fn subtract_many(
     requires within { Within (name f) v.old n }
     requires within_2 { Within (name f) w.now l }
     requires within_3 { Within (name f) u.now k }
-    ensures { Places v.new (λ i. (ops f).sub (get_or v.old i 0) (get_or (mulOf (ops f) w.now u.now) i 0)) }
+    ensures { Places v.new (λ i. (ops f).sub (get_or v.old i 0) (get_or (mul_of (ops f) w.now u.now) i 0)) }
 {
     let mut i: usize = 0;
     while i < n {
@@ -119,7 +119,7 @@ fn subtract_two(
     requires within { Within (name f) v.old n }
     requires within_2 { Within (name f) w.now l }
     requires within_3 { Within (name f) u.now k }
-    ensures { Places v.new (λ i. (ops f).sub (get_or v.old i 0) (get_or (mulOf (ops f) w.now u.now) i 0)) }
+    ensures { Places v.new (λ i. (ops f).sub (get_or v.old i 0) (get_or (mul_of (ops f) w.now u.now) i 0)) }
 {
     let w0 = w[0];
     let w1 = w[1];
@@ -147,7 +147,7 @@ fn subtract_places(
     requires within { Within (name f) v.old n }
     requires within_2 { Within (name f) w.now l }
     requires within_3 { Within (name f) u.now k }
-    ensures { Places v.new (λ i. (ops f).sub (get_or v.old i 0) (get_or (mulOf (ops f) w.now u.now) i 0)) }
+    ensures { Places v.new (λ i. (ops f).sub (get_or v.old i 0) (get_or (mul_of (ops f) w.now u.now) i 0)) }
 {
     if l <= 2 {
         subtract_two(f, v, w, l, u, k, n);
@@ -170,7 +170,7 @@ pub fn subtract_product(
     requires within { Within (name f) v.old size }
     requires within_2 { Within (name f) w.now l }
     requires within_3 { Within (name f) u.now k }
-    ensures { Is (name f) v.new result (subOf (ops f) (poly v.old size) (mulOf (ops f) (poly w.now l) (poly u.now k))) }
+    ensures { Is (name f) v.new result (sub_of (ops f) (poly v.old size) (mul_of (ops f) (poly w.now l) (poly u.now k))) }
 {
     let n = larger(size, excess(l + k, 1));
     subtract_places(f, v, w, l, u, k, n);

@@ -1,6 +1,6 @@
 // Division in place: arrays by reference, with the sizes that the caller keeps, and one reduction a coefficient.
 ghost use Rattle.std.specs.Prelude.{◌≡◌, ◌+◌, ◌-◌, ◌<◌, length, get_or};
-ghost use Rattle.spec_arithmetic.specs.Polynomials.{quo as quoOf, rem as remOf, pad};
+ghost use Rattle.spec_arithmetic.specs.Polynomials.{quo as quo_of, rem as rem_of, pad};
 ghost use Rattle.base_places.specs.Places.{Places};
 ghost use Rattle.base_places.specs.Row.{Ends};
 ghost use Rattle.base_places.specs.Record.{poly, Held, Is};
@@ -27,7 +27,7 @@ fn quotient_places(
     requires held { Held (name f) a.now m }
     requires held_2 { Held (name f) b.now n }
     requires z_len { (length z.old ≡ 129) × Ends z.old 0 }
-    ensures { Places z.new (λ i. get_or (quoOf (ops f) (poly a.now m) (poly b.now n)) i 0) }
+    ensures { Places z.new (λ i. get_or (quo_of (ops f) (poly a.now m) (poly b.now n)) i 0) }
 {
     let mut k = l;
     while 0 < k {
@@ -51,8 +51,8 @@ fn divide_by(
     requires held { Held (name f) a.old m }
     requires held_2 { Held (name f) b.now n }
     requires z_len { (length z.old ≡ 129) × Ends z.old 0 }
-    ensures is { Is (name f) a.new result (remOf (ops f) (poly a.old m) (poly b.now n)) }
-    ensures z_after { z.new ≡ pad (ops f) 129 (quoOf (ops f) (poly a.old m) (poly b.now n)) }
+    ensures is { Is (name f) a.new result (rem_of (ops f) (poly a.old m) (poly b.now n)) }
+    ensures z_after { z.new ≡ pad (ops f) 129 (quo_of (ops f) (poly a.old m) (poly b.now n)) }
 {
     let lead_inverse = base_field::inverse(f, b[n - 1]);
     let l = excess(m + 1, n);
@@ -74,8 +74,8 @@ pub fn divide_cleared(
     requires held { Held (name f) a.old m }
     requires held_2 { Held (name f) b.now n }
     requires z_len { (length z.old ≡ 129) × Ends z.old 0 }
-    ensures is { Is (name f) a.new result (remOf (ops f) (poly a.old m) (poly b.now n)) }
-    ensures z_after { z.new ≡ pad (ops f) 129 (quoOf (ops f) (poly a.old m) (poly b.now n)) }
+    ensures is { Is (name f) a.new result (rem_of (ops f) (poly a.old m) (poly b.now n)) }
+    ensures z_after { z.new ≡ pad (ops f) 129 (quo_of (ops f) (poly a.old m) (poly b.now n)) }
 {
     if m < n {
         m
@@ -89,7 +89,7 @@ pub fn remainder(f: Field, a: &mut [u32; 129], m: usize, b: &[u32; 129], n: usiz
     requires field { IsField f × (0 < n) }
     requires held { Held (name f) a.old m }
     requires held_2 { Held (name f) b.now n }
-    ensures { Is (name f) a.new result (remOf (ops f) (poly a.old m) (poly b.now n)) }
+    ensures { Is (name f) a.new result (rem_of (ops f) (poly a.old m) (poly b.now n)) }
 {
     let mut z = [0u32; 129];
     divide_cleared(f, a, m, b, n, &mut z)
@@ -107,7 +107,7 @@ pub fn quotient(
     requires field { IsField f × (0 < n) }
     requires held { Held (name f) a.now m }
     requires held_2 { Held (name f) b.now n }
-    ensures { Is (name f) z.new result (quoOf (ops f) (poly a.now m) (poly b.now n)) }
+    ensures { Is (name f) z.new result (quo_of (ops f) (poly a.now m) (poly b.now n)) }
 {
     *z = [0u32; 129];
     let lead_inverse = base_field::inverse(f, b[n - 1]);

@@ -1,7 +1,7 @@
 // The greatest common divisor with Bezout's factors, on arrays that take turns: a becomes the remainder by b,
 // and b is the first of the next pair.
 ghost use Rattle.std.specs.Prelude.{[], ◌∷◌};
-ghost use Rattle.spec_arithmetic.specs.Polynomials.{trim, lead as leadOf, monic as monicOf, bezout as bezoutOf};
+ghost use Rattle.spec_arithmetic.specs.Polynomials.{trim, lead as lead_of, monic as monic_of, bezout as bezout_of};
 ghost use Rattle.base_places.specs.Record.{poly, Held, Is};
 ghost use Rattle.base_field.specs.Named.{name, ops, IsField, Ok};
 
@@ -48,8 +48,8 @@ fn bezout_zero(
 ) -> Sizes
     requires field { IsField f }
     requires held { Held (name f) a.now m }
-    ensures is { Is (name f) g.new result.gcd (monicOf (ops f) (poly a.now m)) }
-    ensures is_2 { Is (name f) u.new result.u (trim (ops f) ((ops f).inv (leadOf (ops f) (poly a.now m)) ∷ [])) }
+    ensures is { Is (name f) g.new result.gcd (monic_of (ops f) (poly a.now m)) }
+    ensures is_2 { Is (name f) u.new result.u (trim (ops f) ((ops f).inv (lead_of (ops f) (poly a.now m)) ∷ [])) }
     ensures is_3 { Is (name f) v.new result.v [] }
 {
     let w = lead_inverse(f, a, m);
@@ -76,9 +76,9 @@ pub fn bezout(
     requires field { IsField f }
     requires held { Held (name f) a.old m }
     requires held_2 { Held (name f) b.old n }
-    ensures is { Is (name f) g.new result.gcd (bezoutOf (ops f) (poly a.old m) (poly b.old n)).gcd }
-    ensures is_2 { Is (name f) u.new result.u (bezoutOf (ops f) (poly a.old m) (poly b.old n)).u }
-    ensures is_3 { Is (name f) v.new result.v (bezoutOf (ops f) (poly a.old m) (poly b.old n)).v }
+    ensures is { Is (name f) g.new result.gcd (bezout_of (ops f) (poly a.old m) (poly b.old n)).gcd }
+    ensures is_2 { Is (name f) u.new result.u (bezout_of (ops f) (poly a.old m) (poly b.old n)).u }
+    ensures is_3 { Is (name f) v.new result.v (bezout_of (ops f) (poly a.old m) (poly b.old n)).v }
 {
     if n == 0 {
         bezout_zero(f, a, m, g, u, v)
@@ -117,8 +117,8 @@ pub fn first_factor(
     requires field { IsField f }
     requires held { Held (name f) a.old m }
     requires held_2 { Held (name f) b.old n }
-    ensures is { Is (name f) g.new result.gcd (bezoutOf (ops f) (poly a.old m) (poly b.old n)).gcd }
-    ensures is_2 { Is (name f) u.new result.u (bezoutOf (ops f) (poly a.old m) (poly b.old n)).u }
+    ensures is { Is (name f) g.new result.gcd (bezout_of (ops f) (poly a.old m) (poly b.old n)).gcd }
+    ensures is_2 { Is (name f) u.new result.u (bezout_of (ops f) (poly a.old m) (poly b.old n)).u }
 {
     let mut v = [0u32; 129];
     if n == 0 {

@@ -1,5 +1,5 @@
 // The greatest common divisor by Euclid's rule, on arrays that take turns.
-ghost use Rattle.spec_arithmetic.specs.Polynomials.{gcd as gcdOf};
+ghost use Rattle.spec_arithmetic.specs.Polynomials.{gcd as gcd_of};
 ghost use Rattle.base_places.specs.Record.{poly, Held, Is};
 ghost use Rattle.base_field.specs.Named.{name, ops, IsField};
 
@@ -21,7 +21,7 @@ pub fn gcd(
     requires field { IsField f }
     requires held { Held (name f) a.old m }
     requires held_2 { Held (name f) b.old n }
-    ensures { Is (name f) g.new result (gcdOf (ops f) (poly a.old m) (poly b.old n)) }
+    ensures { Is (name f) g.new result (gcd_of (ops f) (poly a.old m) (poly b.old n)) }
 {
     if n == 0 {
         monic(f, a, m, g)

@@ -1,4 +1,6 @@
 // The field of q elements on coefficients below q.
+#![tactic(auto)]
+
 ghost use Rattle.std.specs.Prelude.{◌≡◌, ◌/◌, ◌%◌, ◌<◌};
 ghost use Rattle.base_field.specs.Named.{ops, IsField, Ok, largest};
 

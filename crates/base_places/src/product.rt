@@ -1,6 +1,6 @@
 // Products: each coefficient is a sum of products over the places that both factors have, reduced once.
 ghost use Rattle.std.specs.Prelude.{◌≡◌, ◌+◌, ◌-◌, ◌<◌, ◌≤◌, get_or};
-ghost use Rattle.spec_arithmetic.specs.Polynomials.{mul as mulOf};
+ghost use Rattle.spec_arithmetic.specs.Polynomials.{mul as mul_of};
 ghost use Rattle.spec_bridge.specs.Product.{shifted};
 ghost use Rattle.base_places.specs.Places.{Places, Within};
 ghost use Rattle.base_places.specs.Terms.{Terms};
@@ -46,7 +46,7 @@ pub fn dot(f: Field, x: &[u32; 129], y: &[u32; 129], k: usize, m: usize, n: usiz
     requires field { IsField f × (k < 129) × (m ≤ 129) }
     requires within { Within (name f) x.now m }
     requires within_2 { Within (name f) y.now n }
-    ensures { result ≡ get_or (mulOf (ops f) x.now y.now) k 0 }
+    ensures { result ≡ get_or (mul_of (ops f) x.now y.now) k 0 }
 {
     base_field::reduce(f, terms(f, x, y, k, m, n))
 }
@@ -56,7 +56,7 @@ pub fn mul_places(f: Field, x: &[u32; 129], y: &[u32; 129], m: usize, n: usize, 
     requires field { IsField f × (m ≤ 129) × (n ≤ 129) × (m + n ≤ 130) }
     requires within { Within (name f) x.now m }
     requires within_2 { Within (name f) y.now n }
-    ensures { Places z.new (λ i. get_or (mulOf (ops f) x.now y.now) i 0) }
+    ensures { Places z.new (λ i. get_or (mul_of (ops f) x.now y.now) i 0) }
 {
     *z = [0u32; 129];
     let end = excess(m + n, 1);

@@ -1,7 +1,7 @@
 // Sums, differences, products and monic polynomials on arrays of coefficients by reference, with the sizes that
 // the caller keeps.
 ghost use Rattle.std.specs.Prelude.{◌≡◌, ◌+◌, ◌≤◌};
-ghost use Rattle.spec_arithmetic.specs.Polynomials.{add as addOf, sub as subOf, mul as mulOf, lead as leadOf, monic as monicOf};
+ghost use Rattle.spec_arithmetic.specs.Polynomials.{add as add_of, sub as sub_of, mul as mul_of, lead as lead_of, monic as monic_of};
 ghost use Rattle.base_places.specs.Record.{poly, Held, Is};
 ghost use Rattle.base_field.specs.Named.{name, ops, IsField};
 
@@ -21,7 +21,7 @@ pub fn add(
     requires field { IsField f }
     requires held { Held (name f) x.now m }
     requires held_2 { Held (name f) y.now n }
-    ensures { Is (name f) z.new result (addOf (ops f) (poly x.now m) (poly y.now n)) }
+    ensures { Is (name f) z.new result (add_of (ops f) (poly x.now m) (poly y.now n)) }
 {
     let end = larger(m, n);
     add_places(f, x, y, end, z);
@@ -40,7 +40,7 @@ pub fn subtract(
     requires field { IsField f }
     requires held { Held (name f) x.now m }
     requires held_2 { Held (name f) y.now n }
-    ensures { Is (name f) z.new result (subOf (ops f) (poly x.now m) (poly y.now n)) }
+    ensures { Is (name f) z.new result (sub_of (ops f) (poly x.now m) (poly y.now n)) }
 {
     let end = larger(m, n);
     sub_places(f, x, y, end, z);
@@ -59,7 +59,7 @@ pub fn multiply(
     requires field { IsField f × (m + n ≤ 130) }
     requires held { Held (name f) x.now m }
     requires held_2 { Held (name f) y.now n }
-    ensures { Is (name f) z.new result (mulOf (ops f) (poly x.now m) (poly y.now n)) }
+    ensures { Is (name f) z.new result (mul_of (ops f) (poly x.now m) (poly y.now n)) }
 {
     mul_places(f, x, y, m, n, z);
     top(z, excess(m + n, 1))
@@ -68,7 +68,7 @@ pub fn multiply(
 // The inverse of the leading coefficient of a, of m places; 0 for the zero polynomial.
 pub fn lead_inverse(f: Field, a: &[u32; 129], m: usize) -> u32
     requires { IsField f × Held (name f) a.now m }
-    ensures { result ≡ (ops f).inv (leadOf (ops f) (poly a.now m)) }
+    ensures { result ≡ (ops f).inv (lead_of (ops f) (poly a.now m)) }
 {
     if m == 0 {
         0
@@ -79,8 +79,8 @@ pub fn lead_inverse(f: Field, a: &[u32; 129], m: usize) -> u32
 
 // g becomes a, of m places, over its leading coefficient, whose inverse is w. Returns its size.
 pub fn monic_by(f: Field, w: u32, a: &[u32; 129], m: usize, g: &mut [u32; 129]) -> usize
-    requires { IsField f × Held (name f) a.now m × (w ≡ (ops f).inv (leadOf (ops f) (poly a.now m))) }
-    ensures { Is (name f) g.new result (monicOf (ops f) (poly a.now m)) }
+    requires { IsField f × Held (name f) a.now m × (w ≡ (ops f).inv (lead_of (ops f) (poly a.now m))) }
+    ensures { Is (name f) g.new result (monic_of (ops f) (poly a.now m)) }
 {
     scale_places(f, w, a, m, g);
     top(g, m)
@@ -89,7 +89,7 @@ pub fn monic_by(f: Field, w: u32, a: &[u32; 129], m: usize, g: &mut [u32; 129]) 
 // g becomes a, of m places, over its leading coefficient. Returns its size.
 pub fn monic(f: Field, a: &[u32; 129], m: usize, g: &mut [u32; 129]) -> usize
     requires { IsField f × Held (name f) a.now m }
-    ensures { Is (name f) g.new result (monicOf (ops f) (poly a.now m)) }
+    ensures { Is (name f) g.new result (monic_of (ops f) (poly a.now m)) }
 {
     let w = lead_inverse(f, a, m);
     monic_by(f, w, a, m, g)

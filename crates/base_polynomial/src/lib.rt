@@ -1,4 +1,6 @@
 // Polynomials over the field of q elements, as a record of 129 coefficients with its size.
+#![tactic(auto)]
+
 pub mod arrays;
 pub mod linear;
 pub mod product;

@@ -1,6 +1,6 @@
 // The zero polynomial and the leading coefficient. Re-exports of base_places: sums, differences and sizes.
 ghost use Rattle.std.specs.Prelude.{◌≡◌, []};
-ghost use Rattle.spec_arithmetic.specs.Polynomials.{lead as leadOf};
+ghost use Rattle.spec_arithmetic.specs.Polynomials.{lead as lead_of};
 ghost use Rattle.base_polynomial.specs.Whole.{poly, Held, Holds};
 ghost use Rattle.base_field.specs.Named.{ops};
 
@@ -21,7 +21,7 @@ pub fn zero() -> Poly
 // The leading coefficient, 0 for the zero polynomial.
 pub fn lead(f: Field, a: Poly) -> u32
     requires { Held f a }
-    ensures { result ≡ leadOf (ops f) (poly a) }
+    ensures { result ≡ lead_of (ops f) (poly a) }
 {
     let n = a.size;
     if n == 0 { 0 } else { a.c[n - 1] }

@@ -1,4 +1,6 @@
 // Which q are allowed: the odd primes below 4,096, found by division.
+#![tactic(auto)]
+
 ghost use Rattle.std.specs.Prelude.{◌≡◌};
 ghost use Rattle.spec_arithmetic.specs.Primes.{odd_prime};
 

@@ -1,6 +1,8 @@
 // Words of 32 bits, the top 4 bits the kind and the low 28 the value; numbers of two words.
+#![tactic(auto)]
+
 ghost use Rattle.std.specs.Prelude.{◌≡◌, ◌<◌};
-ghost use Rattle.spec_arithmetic.specs.Words.{values, kind as kind_of, value as value_of, word as word_of, high as high_of, low as low_of, joined as joinedOf};
+ghost use Rattle.spec_arithmetic.specs.Words.{values, kind as kind_of, value as value_of, word as word_of, high as high_of, low as low_of, joined as joined_of};
 ghost use Rattle.base_words.specs.Numbers.{kinds, pairs};
 
 // How many values a word has: 2²⁸.
@@ -45,7 +47,7 @@ pub fn low(x: u64) -> u32
 
 // The number of two words with these values.
 pub fn joined(high: u32, low: u32) -> u64
-    ensures { result ≡ joinedOf high low }
+    ensures { result ≡ joined_of high low }
 {
     high as u64 * VALUES as u64 + low as u64
 }

@@ -1,5 +1,7 @@
 // Products and giant steps for measuring their time: a ticket and two pairs are read once, then the same is
 // made again and again.
+#![tactic(auto)]
+
 pub mod turns;
 
 ghost use Rattle.std.specs.Prelude.{◌≡◌, ℕ, ◌≤◌};

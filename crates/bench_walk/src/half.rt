@@ -5,7 +5,7 @@ ghost use Rattle.spec_definitions.specs.Ticket.{genus, budgets};
 ghost use Rattle.spec_definitions.specs.Walk.{degree_before};
 ghost use Rattle.spec_laws.specs.Admitted.{Admitted};
 ghost use Rattle.base_field.specs.Named.{IsField, name, ops};
-ghost use Rattle.base_polynomial.specs.Record.{poly as polyAt, Held as HeldAt};
+ghost use Rattle.base_polynomial.specs.Record.{poly as poly_at, Held as HeldAt};
 ghost use Rattle.base_polynomial.specs.Whole.{poly, Held};
 ghost use Rattle.walk_state.specs.State.{root_d};
 ghost use Rattle.walk_state.specs.Start.{Prepared};
@@ -65,10 +65,10 @@ fn try_on(
     steps: u64,
 ) -> Tried
     requires field { IsField f }
-    requires admitted { Admitted (name f) (genus n) (polyAt radicand.now size) }
+    requires admitted { Admitted (name f) (genus n) (poly_at radicand.now size) }
     requires held_at { HeldAt (name f) radicand.now size × (2 ≤ n) × (steps < budgets) }
-    requires prepared { Prepared (name f) (genus n) (polyAt radicand.now size) inverses.now d.now twice.now }
-    ensures degree { result.degree ≡ degree_before (ops f) (polyAt radicand.now size) (root_d (name f) (genus n) (polyAt radicand.now size)) steps }
+    requires prepared { Prepared (name f) (genus n) (poly_at radicand.now size) inverses.now d.now twice.now }
+    ensures degree { result.degree ≡ degree_before (ops f) (poly_at radicand.now size) (root_d (name f) (genus n) (poly_at radicand.now size)) steps }
     ensures few { result.stops ≤ steps }
 {
     let top = n / 2 + 1;

@@ -1,5 +1,7 @@
 // The runs for measuring the time of a step: so many steps of a ticket's walk with the product of 2/lc Q_j, past every
 // constant Q; so many with the tests of half the walk after each, past every middle.
+#![tactic(auto)]
+
 pub mod advance;
 pub mod half;
 

@@ -1,5 +1,7 @@
 // The call `estimate`: the estimate of the class number, for a ticket of any words, as a fraction that is not reduced and
 // as the nearest whole number.
+#![tactic(auto)]
+
 ghost use Rattle.std.specs.Prelude.{◌≡◌, ◌+◌, length};
 ghost use Rattle.spec_definitions.specs.Ticket.{genus};
 ghost use Rattle.spec_estimate.specs.Estimate.{numerator_of, denominator_of, estimate_is, estimate_refused, estimate_answer};

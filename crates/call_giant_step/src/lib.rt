@@ -1,4 +1,6 @@
 // The call `giant_step`: two pairs of any words with their distances, tested, then multiplied and reduced.
+#![tactic(auto)]
+
 ghost use Rattle.std.specs.Prelude.{◌≡◌, ℕ, ◌≤◌, length};
 ghost use Rattle.spec_definitions.specs.Ticket.{ticket, genus};
 ghost use Rattle.spec_definitions.specs.Products.{giant_refused, giant_answer, wrong_distance};

@@ -1,4 +1,6 @@
 // The call `half`: the outcome of half the walk of a ticket of any words.
+#![tactic(auto)]
+
 ghost use Rattle.std.specs.Prelude.{◌≡◌, length};
 ghost use Rattle.spec_half.specs.Half.{half_said, half_answer};
 ghost use Rattle.spec_half.specs.HalfWalk.{LeastHalf};

@@ -1,5 +1,7 @@
 // The call `ideal_at`: the last ideal of the endless walk at a distance of at most y, for a ticket of any words, with its
 // distance and the distance of the next.
+#![tactic(auto)]
+
 ghost use Rattle.std.specs.Prelude.{◌≡◌, ℕ, ◌≤◌, length};
 ghost use Rattle.spec_definitions.specs.Ticket.{ticket, genus};
 ghost use Rattle.spec_definitions.specs.Products.{farthest};

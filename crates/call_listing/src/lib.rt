@@ -1,7 +1,9 @@
 // The call `listing`: the outcome first, then the records into the lent list where it is long enough. What
 // the walk starts from is prepared once, for the run and for the pass that writes.
+#![tactic(auto)]
+
 ghost use Rattle.std.specs.Prelude.{◌≡◌, length};
-ghost use Rattle.spec_definitions.specs.Ticket.{ticket as ticketFrom};
+ghost use Rattle.spec_definitions.specs.Ticket.{ticket as ticket_from};
 ghost use Rattle.spec_definitions.specs.Answers.{said, outcome_of};
 ghost use Rattle.spec_definitions.specs.Listing.{listing_from, listing_answer};
 ghost use Rattle.spec_demands.specs.LeastDegree.{Least};
@@ -20,7 +22,7 @@ use walk_state::start::prepare;
 // The listing of a ticket that is not refused.
 fn listing_of(t: Ticket, out: &mut [u32]) -> Outcome
     requires { Walkable t.field t.n t.radicand t.budget }
-    ensures { Answers (listing_from (ticketFrom (name t.field) t.n (poly t.radicand) t.budget) (outcome_of (ticketFrom (name t.field) t.n (poly t.radicand) t.budget)) out.old) (meaning result) out.new }
+    ensures { Answers (listing_from (ticket_from (name t.field) t.n (poly t.radicand) t.budget) (outcome_of (ticket_from (name t.field) t.n (poly t.radicand) t.budget)) out.old) (meaning result) out.new }
 {
     let mut inverses = [0u32; 4096];
     let mut d = [0u32; 129];

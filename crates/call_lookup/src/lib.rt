@@ -1,4 +1,6 @@
 // The call `lookup`: the record of a listing at a distance, as a part of the caller's own list.
+#![tactic(auto)]
+
 ghost use Rattle.std.specs.Prelude.{◌≡◌, not, ◌+◌, ◌*◌, length};
 ghost use Rattle.spec_definitions.specs.Lookup.{wrong_listing, lookup_of, place_of};
 

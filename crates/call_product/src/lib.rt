@@ -1,4 +1,6 @@
 // The call `product`: two pairs of any words, tested, then multiplied.
+#![tactic(auto)]
+
 ghost use Rattle.std.specs.Prelude.{◌≡◌, ℕ, ◌≤◌, length};
 ghost use Rattle.spec_definitions.specs.Ticket.{ticket, genus};
 ghost use Rattle.spec_definitions.specs.Products.{product_done, product_refused, product_answer};

@@ -1,4 +1,6 @@
 // The call `regulator`: the outcome of a ticket of any words. `regulators` has `outcome_of` from here.
+#![tactic(auto)]
+
 ghost use Rattle.std.specs.Prelude.{◌≡◌, length};
 ghost use Rattle.spec_definitions.specs.Answers.{said, regulator_of};
 ghost use Rattle.spec_demands.specs.LeastDegree.{Least};

@@ -1,4 +1,6 @@
 // The call `regulators`: the outcomes of a ticket with integer coefficients at its primes.
+#![tactic(auto)]
+
 ghost use Rattle.std.specs.Prelude.{◌≡◌, map, ◌<◌};
 ghost use Rattle.spec_arithmetic.specs.Words.{values};
 ghost use Rattle.spec_definitions.specs.Answers.{said, words_outcome};

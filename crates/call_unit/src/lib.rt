@@ -1,8 +1,10 @@
 // The call `unit`: the outcome first, then the unit into the four lent lists where each is long enough.
 // Nothing is written before R is known. What the walk starts from is prepared once, for the run and for the
 // pass that writes.
+#![tactic(auto)]
+
 ghost use Rattle.std.specs.Prelude.{◌≡◌, length};
-ghost use Rattle.spec_definitions.specs.Ticket.{ticket as ticketFrom};
+ghost use Rattle.spec_definitions.specs.Ticket.{ticket as ticket_from};
 ghost use Rattle.spec_definitions.specs.Answers.{said, outcome_of};
 ghost use Rattle.spec_definitions.specs.Units.{unit_from, unit_answer};
 ghost use Rattle.spec_demands.specs.LeastAnswers.{LeastWritten};
@@ -22,7 +24,7 @@ use walk_state::start::prepare;
 // The unit of a ticket that is not refused.
 fn unit_of(t: Ticket, p: &mut [u32], s: &mut [u32], x: &mut [u32], y: &mut [u32]) -> Outcome
     requires { Walkable t.field t.n t.radicand t.budget }
-    ensures { Answers (unit_from (ticketFrom (name t.field) t.n (poly t.radicand) t.budget) (outcome_of (ticketFrom (name t.field) t.n (poly t.radicand) t.budget)) (lists p.old s.old x.old y.old)) (meaning result) (lists p.new s.new x.new y.new) }
+    ensures { Answers (unit_from (ticket_from (name t.field) t.n (poly t.radicand) t.budget) (outcome_of (ticket_from (name t.field) t.n (poly t.radicand) t.budget)) (lists p.old s.old x.old y.old)) (meaning result) (lists p.new s.new x.new y.new) }
 {
     let mut inverses = [0u32; 4096];
     let mut d = [0u32; 129];

@@ -1,5 +1,7 @@
 // The public calls, each from a crate of its own. None relies on its caller: every list of words has its
 // answer, and every lent list is said at exit.
+#![tactic(auto)]
+
 pub use base_counters::{Distance, Index};
 pub use base_polynomial::Poly;
 pub use call_lookup::lookup;

@@ -1,4 +1,6 @@
 // How many values of a polynomial over the field are nonzero squares and non-squares.
+#![tactic(auto)]
+
 ghost use Rattle.std.specs.Prelude.{◌≡◌, ◌<◌};
 ghost use Rattle.spec_estimate.specs.Estimate.{evaluate, square?, squares_of, non_squares_of};
 ghost use Rattle.base_field.specs.Named.{name, ops, IsField, Ok};

@@ -1,4 +1,6 @@
 // Powers, and the nearest whole number to a fraction.
+#![tactic(auto)]
+
 ghost use Rattle.std.specs.Prelude.{◌≡◌, ◌^◌, ◌<◌};
 ghost use Rattle.spec_estimate.specs.Estimate.{nearest_of};
 ghost use Rattle.spec_estimate.specs.Bounds.{Fits};

@@ -1,5 +1,7 @@
 // The calls for C and Rust: lists are a pointer and a length, answers are plain numbers. None relies on its
 // caller.
+#![tactic(auto)]
+
 pub mod estimate;
 pub mod half;
 pub mod ideal_at;

@@ -1,8 +1,10 @@
 // The last ideal of the endless walk at a distance of at most y, by halving: that for y comes from the one for y div 2
 // by a giant step with itself and then single steps. A loop over the binary digits of y from the first on does the same
 // without recursion, so that the depth of the stack does not grow with y.
+#![tactic(auto)]
+
 ghost use Rattle.std.specs.Prelude.{◌≡◌, ◌/◌, ◌^◌, ◌≤◌};
-ghost use Rattle.spec_arithmetic.specs.Polynomials.{pad, add as addOf};
+ghost use Rattle.spec_arithmetic.specs.Polynomials.{pad, add as add_of};
 ghost use Rattle.spec_definitions.specs.Ticket.{genus};
 ghost use Rattle.spec_definitions.specs.Products.{farthest};
 ghost use Rattle.spec_laws.specs.Admitted.{Admitted};
@@ -69,7 +71,7 @@ fn from_half(
 ) -> Located
     requires field { IsField f × Admitted (name f) (genus n) (poly radicand.now l) × Held (name f) radicand.now l × (2 ≤ n) }
     requires d_value { d.now ≡ pad (ops f) 129 (root_d (name f) (genus n) (poly radicand.now l)) }
-    requires twice_value { twice.now ≡ pad (ops f) 129 (addOf (ops f) (root_d (name f) (genus n) (poly radicand.now l)) (root_d (name f) (genus n) (poly radicand.now l))) }
+    requires twice_value { twice.now ≡ pad (ops f) 129 (add_of (ops f) (root_d (name f) (genus n) (poly radicand.now l)) (root_d (name f) (genus n) (poly radicand.now l))) }
     requires last { IsLast (name f) n (poly radicand.now l) (y.0 / 2) q.old p.old at }
     requires y_le_farthest { y.0 ≤ farthest }
     ensures { IsLast (name f) n (poly radicand.now l) y.0 q.new p.new result }
@@ -118,7 +120,7 @@ fn halving(
 ) -> Located
     requires field { IsField f × Admitted (name f) (genus n) (poly radicand.now l) × Held (name f) radicand.now l × (2 ≤ n) }
     requires d_value { d.now ≡ pad (ops f) 129 (root_d (name f) (genus n) (poly radicand.now l)) }
-    requires twice_value { twice.now ≡ pad (ops f) 129 (addOf (ops f) (root_d (name f) (genus n) (poly radicand.now l)) (root_d (name f) (genus n) (poly radicand.now l))) }
+    requires twice_value { twice.now ≡ pad (ops f) 129 (add_of (ops f) (root_d (name f) (genus n) (poly radicand.now l)) (root_d (name f) (genus n) (poly radicand.now l))) }
     requires y_le_farthest { y.0 ≤ farthest }
     ensures { IsLast (name f) n (poly radicand.now l) y.0 q.new p.new result }
 {

@@ -1,7 +1,9 @@
 // Single steps of the endless walk from one of its ideals to the last whose distance is at most a given one. The
 // steps are those of the walk, by the recurrence (2-7) of source 000.
+#![tactic(auto)]
+
 ghost use Rattle.std.specs.Prelude.{◌≡◌, List, ℕ, ◌+◌, ◌-◌, ◌<◌, ◌≤◌};
-ghost use Rattle.spec_arithmetic.specs.Polynomials.{pad, add as addOf};
+ghost use Rattle.spec_arithmetic.specs.Polynomials.{pad, add as add_of};
 ghost use Rattle.spec_definitions.specs.Ticket.{genus};
 ghost use Rattle.spec_definitions.specs.Products.{farthest};
 ghost use Rattle.spec_laws.specs.Admitted.{Admitted};
@@ -121,7 +123,7 @@ fn by_steps(
 ) -> Located
     requires field { IsField f × Admitted (name f) (genus n) (poly radicand.now l) × Held (name f) radicand.now l × (2 ≤ n) }
     requires d_value { d.now ≡ pad (ops f) 129 (root_d (name f) (genus n) (poly radicand.now l)) }
-    requires twice_value { twice.now ≡ pad (ops f) 129 (addOf (ops f) (root_d (name f) (genus n) (poly radicand.now l)) (root_d (name f) (genus n) (poly radicand.now l))) }
+    requires twice_value { twice.now ≡ pad (ops f) 129 (add_of (ops f) (root_d (name f) (genus n) (poly radicand.now l)) (root_d (name f) (genus n) (poly radicand.now l))) }
     requires on_walk { OnWalk (name f) n (poly radicand.now l) a.old b.now at × (at.distance.0 ≤ y.0) × (y.0 ≤ farthest) }
     ensures { IsLast (name f) n (poly radicand.now l) y.0 q.new p.new result }
 {
@@ -163,7 +165,7 @@ pub fn climb(
 ) -> Located
     requires field { IsField f × Admitted (name f) (genus n) (poly radicand.now l) × Held (name f) radicand.now l × (2 ≤ n) }
     requires d_value { d.now ≡ pad (ops f) 129 (root_d (name f) (genus n) (poly radicand.now l)) }
-    requires twice_value { twice.now ≡ pad (ops f) 129 (addOf (ops f) (root_d (name f) (genus n) (poly radicand.now l)) (root_d (name f) (genus n) (poly radicand.now l))) }
+    requires twice_value { twice.now ≡ pad (ops f) 129 (add_of (ops f) (root_d (name f) (genus n) (poly radicand.now l)) (root_d (name f) (genus n) (poly radicand.now l))) }
     requires on_walk { OnWalk (name f) n (poly radicand.now l) a.old b.now at × (at.distance.0 ≤ y.0) × (y.0 ≤ farthest) }
     ensures { IsLast (name f) n (poly radicand.now l) y.0 q.new p.new result }
 {

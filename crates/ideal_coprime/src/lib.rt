@@ -1,7 +1,9 @@
 // The product of two ideals where Q_1 and Q_2 have no common factor, from Bezout's factor U of Q_1: Q is
 // Q_1.Q_2, and P is P_1 − Q_1·(U·(P_1 − P_2) mod Q_2).
+#![tactic(auto)]
+
 ghost use Rattle.std.specs.Prelude.{◌<◌, ◌≤◌};
-ghost use Rattle.spec_arithmetic.specs.Polynomials.{sub as subOf, mul as mulOf, rem as remOf};
+ghost use Rattle.spec_arithmetic.specs.Polynomials.{sub as sub_of, mul as mul_of, rem as rem_of};
 ghost use Rattle.base_polynomial.specs.Record.{poly, Held, Is};
 ghost use Rattle.base_field.specs.Named.{name, ops, IsField};
 
@@ -28,7 +30,7 @@ fn factor(
     requires held { Held (name f) u.now j }
     requires held_2 { Held (name f) x.now k × Held (name f) y.now l }
     requires held_3 { Held (name f) b.now n }
-    ensures { Is (name f) z.new result (remOf (ops f) (mulOf (ops f) (poly u.now j) (subOf (ops f) (poly x.now k) (poly y.now l))) (poly b.now n)) }
+    ensures { Is (name f) z.new result (rem_of (ops f) (mul_of (ops f) (poly u.now j) (sub_of (ops f) (poly x.now k) (poly y.now l))) (poly b.now n)) }
 {
     let mut t = [0u32; 129];
     let i = subtract(f, x, k, y, l, &mut t);
@@ -57,8 +59,8 @@ pub fn coprime(
     requires held { Held (name f) q1.now m1 × Held (name f) p1.now k1 }
     requires held_2 { Held (name f) q2.now m2 × Held (name f) p2.now k2 }
     requires held_3 { Held (name f) u.now j }
-    ensures is { Is (name f) q.new result.q (mulOf (ops f) (poly q1.now m1) (poly q2.now m2)) }
-    ensures is_2 { Is (name f) p.new result.p (subOf (ops f) (poly p1.now k1) (mulOf (ops f) (poly q1.now m1) (remOf (ops f) (mulOf (ops f) (poly u.now j) (subOf (ops f) (poly p1.now k1) (poly p2.now k2))) (poly q2.now m2)))) }
+    ensures is { Is (name f) q.new result.q (mul_of (ops f) (poly q1.now m1) (poly q2.now m2)) }
+    ensures is_2 { Is (name f) p.new result.p (sub_of (ops f) (poly p1.now k1) (mul_of (ops f) (poly q1.now m1) (rem_of (ops f) (mul_of (ops f) (poly u.now j) (sub_of (ops f) (poly p1.now k1) (poly p2.now k2))) (poly q2.now m2)))) }
 {
     let mut t = [0u32; 129];
     let k = factor(f, u, j, p1, k1, p2, k2, q2, m2, &mut t);

@@ -1,8 +1,10 @@
 // The steps of the reduction of a pair, until the degree of Q is at most g, and the reduced ideal that they end in.
 // Each Q is by the recurrence (2-7) of source 000, as in the walk. The arrays take turns from step to step, so that
 // none is copied.
+#![tactic(auto)]
+
 ghost use Rattle.std.specs.Prelude.{◌≡◌, ℕ, ◌+◌, ◌<◌, ◌≤◌, get_or};
-ghost use Rattle.spec_arithmetic.specs.Polynomials.{sub as subOf, rem as remOf, monic as monicOf};
+ghost use Rattle.spec_arithmetic.specs.Polynomials.{sub as sub_of, rem as rem_of, monic as monic_of};
 ghost use Rattle.base_field.specs.Named.{name, ops, IsField};
 ghost use Rattle.base_polynomial.specs.Places.{Within};
 ghost use Rattle.base_polynomial.specs.Record.{poly, Held, Is};
@@ -55,7 +57,7 @@ fn difference(f: Field, x: &[u32; 129], y: &[u32; 129], n: usize, z: &mut [u32; 
     requires field { IsField f × (n ≤ 129) }
     requires within { Within (name f) x.now n }
     requires within_2 { Within (name f) y.now n }
-    ensures { Is (name f) z.new result (subOf (ops f) x.now y.now) }
+    ensures { Is (name f) z.new result (sub_of (ops f) x.now y.now) }
 {
     sub_places(f, x, y, n, z);
     top(z, n)
@@ -73,8 +75,8 @@ pub fn normal(
 ) -> PairSizes
     requires field { IsField f × (0 < m) }
     requires held { Held (name f) a.now m × Held (name f) p.old k }
-    ensures is { Is (name f) q.new result.q (monicOf (ops f) (poly a.now m)) }
-    ensures is_2 { Is (name f) p.new result.p (remOf (ops f) (poly p.old k) (monicOf (ops f) (poly a.now m))) }
+    ensures is { Is (name f) q.new result.q (monic_of (ops f) (poly a.now m)) }
+    ensures is_2 { Is (name f) p.new result.p (rem_of (ops f) (poly p.old k) (monic_of (ops f) (poly a.now m))) }
 {
     let w = lead_inverse(f, a, m);
     let i = monic_by(f, w, a, m, q);
@@ -96,8 +98,8 @@ pub fn ended(
 ) -> PairSizes
     requires field { IsField f × (0 < size) × (places ≤ 129) }
     requires held { Held (name f) current.now size × Within (name f) d.now places × Within (name f) rest.now places }
-    ensures is { Is (name f) q.new result.q (monicOf (ops f) (poly current.now size)) }
-    ensures is_2 { Is (name f) p.new result.p (remOf (ops f) (subOf (ops f) d.now rest.now) (monicOf (ops f) (poly current.now size))) }
+    ensures is { Is (name f) q.new result.q (monic_of (ops f) (poly current.now size)) }
+    ensures is_2 { Is (name f) p.new result.p (rem_of (ops f) (sub_of (ops f) d.now rest.now) (monic_of (ops f) (poly current.now size))) }
 {
     let k = difference(f, d, rest, places, p);
     normal(f, current, size, q, p, k)
@@ -117,8 +119,8 @@ fn finish(
     requires field { IsField f × (h < 128) × (0 < at.size) × (at.top ≤ 128) }
     requires held { Held (name f) current.now at.size × Within (name f) d.now (h + 1) }
     requires by_index { (n : ℕ) → at.top ≤ n → h + 1 ≤ n → Within (name f) rest.now n }
-    ensures is { Is (name f) q.new result.q (monicOf (ops f) (poly current.now at.size)) }
-    ensures is_2 { Is (name f) p.new result.p (remOf (ops f) (subOf (ops f) d.now rest.now) (monicOf (ops f) (poly current.now at.size))) }
+    ensures is { Is (name f) q.new result.q (monic_of (ops f) (poly current.now at.size)) }
+    ensures is_2 { Is (name f) p.new result.p (rem_of (ops f) (sub_of (ops f) d.now rest.now) (monic_of (ops f) (poly current.now at.size))) }
     ensures sum_value { result.sum ≡ at.sum }
 {
     let t = ended(f, d, larger(at.top, h + 1), current, at.size, rest, q, p);

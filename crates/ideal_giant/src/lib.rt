@@ -1,5 +1,7 @@
 // The giant step: the product of two ideals, reduced by steps of the walk, with the distance that it comes
 // to.
+#![tactic(auto)]
+
 pub mod step;
 
 // The largest distance that a giant step takes: 2⁴⁰.

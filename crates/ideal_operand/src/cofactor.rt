@@ -1,6 +1,6 @@
 // D − P² divided by Q: the quotient alone, for which the places of P² from the leading one of Q on are enough.
 ghost use Rattle.std.specs.Prelude.{◌<◌, ◌≤◌, get_or};
-ghost use Rattle.spec_arithmetic.specs.Polynomials.{mul as mulOf};
+ghost use Rattle.spec_arithmetic.specs.Polynomials.{mul as mul_of};
 ghost use Rattle.spec_laws.specs.Pairs.{cofactor_at};
 ghost use Rattle.base_field.specs.Named.{name, ops, IsField};
 ghost use Rattle.base_polynomial.specs.Places.{Places, Within};
@@ -18,7 +18,7 @@ use walk_step::step::quotient;
 fn upper_square(f: Field, p: &[u32; 129], k: usize, from: usize, z: &mut [u32; 129])
     requires field { IsField f × (k ≤ 64) }
     requires within { Within (name f) p.now k }
-    ensures { Places z.new (upper from (λ i. get_or (mulOf (ops f) p.now p.now) i 0)) }
+    ensures { Places z.new (upper from (λ i. get_or (mul_of (ops f) p.now p.now) i 0)) }
 {
     *z = [0u32; 129];
     let end = excess(k + k, 1);

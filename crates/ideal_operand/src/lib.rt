@@ -1,4 +1,6 @@
 // What a product asks of each of its two ideals and what its result is; (D − P²)/Q of an ideal.
+#![tactic(auto)]
+
 pub mod cofactor;
 
 // The sizes of Q and P.

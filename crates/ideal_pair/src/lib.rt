@@ -1,4 +1,6 @@
 // Pairs (Q, P) as they are handed in, and the test of refusal 9.
+#![tactic(auto)]
+
 pub mod operand;
 
 // A pair (Q, P) that was handed in. Invariant (`Paired`): `ok` says whether it is an ideal as refusal 9 asks; q

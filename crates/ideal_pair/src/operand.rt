@@ -2,7 +2,7 @@
 // polynomials.
 ghost use Rattle.std.specs.Prelude.{◌≡◌, false, ◌&&◌, ◌<◌, ◌≤◌, length};
 ghost use Rattle.spec_arithmetic.specs.Field.{FieldName, ops, fits};
-ghost use Rattle.spec_arithmetic.specs.Polynomials.{trim, lead as leadOf, rem as remOf};
+ghost use Rattle.spec_arithmetic.specs.Polynomials.{trim, lead as lead_of, rem as rem_of};
 ghost use Rattle.spec_arithmetic.specs.Words.{some_not};
 ghost use Rattle.spec_definitions.specs.Ticket.{genus};
 ghost use Rattle.spec_fields.specs.Named.{Ok};
@@ -71,7 +71,7 @@ fn load(words: &[u32], c: &mut [u32; 129]) -> usize
 // The leading coefficient of q, of m places; 0 for the zero polynomial.
 fn lead(f: Field, q: &[u32; 129], m: usize) -> u32
     requires { Held (name f) q.now m }
-    ensures { result ≡ leadOf (ops (name f)) (poly q.now m) }
+    ensures { result ≡ lead_of (ops (name f)) (poly q.now m) }
 {
     if m == 0 { 0 } else { q[m - 1] }
 }
@@ -89,7 +89,7 @@ fn norm_remainder(
 ) -> usize
     requires field { IsField f × (k ≤ 65) × (0 < m) }
     requires held { Held (name f) radicand.now l × Held (name f) q.now m × Held (name f) p.now k }
-    ensures { result ≡ length (remOf (ops (name f)) (norm_at (ops (name f)) (poly radicand.now l) (held_pair q.now m p.now k)) (poly q.now m)) }
+    ensures { result ≡ length (rem_of (ops (name f)) (norm_at (ops (name f)) (poly radicand.now l) (held_pair q.now m p.now k)) (poly q.now m)) }
 {
     let mut a = *radicand;
     let n = subtract_product(f, &mut a, l, p, k, p, k);

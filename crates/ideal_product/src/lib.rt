@@ -1,4 +1,6 @@
 // The product of two ideals: S by one or two greatest common divisors, Q = Q_1·Q_2/S², and P modulo Q.
+#![tactic(auto)]
+
 ghost use Rattle.spec_definitions.specs.Ticket.{genus};
 ghost use Rattle.spec_laws.specs.Admitted.{Admitted};
 ghost use Rattle.base_polynomial.specs.Record.{poly, Held};

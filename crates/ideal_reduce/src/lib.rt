@@ -1,5 +1,7 @@
 // The reduction of a pair: steps of the walk until the degree of Q is at most g, and the root d that the steps go
 // by. D − P² is divided by Q once, for the Q before the first.
+#![tactic(auto)]
+
 ghost use Rattle.std.specs.Prelude.{◌≡◌, ◌+◌, ◌/◌, ◌<◌, ◌≤◌};
 ghost use Rattle.spec_arithmetic.specs.Polynomials.{pad};
 ghost use Rattle.spec_definitions.specs.Ticket.{genus};

@@ -1,7 +1,9 @@
 // The product of two ideals where Q_1 and Q_2 have a common factor: S by a second greatest common divisor, Q is
 // (Q_1/S)·(Q_2/S), and P is P_1 − (Q_1/S)·(U·(P_1 − P_2) − W·(D − P_1²)/Q_1) modulo Q.
+#![tactic(auto)]
+
 ghost use Rattle.std.specs.Prelude.{◌+◌, ◌<◌, ◌≤◌};
-ghost use Rattle.spec_arithmetic.specs.Polynomials.{add as addOf, sub as subOf, mul as mulOf, quo as quoOf, rem as remOf, gcd as gcdOf, bezout as bezoutOf};
+ghost use Rattle.spec_arithmetic.specs.Polynomials.{add as add_of, sub as sub_of, mul as mul_of, quo as quo_of, rem as rem_of, gcd as gcd_of, bezout as bezout_of};
 ghost use Rattle.spec_definitions.specs.Ticket.{genus};
 ghost use Rattle.spec_laws.specs.Admitted.{Admitted};
 ghost use Rattle.base_polynomial.specs.Record.{poly, Held, Is};
@@ -51,9 +53,9 @@ fn multipliers(
     requires field { IsField f × (j ≤ 64) × (k1 ≤ 64) × (k2 ≤ 64) }
     requires held { Held (name f) h.old i × Held (name f) y.now j }
     requires held_2 { Held (name f) p1.now k1 × Held (name f) p2.now k2 }
-    ensures is { Is (name f) s.new result.s (gcdOf (ops f) (poly h.old i) (addOf (ops f) (poly p1.now k1) (poly p2.now k2))) }
-    ensures is_2 { Is (name f) u.new result.u (mulOf (ops f) (bezoutOf (ops f) (poly h.old i) (addOf (ops f) (poly p1.now k1) (poly p2.now k2))).u (poly y.now j)) }
-    ensures is_3 { Is (name f) w.new result.w (bezoutOf (ops f) (poly h.old i) (addOf (ops f) (poly p1.now k1) (poly p2.now k2))).v }
+    ensures is { Is (name f) s.new result.s (gcd_of (ops f) (poly h.old i) (add_of (ops f) (poly p1.now k1) (poly p2.now k2))) }
+    ensures is_2 { Is (name f) u.new result.u (mul_of (ops f) (bezout_of (ops f) (poly h.old i) (add_of (ops f) (poly p1.now k1) (poly p2.now k2))).u (poly y.now j)) }
+    ensures is_3 { Is (name f) w.new result.w (bezout_of (ops f) (poly h.old i) (add_of (ops f) (poly p1.now k1) (poly p2.now k2))).v }
 {
     let mut t = [0u32; 129];
     let l = add(f, p1, k1, p2, k2, &mut t);
@@ -82,8 +84,8 @@ fn norm(
 ) -> NormSizes
     requires field { IsField f × (m1 ≤ 64) × (m2 ≤ 64) × (0 < i) }
     requires held { Held (name f) q1.now m1 × Held (name f) q2.now m2 × Held (name f) s.now i }
-    ensures is { Is (name f) a.new result.first (quoOf (ops f) (poly q1.now m1) (poly s.now i)) }
-    ensures is_2 { Is (name f) q.new result.q (mulOf (ops f) (quoOf (ops f) (poly q1.now m1) (poly s.now i)) (quoOf (ops f) (poly q2.now m2) (poly s.now i))) }
+    ensures is { Is (name f) a.new result.first (quo_of (ops f) (poly q1.now m1) (poly s.now i)) }
+    ensures is_2 { Is (name f) q.new result.q (mul_of (ops f) (quo_of (ops f) (poly q1.now m1) (poly s.now i)) (quo_of (ops f) (poly q2.now m2) (poly s.now i))) }
 {
     let k = quotient(f, q1, m1, s, i, a);
     let mut e = [0u32; 129];
@@ -110,7 +112,7 @@ fn bracket(
     requires field { IsField f × (k1 ≤ 65) × (k2 ≤ 65) × (j ≤ 65) × (i ≤ 65) × (l ≤ 65) }
     requires held { Held (name f) p1.now k1 × Held (name f) p2.now k2 }
     requires held_2 { Held (name f) u.now j × Held (name f) w.now i × Held (name f) c.now l }
-    ensures { Is (name f) z.new result (subOf (ops f) (mulOf (ops f) (poly u.now j) (subOf (ops f) (poly p1.now k1) (poly p2.now k2))) (mulOf (ops f) (poly w.now i) (poly c.now l))) }
+    ensures { Is (name f) z.new result (sub_of (ops f) (mul_of (ops f) (poly u.now j) (sub_of (ops f) (poly p1.now k1) (poly p2.now k2))) (mul_of (ops f) (poly w.now i) (poly c.now l))) }
 {
     let mut t = [0u32; 129];
     let k = subtract(f, p1, k1, p2, k2, &mut t);
@@ -134,7 +136,7 @@ fn residue(
     requires field { IsField f × (0 < m) × (i + j ≤ 130) }
     requires held { Held (name f) p1.now k × Held (name f) a.now i }
     requires held_2 { Held (name f) b.now j × Held (name f) q.now m }
-    ensures { Is (name f) p.new result (remOf (ops f) (subOf (ops f) (poly p1.now k) (mulOf (ops f) (poly a.now i) (poly b.now j))) (poly q.now m)) }
+    ensures { Is (name f) p.new result (rem_of (ops f) (sub_of (ops f) (poly p1.now k) (mul_of (ops f) (poly a.now i) (poly b.now j))) (poly q.now m)) }
 {
     *p = *p1;
     let l = subtract_product(f, p, k, a, i, b, j);
@@ -168,7 +170,7 @@ pub fn shared(
     requires field { IsField f × Admitted (name f) (genus n) (poly radicand.now l) × Held (name f) radicand.now l }
     requires operand { Operand (name f) (genus n) (poly radicand.now l) q1.now m1 p1.now k1 }
     requires operand_2 { Operand (name f) (genus n) (poly radicand.now l) q2.now m2 p2.now k2 }
-    requires is { Is (name f) h.old i (bezoutOf (ops f) (poly q1.now m1) (poly q2.now m2)).gcd × Is (name f) y.now j (bezoutOf (ops f) (poly q1.now m1) (poly q2.now m2)).u }
+    requires is { Is (name f) h.old i (bezout_of (ops f) (poly q1.now m1) (poly q2.now m2)).gcd × Is (name f) y.now j (bezout_of (ops f) (poly q1.now m1) (poly q2.now m2)).u }
     ensures { Multiplied (name f) (poly radicand.now l) (held_pair q1.now m1 p1.now k1) (held_pair q2.now m2 p2.now k2) s.new q.new p.new result }
 {
     let mut u = [0u32; 129];

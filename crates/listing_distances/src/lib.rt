@@ -1,4 +1,6 @@
 // The distances of a listing: that they rise, and the last one within a distance.
+#![tactic(auto)]
+
 ghost use Rattle.std.specs.Prelude.{◌≡◌, ◌+◌, ◌*◌, ◌-◌, ◌<◌, length};
 ghost use Rattle.spec_definitions.specs.Lookup.{rising, last_within, record_count};
 ghost use Rattle.listing_whole.specs.Records.{Records};

@@ -1,5 +1,7 @@
 // The listing of a walk that is found, into a lent list that is long enough.
-ghost use Rattle.spec_definitions.specs.Ticket.{ticket as ticketFrom, genus};
+#![tactic(auto)]
+
+ghost use Rattle.spec_definitions.specs.Ticket.{ticket as ticket_from, genus};
 ghost use Rattle.spec_definitions.specs.Answers.{found};
 ghost use Rattle.spec_definitions.specs.Listing.{listing_from};
 ghost use Rattle.base_field.specs.Named.{IsField, name};
@@ -30,7 +32,7 @@ pub fn list_found(
     requires found { Found (name t.field) t.n (poly t.radicand) t.budget r.0 m.0 c }
     requires held { Held t.field t.radicand }
     requires prepared { Prepared (name t.field) (genus t.n) (poly t.radicand) inverses.now d.now twice.now }
-    ensures { Answers (listing_from (ticketFrom (name t.field) t.n (poly t.radicand) t.budget) (found r.0 m.0 c) out.old) (meaning result) out.new }
+    ensures { Answers (listing_from (ticket_from (name t.field) t.n (poly t.radicand) t.budget) (found r.0 m.0 c) out.old) (meaning result) out.new }
 {
     if !room(t.n, m, out.len()) {
         return Outcome::Refused(13);

@@ -1,4 +1,6 @@
 // The kinds of a listing's words, record by record.
+#![tactic(auto)]
+
 ghost use Rattle.std.specs.Prelude.{◌≡◌, false, ◌+◌, ◌<◌, ◌≤◌, eqb, length, get_or};
 ghost use Rattle.spec_definitions.specs.Ticket.{wrong_degree};
 ghost use Rattle.spec_definitions.specs.Lookup.{record_kinds, right_kinds, record_count};

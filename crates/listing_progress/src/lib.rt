@@ -1,4 +1,6 @@
 // The record of where a walk stands: Q and the remainder in their arrays, index and distance by its counts.
+#![tactic(auto)]
+
 ghost use Rattle.std.specs.Prelude.{◌≡◌, ◌+◌, ◌/◌, ◌<◌, ◌≤◌, length};
 ghost use Rattle.spec_definitions.specs.Ticket.{budgets, degrees};
 ghost use Rattle.base_field.specs.Named.{IsField, name};

@@ -1,6 +1,6 @@
 // The ideal of a record: Q made monic, and P modulo that Q.
 ghost use Rattle.std.specs.Prelude.{◌<◌, ◌≤◌};
-ghost use Rattle.spec_arithmetic.specs.Polynomials.{sub as subOf, rem as remOf, monic as monicOf};
+ghost use Rattle.spec_arithmetic.specs.Polynomials.{sub as sub_of, rem as rem_of, monic as monic_of};
 ghost use Rattle.base_field.specs.Named.{IsField, name, ops};
 ghost use Rattle.base_polynomial.specs.Places.{Within};
 ghost use Rattle.base_polynomial.specs.Record.{poly, Held, Is};
@@ -26,8 +26,8 @@ pub fn ideal_of(
     requires top_bound { (top ≤ 129) × (0 < size) }
     requires within { Within (name f) d.now top × Within (name f) rest.now top }
     requires held { Held (name f) current.now size }
-    ensures is { Is (name f) q.new size (monicOf (ops f) (poly current.now size)) }
-    ensures is_2 { Is (name f) p.new result (remOf (ops f) (subOf (ops f) d.now rest.now) (monicOf (ops f) (poly current.now size))) }
+    ensures is { Is (name f) q.new size (monic_of (ops f) (poly current.now size)) }
+    ensures is_2 { Is (name f) p.new result (rem_of (ops f) (sub_of (ops f) d.now rest.now) (monic_of (ops f) (poly current.now size))) }
 {
     sub_places(f, d, rest, top, p);
     let k = base_polynomial::linear::top(p, top);

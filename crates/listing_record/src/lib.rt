@@ -1,4 +1,6 @@
 // One record of a listing: its ideal and its mirror, written at its place.
+#![tactic(auto)]
+
 pub mod ideal;
 
 ghost use Rattle.std.specs.Prelude.{◌≡◌, ◌+◌, ◌/◌, ◌<◌, ◌≤◌, length};

@@ -3,7 +3,7 @@ ghost use Rattle.std.specs.Prelude.{◌≡◌, ◌++◌, ℕ, ◌+◌, ◌*◌, 
 ghost use Rattle.spec_definitions.specs.Ticket.{genus, ticket};
 ghost use Rattle.spec_definitions.specs.Listing.{listing_of};
 ghost use Rattle.base_field.specs.Named.{IsField, name};
-ghost use Rattle.base_polynomial.specs.Record.{poly as polyAt, Held as HeldAt};
+ghost use Rattle.base_polynomial.specs.Record.{poly as poly_at, Held as HeldAt};
 ghost use Rattle.walk_state.specs.Start.{Prepared};
 ghost use Rattle.listing_records.specs.Listed.{Listable};
 
@@ -27,10 +27,10 @@ pub fn write_records(
     out: &mut [u32],
 )
     requires field { IsField f }
-    requires listable { Listable (name f) n (polyAt radicand.now size) m.0 r.0 out.old }
+    requires listable { Listable (name f) n (poly_at radicand.now size) m.0 r.0 out.old }
     requires held_at { HeldAt (name f) radicand.now size }
-    requires prepared { Prepared (name f) (genus n) (polyAt radicand.now size) inverses.now d.now twice.now }
-    ensures { (b : ℕ) → out.new ≡ listing_of (ticket (name f) n (polyAt radicand.now size) b) r.0 m.0 ++ drop (m.0 * (n + 4)) out.old }
+    requires prepared { Prepared (name f) (genus n) (poly_at radicand.now size) inverses.now d.now twice.now }
+    ensures { (b : ℕ) → out.new ≡ listing_of (ticket (name f) n (poly_at radicand.now size) b) r.0 m.0 ++ drop (m.0 * (n + 4)) out.old }
 {
     let top = n / 2 + 1;
     let mut before = [0u32; 129];

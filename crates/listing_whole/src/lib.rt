@@ -1,4 +1,6 @@
 // A list of whole records: the degrees that a listing may have, and room for so many records.
+#![tactic(auto)]
+
 ghost use Rattle.std.specs.Prelude.{◌≡◌, not, ◌+◌, ◌*◌, ◌<◌, ◌≤◌, leb};
 ghost use Rattle.spec_definitions.specs.Ticket.{wrong_degree, budgets};
 

@@ -1,5 +1,7 @@
 // The words of one record, stored from a place on. What is stored is one list, `record_words`, and every other
 // word of the lent list stays.
+#![tactic(auto)]
+
 ghost use Rattle.std.specs.Prelude.{◌≡◌, [], ◌∷◌, map, ℕ, ◌+◌, ◌<◌, ◌≤◌, length, get_or};
 ghost use Rattle.spec_arithmetic.specs.Field.{modulo};
 ghost use Rattle.spec_arithmetic.specs.Polynomials.{pad};

@@ -2,7 +2,7 @@
 -- all and no others. There is one such k, and things that correspond one to one are equally many.
 use Rattle.std.specs.Prelude.{ℕ, ◌≡◌, refl, ◌↔◌, Bool, true, List, length}
 use Rattle.std.proofs.Common.{arith, sym, ◌∙◌}
-use Rattle.std.proofs.Math.Logic.{Iff·symm}
+use Rattle.std.proofs.Math.Logic.Iff
 use Rattle.math_counting.specs.Pigeonhole.{In, Distinct, Injection, Bijection, pigeonhole, injection_iff}
 use Rattle.math_counting.specs.Count.{count, select, in_select, select_in, distinct_select}
 
@@ -30,7 +30,7 @@ module _ {A : Type 0} (P : A → Type 0) where
 module _ {A B : Type 0} {R : A → B → Type 0} {P : A → Type 0} {Q : B → Type 0} where
   -- the injection on the members of the two lists
   members_injection : {j k : ℕ} → Injection R P Q → (h : HowMany P j) (g : HowMany Q k) → Injection R (λ a. In a h.all) (λ b. In b g.all)
-  members_injection i h g = injection_iff (λ a. (h.members a).0) (λ b. Iff·symm (g.members b)) i
+  members_injection i h g = injection_iff (λ a. (h.members a).0) (λ b. Iff.symm (g.members b)) i
 
 pub equally_many : {A B : Type 0} (R : A → B → Type 0) (P : A → Type 0) (Q : B → Type 0) → EquallyMany R P Q
 equally_many R P Q j k i h g = omega (arith, h.number, g.number, pigeonhole R h.all g.all h.distinct (members_injection i.right h g), pigeonhole (λ b a. R a b) g.all h.all g.distinct (members_injection i.left g h))

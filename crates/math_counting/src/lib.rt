@@ -6,3 +6,5 @@
 // - Count, HowMany: how many of a list pass a test; "k things have this property". Numbers: those below n, and
 //   how many of them pass a test.
 // - SquarePart: a monic polynomial is a squarefree one times a square, in one way.
+#![tactic(auto)]
+

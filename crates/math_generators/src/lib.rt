@@ -4,3 +4,5 @@
 //   product.
 // - Classification: a reduced ideal with a big generator is an ideal of the walk (`classify` is the theorem to
 //   open).
+#![tactic(auto)]
+

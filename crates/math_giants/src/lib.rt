@@ -8,3 +8,5 @@
 // - Jumps: the landings of math_landings by giant steps.
 // What carries it: the generators of math_generators; GiantStep and Exists, the giant step, and that any two
 // ideals have one.
+#![tactic(auto)]
+

@@ -6,3 +6,5 @@
 // - Palindrome: up to m it is the same from both ends; Reflect carries this from one place to all.
 // - Distinct: before m no ideal comes twice.
 // - Conjugate: the index and the distance of the conjugate of an ideal.
+#![tactic(auto)]
+

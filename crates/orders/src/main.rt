@@ -2,6 +2,8 @@
 // standard output.
 // `output` promises that the bytes are those of the definition `program_of`. No contract can speak of what a
 // call of C's reads or writes.
+#![tactic(auto)]
+
 use libc::{STDIN_FILENO, STDOUT_FILENO};
 use out_program::output;
 

@@ -1,4 +1,6 @@
 // The lines of an answer one after the other, as bytes in a lent buffer: the first line, and a line a record.
+#![tactic(auto)]
+
 ghost use Rattle.std.specs.Prelude.{◌+◌, ◌*◌, ◌≤◌, length};
 ghost use Rattle.spec_definitions.specs.Answers.{said};
 ghost use Rattle.spec_definitions.specs.Program.{first_line, record_line, record_lines};

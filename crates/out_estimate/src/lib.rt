@@ -1,4 +1,6 @@
 // An answer of the call `estimate` as plain numbers, laid out as C lays them out.
+#![tactic(auto)]
+
 ghost use Rattle.std.specs.Prelude.{◌≡◌};
 ghost use Rattle.out_estimate.specs.Numbers.{estimate_in};
 

@@ -1,4 +1,6 @@
 // An answer of half the walk as plain numbers.
+#![tactic(auto)]
+
 ghost use Rattle.std.specs.Prelude.{◌≡◌};
 ghost use Rattle.spec_half.specs.Half.{half_said};
 ghost use Rattle.walk_half.specs.Outcome.{half_meaning};

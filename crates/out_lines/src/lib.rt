@@ -1,5 +1,7 @@
 // The lines of an answer, each at the start of a lent buffer. Each function returns the place after its last
 // byte.
+#![tactic(auto)]
+
 ghost use Rattle.std.specs.Prelude.{◌≡◌, [], ◌∷◌, ◌+◌, ◌*◌, ◌<◌, ◌≤◌, length};
 ghost use Rattle.spec_definitions.specs.Answers.{said, found, spent};
 ghost use Rattle.spec_definitions.specs.Text.{ascii, line};

@@ -1,5 +1,7 @@
 // An answer as plain numbers, laid out as C lays them out: an outcome with the number of words, and the
 // place of a part of a list.
+#![tactic(auto)]
+
 ghost use Rattle.std.specs.Prelude.{◌≡◌};
 ghost use Rattle.spec_definitions.specs.Answers.{said};
 ghost use Rattle.walk_outcome.specs.Outcome.{meaning};

@@ -1,5 +1,7 @@
 // Answers with polynomials: these go into lent arrays of 129 numbers, and their sizes and all else are plain
 // numbers, laid out as C lays them out.
+#![tactic(auto)]
+
 ghost use Rattle.std.specs.Prelude.{◌≡◌};
 ghost use Rattle.out_polynomials.specs.Lent.{poly_in, product_in, giant_step_in, ideal_at_in};
 

@@ -1,5 +1,7 @@
 // What the program prints, as bytes in a lent buffer: the first line of the answer, and after "found" one
 // line a record.
+#![tactic(auto)]
+
 ghost use Rattle.std.specs.Prelude.{◌≡◌, ◌<◌, ◌≤◌, ◌++◌, length, take, drop, replicate};
 ghost use Rattle.spec_definitions.specs.Ticket.{ticket_of};
 ghost use Rattle.spec_definitions.specs.Listing.{listing_answer};

@@ -1,4 +1,6 @@
 // Words out of bytes, low byte first.
+#![tactic(auto)]
+
 ghost use Rattle.std.specs.Prelude.{◌≡◌, ◌+◌, ◌<◌, length};
 ghost use Rattle.spec_definitions.specs.Program.{read_bytes};
 ghost use Rattle.out_reading.specs.Reading.{word_from, Read};

@@ -1,4 +1,6 @@
 // The outcomes at several primes as plain numbers, four for each place of a lent array of 64.
+#![tactic(auto)]
+
 ghost use Rattle.std.specs.Prelude.{◌≡◌, ◌*◌, ◌<◌, length};
 ghost use Rattle.spec_several.specs.Several.{most_primes};
 ghost use Rattle.walk_outcome.specs.Outcome.{meaning};

@@ -1,5 +1,7 @@
 // Text as bytes in a lent buffer: digits, numbers after spaces, the end of a line. Each function writes from a
 // place on and returns the place after its last byte.
+#![tactic(auto)]
+
 ghost use Rattle.std.specs.Prelude.{[], ◌∷◌, map, ◌+◌, ◌*◌, ◌<◌, ◌≤◌, length};
 ghost use Rattle.spec_arithmetic.specs.Words.{value as value_of};
 ghost use Rattle.spec_definitions.specs.Text.{decimal, spaced};

@@ -10,7 +10,7 @@ use Rattle.math_ring.specs.Ring.{CRing, mul_zer, zer_mul}
 use Rattle.math_ring.specs.Identity.{ring, quote}
 use Rattle.math_ring.specs.Series.{S}
 use Rattle.math_algebra.specs.Multiple.{natural}
-use Rattle.math_algebra.specs.Derivative.{derivative as derivativeOf, derivative_at}
+use Rattle.math_algebra.specs.Derivative.{derivative as derivative_of, derivative_at}
 use Rattle.spec_arithmetic.specs.Field.{Ops}
 use Rattle.spec_arithmetic.specs.Polynomials.{at, trim, times, times_from, derivative}
 use Rattle.spec_bridge.specs.Model.{Model, Oks, series}
@@ -41,7 +41,7 @@ module _ {A B : Type 0} {o : Ops A} {R : CRing B} (M : Model o R) where
   oks_times k (a ∷ p) zero = ok_times k a
   oks_times k (a ∷ p) (suc i) = oks_times (suc k) p i
 
-  pub series_derivative : (p : List A) → series M (derivative o p) ≡ derivativeOf R (series M p)
+  pub series_derivative : (p : List A) → series M (derivative o p) ≡ derivative_of R (series M p)
   unfolding derivative
   series_derivative [] = fun_ext (λ i. φ_zer ∙ sym (derivative_at R (series M []) i ∙ ap (R.mul _) φ_zer ∙ mul_zer R _))
   series_derivative (a ∷ p) = series_trim M (times_from o 1 p) ∙ fun_ext (λ i. times_at 1 p i ∙ ap (λ (n : ℕ). R.mul (natural R n) (φ (at o p i))) (let e : 1 +ₙ i ≡ suc i = omega arith in e) ∙ sym (derivative_at R (series M (a ∷ p)) i))

@@ -6,3 +6,5 @@
 //   definitions.
 // - Gcd, Bezout, BezoutLength, Euclid: gcd and its factors. Prime, Residues: the allowed q, and the numbers
 //   modulo q.
+#![tactic(auto)]
+

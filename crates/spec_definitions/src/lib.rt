@@ -4,3 +4,5 @@
 // - Ticket, Walk, Answers: the refusals 1 to 7, the continued fraction, the outcome of a ticket.
 // - Units, Listing, Lookup, Products: the answers of the other calls. Text, Program: what the program prints.
 // - Marked: the marked table, by computation.
+#![tactic(auto)]
+

@@ -38,7 +38,7 @@ digits_append (x ∷ a) b p q = (p.0, p.1, digits_append a b p.2 q)
 read_append : (n : ℕ) (a b : List ℕ) → read_after n (a ++ b) ≡ read_after (read_after n a) b
 unfolding read_after
 read_append n [] b = refl
-read_append n (x ∷ a) b = read_append _ a b
+read_append n (x ∷ a) b = read_append (10 * n + (x - 48)) a b
 
 -- for every number below k
 below_digits : (k n : ℕ) → n < k → AllDigits (decimal n)

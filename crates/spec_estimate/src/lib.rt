@@ -3,3 +3,5 @@
 //   Approximation: the fraction is E' of source 000. Only: no other answer satisfies the statements.
 // - Values, Squares, Rounding, Bounds, Ratios: values and squares modulo x − e, how many there are, the nearest whole
 //   number, 64 bits, fractions as they are written. Example: answers by computation.
+#![tactic(auto)]
+

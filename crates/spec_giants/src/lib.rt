@@ -4,3 +4,5 @@
 //   over the field. Steps: steps see only the ideal.
 // - Entries: the ideal and the distance of every index of the endless walk, and the steps from one. Landings:
 //   where the giant step of two of them lands.
+#![tactic(auto)]
+

@@ -2,3 +2,5 @@
 // - Halving: the definitions. Reached: where the halving ends. Below: the demands as statements, with the proofs of T1
 //   and of T2 up to R. Repeats: the walk past R.
 // - Only: no other answer satisfies the statements. Example: answers by computation.
+#![tactic(auto)]
+

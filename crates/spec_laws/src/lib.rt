@@ -7,3 +7,5 @@
 //   convergents. Monic: the unit.
 // - Pairs, PairTest, Product, ProductCong, ProductSizes: products. Reduction, ReductionSizes, Reduced, Shift:
 //   reductions.
+#![tactic(auto)]
+

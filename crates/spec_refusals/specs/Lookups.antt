@@ -6,7 +6,8 @@ use Rattle.std.proofs.Math.Nat.{suc-mul, mul-mod_left, mul-le-mul_right}
 use native.Mathlib.Omega.{arith}
 use Rattle.std.specs.Prelude.{◌≡◌, ◌≢◌, ◌⊎◌, Bool, not, ◌||◌, List, [], ◌++◌, map, eqb, get_or, take, drop}
 use Rattle.std.proofs.Math.Path.{refl, ap, subst}
-use Rattle.std.proofs.Math.Logic.{⊎_elim, Iff·trans}
+use Rattle.std.proofs.Math.Logic.{⊎_elim}
+use Rattle.std.proofs.Math.Logic.Iff
 use Rattle.std.proofs.Math.Bool.{true, false}
 use Rattle.std.proofs.lemmas.Bool.{false≢true}
 use Rattle.std.proofs.Math.Dec.{leb, ltb}
@@ -109,7 +110,7 @@ module _ (l : List ℕ) (n : ℕ) where
     kind_at_lem k i h = get_or-map kind (take (n + 4) (drop (k * (n + 4)) l)) i 0 ∙ ap kind (get_or-take (n + 4) (drop (k * (n + 4)) l) i 0 h ∙ get_or-drop (k * (n + 4)) l i 0)
 
     tests_record : (k : ℕ) → k < record_count l n → Tests (not (same (map kind (record_at l n k)) (record_kinds n))) (WrongKind l n k)
-    tests_record k h = Iff·trans (tests_differ (map kind (record_at l n k)) (record_kinds n) (length_at k h ∙ sym length_kinds)) (λ s. let b : s.0 < n + 4 = subst (λ (m : ℕ). s.0 < m) (length_at k h) s.1 in (s.0, b, λ e. s.2 (kind_at_lem k s.0 b ∙ e)), λ s. (s.0, subst (λ (m : ℕ). s.0 < m) (sym (length_at k h)) s.1, λ e. s.2 (sym (kind_at_lem k s.0 s.1) ∙ e)))
+    tests_record k h = Iff.trans (tests_differ (map kind (record_at l n k)) (record_kinds n) (length_at k h ∙ sym length_kinds)) (λ s. let b : s.0 < n + 4 = subst (λ (m : ℕ). s.0 < m) (length_at k h) s.1 in (s.0, b, λ e. s.2 (kind_at_lem k s.0 b ∙ e)), λ s. (s.0, subst (λ (m : ℕ). s.0 < m) (sym (length_at k h)) s.1, λ e. s.2 (sym (kind_at_lem k s.0 s.1) ∙ e)))
 
     tests_kinds : (m : ℕ) → m ≤ record_count l n → Tests (not (right_kinds l n m)) ((k : ℕ) × (k < m) × WrongKind l n k)
     unfolding right_kinds
@@ -138,7 +139,7 @@ module _ (l : List ℕ) (n : ℕ) where
       go false s t = (λ e. let w = s.0 refl in let b = w.1 in (w.0, omega arith, w.2), λ w. refl)
 
   rising_all : Tests (not (rising l n (record_count l n - 1))) (NotRising l n)
-  rising_all = Iff·trans (tests_rising (record_count l n - 1)) (λ s. let b = s.1 in (s.0, omega arith, s.2), λ s. let b = s.1 in (s.0, omega arith, s.2))
+  rising_all = Iff.trans (tests_rising (record_count l n - 1)) (λ s. let b = s.1 in (s.0, omega arith, s.2), λ s. let b = s.1 in (s.0, omega arith, s.2))
 
   pub tests_listing : Tests (wrong_listing l n) (WrongListing l n)
   unfolding wrong_listing

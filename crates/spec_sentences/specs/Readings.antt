@@ -3,7 +3,7 @@
 use Rattle.std.specs.Prelude.{ℕ, suc, ◌+◌, ◌-◌, ◌%◌, ◌≤◌, ◌<◌, ◌≡◌, refl, ◌↔◌, ◌≢◌, ◌⊎◌, false, not, List, [], ◌∷◌, map, length, get_or, take, drop, eqb}
 use Rattle.std.proofs.Common.{mod-lt, eq-or-lt_of_le, arith, sym, ◌∙◌, inl, inr, ⊎_elim, length-take, length-drop, get_or-take, ltb-false}
 use Rattle.std.proofs.Math.Path.{ap, subst}
-use Rattle.std.proofs.Math.Logic.{Iff·trans}
+use Rattle.std.proofs.Math.Logic.Iff
 use Rattle.std.proofs.lemmas.List.{length-map}
 use Rattle.std.proofs.Math.ListN.{get_or-map}
 use Rattle.std.proofs.Math.Seq.{get_or-drop}
@@ -34,7 +34,7 @@ fits_large f x = (ltb-false x f.q, λ h. tests_none (tests_lt x f.q) (λ l. omeg
 
 pub tests_degree_of : (m : ℕ) → Tests (wrong_degree m) (DegreeNotAllowed m)
 unfolding wrong_degree
-tests_degree_of m = tests_or (Iff·trans (tests_not (tests_eq (m % 2) 0)) (tests_odd m)) (λ _. tests_lt m 2) (tests_lt 64 m)
+tests_degree_of m = tests_or (Iff.trans (tests_not (tests_eq (m % 2) 0)) (tests_odd m)) (λ _. tests_lt m 2) (tests_lt 64 m)
 
 module _ (w : List ℕ) where
   pub tests_head : Tests (wrong_head (1 ∷ []) w) (WrongHead w)
@@ -43,7 +43,7 @@ module _ (w : List ℕ) where
 
   pub tests_prime : Tests (wrong_prime (q w)) (WrongPrime w)
   unfolding wrong_prime
-  tests_prime = tests_not (Iff·trans (odd_prime_true (q w), prime_odd_prime (q w)) (prime_allowed (q w)))
+  tests_prime = tests_not (Iff.trans (odd_prime_true (q w), prime_odd_prime (q w)) (prime_allowed (q w)))
 
   pub tests_degree : Tests (wrong_degree (n w)) (WrongDegree w)
   tests_degree = tests_degree_of (n w)
@@ -94,7 +94,7 @@ module _ (w : List ℕ) where
   kind_differs e (inr (inr h)) = (n w + 2, omega (arith, length_kinds e), λ k. h ((end_at (n w + 2) refl).1 k))
 
   tests_kind : length w ≡ n w + 5 → Tests (not (same (map kind (drop 2 w)) (later_kinds (n w)))) (WrongKind w)
-  tests_kind e = Iff·trans (tests_differ _ _ (length_kinds e ∙ sym (length_later (n w)))) (differs_kind e, kind_differs e)
+  tests_kind e = Iff.trans (tests_differ _ _ (length_kinds e ∙ sym (length_later (n w)))) (differs_kind e, kind_differs e)
 
   pub tests_layout : Tests (wrong_layout (n w) w) (WrongLayout w)
   unfolding wrong_layout
@@ -102,7 +102,7 @@ module _ (w : List ℕ) where
 
   pub tests_coefficient : length w ≡ n w + 5 → Tests (wrong_coefficient (field w) (D w)) (WrongCoefficient w)
   unfolding wrong_coefficient
-  tests_coefficient e = Iff·trans (tests_some (fits (field w)) (D w)) (λ r. let l : r.0 ≤ n w = omega (arith, length_D w e) in (r.0, l, (fits_large (field w) _).0 (subst (λ c. fits (field w) c ≡ false) (coefficient_at w r.0 l) r.2)), λ r. (r.0, omega (arith, length_D w e), subst (λ c. fits (field w) c ≡ false) (sym (coefficient_at w r.0 r.1)) ((fits_large (field w) _).1 r.2)))
+  tests_coefficient e = Iff.trans (tests_some (fits (field w)) (D w)) (λ r. let l : r.0 ≤ n w = omega (arith, length_D w e) in (r.0, l, (fits_large (field w) _).0 (subst (λ c. fits (field w) c ≡ false) (coefficient_at w r.0 l) r.2)), λ r. (r.0, omega (arith, length_D w e), subst (λ c. fits (field w) c ≡ false) (sym (coefficient_at w r.0 r.1)) ((fits_large (field w) _).1 r.2)))
 
   pub tests_lead : Tests (wrong_lead (n w) (D w)) (WrongLead w)
   unfolding wrong_lead

@@ -4,7 +4,7 @@
 use Rattle.std.specs.Prelude.{ℕ, suc, ◌-◌ as ◌-ₙ◌, ◌≤◌, ◌≡◌, ◌≢◌, List, length, get_or}
 use Rattle.std.proofs.Common.{arith, sym, ap, ap₂, ◌∙◌, subst, ⊎_elim}
 use Rattle.std.proofs.Math.Path.{fun_ext}
-use Rattle.std.proofs.Math.Logic.{Iff·trans}
+use Rattle.std.proofs.Math.Logic.Iff
 use Rattle.math_ring.specs.Order.{le_or_lt}
 use Rattle.math_ring.specs.Series.{conv}
 use Rattle.math_algebra.specs.Field.{Field}
@@ -74,7 +74,7 @@ module _ (f : FieldName) (A : Arithmetic f) where
   -- ---- the gcd of D and D' is not constant
   pub tests_square : (D : List ℕ) (n : ℕ) → length D ≤ suc n → get_or D n 0 ≡ 1 → Tests (not_squarefree f D) (SquareDivides f D)
   unfolding not_squarefree
-  tests_square D n long lead = Iff·trans (tests_not (tests_eq (size (ops f) G) 1)) (λ h. square_lists D (some h), λ s e. constant (square_gcd K d is (square_factor D s)) e)
+  tests_square D n long lead = Iff.trans (tests_not (tests_eq (size (ops f) G) 1)) (λ h. square_lists D (some h), λ s e. constant (square_gcd K d is (square_factor D s)) e)
     where
       d : Deg K (series M D) n
       d = monic_deg K (series_monic_of K M D n (omega (arith, length_trim M D)) (ap M.φ lead ∙ φ_one_in A))

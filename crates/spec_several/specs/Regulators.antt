@@ -5,7 +5,7 @@
 -- such a job. No other list of outcomes satisfies T1 and T2.
 use Rattle.std.specs.Prelude.{ℕ, zero, suc, ◌+◌, ◌-◌, ◌≤◌, ◌<◌, ◌≡◌, refl, ◌↔◌, ◌≢◌, ◌⊎◌, Bool, true, false, List, [], ◌∷◌, map, length, get_or}
 use Rattle.std.proofs.Common.{eq-zero-or-pos, arith, sym, ap, ◌∙◌, subst, inl, inr, ⊎_elim, ext_get_or}
-use Rattle.std.proofs.Math.Logic.{Iff·trans}
+use Rattle.std.proofs.Math.Logic.Iff
 use Rattle.std.proofs.lemmas.Bool.{false≢true}
 use Rattle.std.proofs.lemmas.List.{length-map}
 use Rattle.std.proofs.Math.ListN.{get_or-map, get_or-eq_default}
@@ -125,7 +125,7 @@ Places = (w : List ℕ) → Answered w (several_answer w)
 -- ---- the proof
 -- ---- the refusals of a single job
 tests_allowed : (q : ℕ) → Tests (odd_prime q) (AllowedPrime q)
-tests_allowed q = Iff·trans (odd_prime_true q, prime_odd_prime q) (prime_allowed q)
+tests_allowed q = Iff.trans (odd_prime_true q, prime_odd_prime q) (prime_allowed q)
 
 -- the same of equal numbers
 along : (P : ℕ → Type 0) {x y : ℕ} → x ≡ y → P x ↔ P y
@@ -203,15 +203,15 @@ module _ (w : List ℕ) (degree : ¬ DegreeNotAllowed (value_at w 0)) (q : ℕ) 
 
   prime_refused : PrimeRefused q v (value_at w 0) (words_outcome v)
   prime_refused = record {
-    two = Iff·trans (refused_first 2) (
+    two = Iff.trans (refused_first 2) (
       λ f. prime_number.0 f.2,
       λ h. (omega arith, omega arith, prime_number.1 h, before_2),
     );
-    six = Iff·trans (refused_first 6) (
+    six = Iff.trans (refused_first 6) (
       λ f. (allowed (omega arith) f.3, lead.0 f.2),
       λ h. (omega arith, omega arith, lead.1 h.1, before_6 h.0),
     );
-    seven = Iff·trans (refused_first 7) (
+    seven = Iff.trans (refused_first 7) (
       λ f. (allowed (omega arith) f.3, lead_one f.3, square.0 f.2),
       λ h. (omega arith, omega arith, square.1 h.2, none_more P (before_6 h.0) (λ l. lead.0 l h.1)),
     );

@@ -1,6 +1,8 @@
 // Jobs from standard input for the programs that compare the engine's answers with stored ones: words of four
 // bytes, low byte first; an outcome as four numbers, as the stored answers have it; a line for a job that
 // differs and a last line with the counts.
+#![tactic(auto)]
+
 ghost use Rattle.std.specs.Prelude.{◌≤◌, length};
 
 use libc::STDOUT_FILENO;

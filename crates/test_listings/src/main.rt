@@ -5,6 +5,8 @@
 // words: how many words of the listing are lent, n, the distance's high and low 32 bits, and the place and
 // the size of the part that is to come.
 // Prints a line for each job that differs, then the counts.
+#![tactic(auto)]
+
 ghost use Rattle.std.specs.Prelude.{◌≤◌, length};
 
 use base_counters::Distance;

@@ -1,5 +1,7 @@
 // Products, divisions and greatest common divisors of sample polynomials, written out to be compared with
 // values found by another program.
+#![tactic(auto)]
+
 ghost use Rattle.std.specs.Prelude.{◌+◌, ◌<◌, ◌≤◌};
 ghost use Rattle.base_field.specs.Named.{IsField};
 ghost use Rattle.base_polynomial.specs.Whole.{Held};

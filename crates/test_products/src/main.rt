@@ -2,6 +2,8 @@
 // every polynomial with the stored ones.
 // The input is the number of jobs, then the jobs as the file has them. Prints a line for each job that
 // differs, then the counts.
+#![tactic(auto)]
+
 ghost use Rattle.std.specs.Prelude.{◌≤◌, length};
 ghost use Rattle.ideal_giant.specs.Signed.{two_distances};
 

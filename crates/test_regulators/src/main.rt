@@ -2,6 +2,8 @@
 // with the stored ones.
 // The input is the number of jobs, then the jobs as the files have them. Prints a line for each job that
 // differs, then the counts.
+#![tactic(auto)]
+
 ghost use Rattle.std.specs.Prelude.{◌≤◌, length};
 
 use engine::regulator;

@@ -2,6 +2,8 @@
 // budget, and the coefficients of D.
 // The input is the number of jobs, then for each job the number of its words, at most 80, and the words; all
 // as four bytes, low byte first.
+#![tactic(auto)]
+
 ghost use Rattle.std.specs.Prelude.{◌≤◌, length};
 
 use libc::STDOUT_FILENO;

@@ -3,6 +3,8 @@
 // lists one place short the answer is 12 and all four are kept.
 // The input is the number of jobs, then the jobs as the file has them. Prints a line for each job that
 // differs, then the counts.
+#![tactic(auto)]
+
 ghost use Rattle.std.specs.Prelude.{◌<◌, ◌≤◌, length};
 
 use engine::unit::unit;

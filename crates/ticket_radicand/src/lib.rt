@@ -1,4 +1,6 @@
 // The polynomial D: its coefficients read from the words, and the tests on them.
+#![tactic(auto)]
+
 ghost use Rattle.std.specs.Prelude.{◌≡◌, ◌+◌, ◌<◌, ◌≤◌, length};
 ghost use Rattle.spec_definitions.specs.Ticket.{wrong_coefficient, wrong_lead, not_squarefree, first_of};
 ghost use Rattle.base_field.specs.Named.{name, IsField};

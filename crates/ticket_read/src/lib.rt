@@ -1,5 +1,7 @@
 // The job ticket: any words are read as a field, a degree, the polynomial D and a budget, or refused by the
 // number of the first test that applies.
+#![tactic(auto)]
+
 
 ghost use Rattle.std.specs.Prelude.{◌≡◌, ◌+◌, ◌<◌, ◌≤◌, length, get_or};
 ghost use Rattle.spec_arithmetic.specs.Words.{value as value_of};

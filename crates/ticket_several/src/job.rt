@@ -1,7 +1,7 @@
 // The single job at a prime: the integer coefficients are reduced modulo it.
 ghost use Rattle.std.specs.Prelude.{◌≡◌, map, ◌+◌, ◌<◌, ◌≤◌, length, take, drop};
 ghost use Rattle.spec_arithmetic.specs.Words.{values, value as value_of};
-ghost use Rattle.spec_several.specs.Several.{residue as residueOf, several_refusal, job_words};
+ghost use Rattle.spec_several.specs.Several.{residue as residue_of, several_refusal, job_words};
 ghost use Rattle.base_field.specs.Named.{IsField};
 ghost use Rattle.base_polynomial.specs.Whole.{Holds};
 ghost use Rattle.ticket_read.specs.Read.{read_of, Stands};
@@ -18,7 +18,7 @@ const NEGATIVES: u32 = 134217728;
 // The residue of the number that a value stands for.
 fn residue(f: Field, v: u32) -> u32
     requires { IsField f }
-    ensures { result ≡ residueOf f.q v }
+    ensures { result ≡ residue_of f.q v }
 {
     let r = reduce(f, v);
     if v < NEGATIVES {
@@ -30,7 +30,7 @@ fn residue(f: Field, v: u32) -> u32
 // The residues of the n + 1 coefficients.
 fn reduced(f: Field, n: usize, words: &[u32]) -> Poly
     requires { IsField f × (n ≤ 64) × (n + 2 ≤ length words.now) }
-    ensures { Holds result (map (residueOf f.q) (map value_of (take (n + 1) (drop 1 words.now)))) }
+    ensures { Holds result (map (residue_of f.q) (map value_of (take (n + 1) (drop 1 words.now)))) }
 {
     let mut c = [0u32; 129];
     let mut i: usize = 0;

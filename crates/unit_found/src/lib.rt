@@ -1,5 +1,7 @@
 // The unit of a walk that is found, into four lent lists where each is long enough.
-ghost use Rattle.spec_definitions.specs.Ticket.{ticket as ticketFrom, genus};
+#![tactic(auto)]
+
+ghost use Rattle.spec_definitions.specs.Ticket.{ticket as ticket_from, genus};
 ghost use Rattle.spec_definitions.specs.Answers.{found};
 ghost use Rattle.spec_definitions.specs.Units.{unit_from};
 ghost use Rattle.base_field.specs.Named.{IsField, name};
@@ -34,7 +36,7 @@ pub fn unit_found(
     requires found { Found (name t.field) t.n (poly t.radicand) t.budget r.0 m.0 c }
     requires held { Held t.field t.radicand }
     requires prepared { Prepared (name t.field) (genus t.n) (poly t.radicand) inverses.now d.now twice.now }
-    ensures { Answers (unit_from (ticketFrom (name t.field) t.n (poly t.radicand) t.budget) (found r.0 m.0 c) (lists p.old s.old x.old y.old)) (meaning result) (lists p.new s.new x.new y.new) }
+    ensures { Answers (unit_from (ticket_from (name t.field) t.n (poly t.radicand) t.budget) (found r.0 m.0 c) (lists p.old s.old x.old y.old)) (meaning result) (lists p.new s.new x.new y.new) }
 {
     if !room(r, p.len(), s.len(), x.len(), y.len()) {
         return Outcome::Refused(12);

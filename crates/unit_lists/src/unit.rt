@@ -5,7 +5,7 @@ ghost use Rattle.spec_definitions.specs.Walk.{degree_before};
 ghost use Rattle.spec_definitions.specs.Units.{unit_lists};
 ghost use Rattle.spec_laws.specs.Admitted.{Admitted};
 ghost use Rattle.base_field.specs.Named.{IsField, name, ops};
-ghost use Rattle.base_polynomial.specs.Record.{poly as polyAt, Held as HeldAt};
+ghost use Rattle.base_polynomial.specs.Record.{poly as poly_at, Held as HeldAt};
 ghost use Rattle.walk_state.specs.State.{root_d};
 ghost use Rattle.walk_state.specs.Start.{Prepared};
 ghost use Rattle.unit_room.specs.Room.{Room, lists};
@@ -35,12 +35,12 @@ pub fn write_unit(
     y: &mut [u32],
 )
     requires field { IsField f }
-    requires admitted { Admitted (name f) (genus n) (polyAt radicand.now size) }
+    requires admitted { Admitted (name f) (genus n) (poly_at radicand.now size) }
     requires held_at { HeldAt (name f) radicand.now size × (2 ≤ n) × (m.0 < budgets) }
-    requires prepared { Prepared (name f) (genus n) (polyAt radicand.now size) inverses.now d.now twice.now }
-    requires r_value { r.0 ≡ degree_before (ops f) (polyAt radicand.now size) (root_d (name f) (genus n) (polyAt radicand.now size)) m.0 }
+    requires prepared { Prepared (name f) (genus n) (poly_at radicand.now size) inverses.now d.now twice.now }
+    requires r_value { r.0 ≡ degree_before (ops f) (poly_at radicand.now size) (root_d (name f) (genus n) (poly_at radicand.now size)) m.0 }
     requires room { Room (r.0 + 1) p.old s.old x.old y.old }
-    ensures { (b : ℕ) → lists p.new s.new x.new y.new ≡ unit_lists (ticket (name f) n (polyAt radicand.now size) b) r.0 m.0 (lists p.old s.old x.old y.old) }
+    ensures { (b : ℕ) → lists p.new s.new x.new y.new ≡ unit_lists (ticket (name f) n (poly_at radicand.now size) b) r.0 m.0 (lists p.old s.old x.old y.old) }
 {
     let count = r.0 as usize + 1;
     start_lists(m, count, p, s, x, y);

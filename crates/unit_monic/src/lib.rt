@@ -1,4 +1,6 @@
 // Two lists, p and s, divided by the leading coefficient of p, so that p is monic.
+#![tactic(auto)]
+
 ghost use Rattle.std.specs.Prelude.{◌-◌, ◌<◌, ◌≤◌, length, get_or};
 ghost use Rattle.spec_arithmetic.specs.Polynomials.{scale};
 ghost use Rattle.base_field.specs.Named.{IsField, Ok, name, ops};

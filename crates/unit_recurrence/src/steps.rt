@@ -6,7 +6,7 @@ ghost use Rattle.spec_definitions.specs.Walk.{degree_before};
 ghost use Rattle.spec_laws.specs.Admitted.{Admitted};
 ghost use Rattle.base_field.specs.Named.{IsField, name, ops};
 ghost use Rattle.base_polynomial.specs.Places.{Places};
-ghost use Rattle.base_polynomial.specs.Record.{poly as polyAt, Held as HeldAt};
+ghost use Rattle.base_polynomial.specs.Record.{poly as poly_at, Held as HeldAt};
 ghost use Rattle.walk_step.specs.Step.{step_quo, Inverses, Division};
 ghost use Rattle.walk_state.specs.State.{root_d};
 ghost use Rattle.walk_state.specs.Start.{Prepared};
@@ -89,13 +89,13 @@ pub fn steps(
     y: &mut [u32],
 )
     requires field { IsField f }
-    requires admitted { Admitted (name f) (genus n) (polyAt radicand.now size) }
+    requires admitted { Admitted (name f) (genus n) (poly_at radicand.now size) }
     requires held_at { HeldAt (name f) radicand.now size × (2 ≤ n) × (m.0 < budgets) }
-    requires prepared { Prepared (name f) (genus n) (polyAt radicand.now size) inverses.now d.now twice.now }
-    requires m_value { degree_before (ops f) (polyAt radicand.now size) (root_d (name f) (genus n) (polyAt radicand.now size)) m.0 + 1 ≡ count }
+    requires prepared { Prepared (name f) (genus n) (poly_at radicand.now size) inverses.now d.now twice.now }
+    requires m_value { degree_before (ops f) (poly_at radicand.now size) (root_d (name f) (genus n) (poly_at radicand.now size)) m.0 + 1 ≡ count }
     requires room { Room count p.old s.old x.old y.old }
-    requires pairs { Pairs (name f) (genus n) (polyAt radicand.now size) count m.0 0 p.old s.old x.old y.old p.old s.old x.old y.old }
-    ensures { Ended (name f) (genus n) (polyAt radicand.now size) count m.0 p.old s.old x.old y.old p.new s.new x.new y.new }
+    requires pairs { Pairs (name f) (genus n) (poly_at radicand.now size) count m.0 0 p.old s.old x.old y.old p.old s.old x.old y.old }
+    ensures { Ended (name f) (genus n) (poly_at radicand.now size) count m.0 p.old s.old x.old y.old p.new s.new x.new y.new }
 {
     let top = n / 2 + 1;
     let mut before = [0u32; 129];

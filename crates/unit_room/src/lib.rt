@@ -1,4 +1,6 @@
 // Whether four lent lists have room for a unit.
+#![tactic(auto)]
+
 ghost use Rattle.std.specs.Prelude.{◌≡◌, ◌&&◌, suc, leb};
 
 use base_counters::Distance;

@@ -1,4 +1,6 @@
 // The four lists of a unit before the first step and after the last: p, s and the work lists x and y.
+#![tactic(auto)]
+
 ghost use Rattle.std.specs.Prelude.{[], ◌∷◌, ◌+◌, ◌<◌, ◌≤◌, length};
 ghost use Rattle.spec_definitions.specs.Ticket.{budgets};
 ghost use Rattle.unit_room.specs.Room.{Room};

@@ -1,5 +1,7 @@
 // How a run ends that meets a constant Q: the constant with its sign, over the square of the leading coefficient λ
 // of p_{m − 1}.
+#![tactic(auto)]
+
 ghost use Rattle.std.specs.Prelude.{◌≡◌, ◌%◌};
 ghost use Rattle.spec_definitions.specs.Answers.{found as found_at};
 ghost use Rattle.spec_laws.specs.Leads.{two_over};

@@ -1,4 +1,6 @@
 // Half the walk: its outcome, how it ends, its steps to the middle, and the run.
+#![tactic(auto)]
+
 pub mod ends;
 pub mod seek;
 

@@ -4,7 +4,7 @@ ghost use Rattle.spec_definitions.specs.Ticket.{genus, budgets, ticket};
 ghost use Rattle.spec_laws.specs.Admitted.{Admitted};
 ghost use Rattle.spec_half.specs.Half.{half_of};
 ghost use Rattle.base_field.specs.Named.{IsField, name};
-ghost use Rattle.base_polynomial.specs.Record.{poly as polyAt, Held as HeldAt};
+ghost use Rattle.base_polynomial.specs.Record.{poly as poly_at, Held as HeldAt};
 ghost use Rattle.walk_state.specs.Start.{Prepared};
 ghost use Rattle.walk_half.specs.Outcome.{half_meaning};
 
@@ -33,10 +33,10 @@ pub fn seek_middle(
     budget: u64,
 ) -> HalfOutcome
     requires field { IsField f }
-    requires admitted { Admitted (name f) (genus n) (polyAt radicand.now size) }
+    requires admitted { Admitted (name f) (genus n) (poly_at radicand.now size) }
     requires held_at { HeldAt (name f) radicand.now size × (2 ≤ n) × (budget < budgets) }
-    requires prepared { Prepared (name f) (genus n) (polyAt radicand.now size) inverses.now d.now twice.now }
-    ensures { half_meaning result ≡ half_of (ticket (name f) n (polyAt radicand.now size) budget) }
+    requires prepared { Prepared (name f) (genus n) (poly_at radicand.now size) inverses.now d.now twice.now }
+    ensures { half_meaning result ≡ half_of (ticket (name f) n (poly_at radicand.now size) budget) }
 {
     let top = n / 2 + 1;
     let mut a = [0u32; 129];

@@ -1,4 +1,6 @@
 // The product of 2/lc Q_j for all j below i along a walk, from index 1 on twice the leading coefficient of p_{i − 1}.
+#![tactic(auto)]
+
 ghost use Rattle.std.specs.Prelude.{◌≡◌, ◌*◌};
 ghost use Rattle.walk_lead.specs.Kept.{factor_of, Asks};
 

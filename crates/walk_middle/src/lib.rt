@@ -1,5 +1,7 @@
 // The tests of half the walk at an index i, after the step from Q_{i+1} to Q_{i+2}: whether Q_{i+1} is a constant
 // times Q_i, whether P_{i+1} = P_{i+2}, which the remainders tell, whether the budget is spent.
+#![tactic(auto)]
+
 ghost use Rattle.std.specs.Prelude.{◌≡◌, ◌<◌, ◌≤◌, length};
 ghost use Rattle.spec_sentences.specs.Tests.{Tests};
 ghost use Rattle.base_field.specs.Named.{IsField, name};

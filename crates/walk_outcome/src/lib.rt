@@ -1,4 +1,6 @@
 // The outcome of a ticket's walk, and what a call on a ticket answers.
+#![tactic(auto)]
+
 use base_counters::{Distance, Index};
 
 // Found with R, m and c; spent with the steps made and the degree reached; refused with its number.

@@ -1,4 +1,6 @@
 // The run of the walk: what it starts from is prepared, then the steps to an outcome.
+#![tactic(auto)]
+
 ghost use Rattle.std.specs.Prelude.{◌≡◌, ◌<◌, ◌≤◌};
 ghost use Rattle.spec_definitions.specs.Ticket.{genus, budgets, ticket};
 ghost use Rattle.spec_definitions.specs.Answers.{outcome_of};

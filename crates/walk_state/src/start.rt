@@ -1,6 +1,6 @@
 // What the walk starts from: the table of inverses and the root d of D.
 ghost use Rattle.std.specs.Prelude.{◌≡◌, ℕ, ◌+◌, ◌<◌, ◌≤◌, get_or};
-ghost use Rattle.spec_arithmetic.specs.Polynomials.{pad, mul as mulOf, root as root_of};
+ghost use Rattle.spec_arithmetic.specs.Polynomials.{pad, mul as mul_of, root as root_of};
 ghost use Rattle.spec_definitions.specs.Ticket.{genus};
 ghost use Rattle.spec_laws.specs.Admitted.{Admitted};
 ghost use Rattle.base_field.specs.Named.{IsField, name, ops};
@@ -37,7 +37,7 @@ fn coefficient(f: Field, h: usize, e: usize, radicand: &[u32; 129], d: &[u32; 12
     requires e_lt_h { (e < h) × (h ≤ 64) }
     requires by_index { (i : ℕ) → get_or radicand.now i 0 < f.q }
     requires within { Within (name f) d.now (h + 1) }
-    ensures { result ≡ (ops f).mul ((ops f).sub (get_or radicand.now (e + h) 0) (get_or (mulOf (ops f) d.now d.now) (e + h) 0)) ((ops f).inv 2) }
+    ensures { result ≡ (ops f).mul ((ops f).sub (get_or radicand.now (e + h) 0) (get_or (mul_of (ops f) d.now d.now) (e + h) 0)) ((ops f).inv 2) }
 {
     let square = dot(f, d, d, e + h, h + 1, h + 1);
     let rest = base_field::sub(f, radicand[e + h], square);

@@ -15,7 +15,7 @@ use base_polynomial::product::excess;
 use walk_short::linear::linear;
 use walk_short::quadratic::quadratic;
 
-// The coefficient at k of twice − rest − typeof.x.Q, where x has l places and zeros before `from`. q − a stands for
+// The coefficient at k of twice − rest − x·Q, where x has l places and zeros before `from`. q − a stands for
 // −a, so that no sum goes below 0; 128 products of 4,095² are below 2³¹.
 fn rest_at(
     f: Field,

@@ -1,5 +1,7 @@
 // The walk from index to index: where it stands, its beginning, and one step with its counts, into other
 // arrays or in place.
+#![tactic(auto)]
+
 ghost use Rattle.base_field.specs.Named.{IsField, name};
 ghost use Rattle.walk_stride.specs.Progress.{Begun, Going, Taken, Turned};
 
