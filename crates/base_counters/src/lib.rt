@@ -4,9 +4,9 @@
 
 
 // A walk's index, the source's i; also the quasi-period and the number of steps taken.
-#[derive(Drop)]
+#[derive(Clone, Copy)]
 pub struct Index(pub u64);
 
 // A walk's distance, the source's δ_i; also the regulator and the degree reached.
-#[derive(Drop)]
+#[derive(Clone, Copy)]
 pub struct Distance(pub u64);

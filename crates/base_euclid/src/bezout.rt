@@ -13,7 +13,7 @@ use base_places::product::excess;
 use base_polynomial::arrays::{lead_inverse, monic_by};
 
 // The sizes of a greatest common divisor and of its factors.
-#[derive(Drop)]
+#[derive(Clone, Copy)]
 pub struct Sizes {
     pub gcd: usize,
     pub u: usize,
@@ -21,7 +21,7 @@ pub struct Sizes {
 }
 
 // The sizes of a greatest common divisor and of its first factor.
-#[derive(Drop)]
+#[derive(Clone, Copy)]
 pub struct FirstSizes {
     pub gcd: usize,
     pub u: usize,

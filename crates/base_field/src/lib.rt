@@ -12,7 +12,7 @@ const RANGE: u64 = 4294967296;
 
 // The field of q elements, with what takes the place of a division by q.
 // Invariant (`IsField`): q is an odd prime below 4,096, and the reciprocal is (2³² − 1) div q.
-#[derive(Drop)]
+#[derive(Clone, Copy)]
 pub struct Field {
     pub q: u32,
     pub reciprocal: u32,

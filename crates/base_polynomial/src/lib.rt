@@ -8,7 +8,7 @@ pub mod product;
 // A polynomial: its coefficients, constant term first.
 // Invariant (`Held`): the coefficients are below q, they are 0 from `size` on, and the one before that place
 // is not 0.
-#[derive(Drop)]
+#[derive(Clone, Copy)]
 pub struct Poly {
     pub c: [u32; 129],
     pub size: usize,

@@ -19,7 +19,7 @@ use walk_stride::{begin, stride};
 
 // The degree reached, and the product of 2/lc Q_j, or what stands for it before it is reduced.
 #[repr(C)]
-#[derive(Drop)]
+#[derive(Clone, Copy)]
 pub struct Made {
     pub degree: u64,
     pub product: u64,

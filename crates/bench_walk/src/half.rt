@@ -21,7 +21,7 @@ use walk_stride::{Progress, begin, stride};
 // The degree reached, and how often the tests said that half the walk stops: of this count only a bound is
 // proved.
 #[repr(C)]
-#[derive(Drop)]
+#[derive(Clone, Copy)]
 pub struct Tried {
     pub degree: u64,
     pub stops: u64,

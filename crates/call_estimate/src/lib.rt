@@ -18,7 +18,7 @@ const MOST_DEGREE: usize = 8;
 
 // Invariant (`EstimateSays`): the number of words handed in, the number of a refusal or 0, the fraction, not reduced, and
 // the nearest whole number: zero in a refusal.
-#[derive(Drop)]
+#[derive(Clone, Copy)]
 pub struct EstimateAnswer {
     pub words: u64,
     pub number: u32,

@@ -24,7 +24,7 @@ use ticket_read::read_ticket;
 
 // Invariant (`GiantStepSays`): the number of words handed in, the number of a refusal or 0, the reduced
 // ideal, f and the distance: zero in a refusal.
-#[derive(Drop)]
+#[derive(Clone, Copy)]
 pub struct GiantStepAnswer {
     pub words: u64,
     pub number: u32,

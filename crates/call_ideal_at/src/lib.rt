@@ -21,7 +21,7 @@ use ticket_read::read_ticket;
 
 // Invariant (`IdealAtSays`): the number of words handed in, the number of a refusal or 0, the ideal, its distance and
 // that of the next: zero in a refusal.
-#[derive(Drop)]
+#[derive(Clone, Copy)]
 pub struct IdealAtAnswer {
     pub words: u64,
     pub number: u32,

@@ -34,7 +34,7 @@ fn listing_ok(list: &[u32], n: u64) -> bool
 }
 
 // A part of a list: how many words stand before it, and how many it has.
-#[derive(Drop)]
+#[derive(Clone, Copy)]
 pub struct Part {
     pub offset: usize,
     pub length: usize,

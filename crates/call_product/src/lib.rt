@@ -19,7 +19,7 @@ use ticket_read::read_ticket;
 
 // Invariant (`ProductSays`): the number of words handed in, the number of a refusal or 0, and S, Q, P: zero
 // in a refusal.
-#[derive(Drop)]
+#[derive(Clone, Copy)]
 pub struct ProductAnswer {
     pub words: u64,
     pub number: u32,

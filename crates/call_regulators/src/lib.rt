@@ -15,7 +15,7 @@ use ticket_several::shape::several_refusal;
 use walk_outcome::Outcome;
 
 // The outcome at one prime: a struct around the enum, since the prover covers no array of enums in a struct.
-#[derive(Drop)]
+#[derive(Clone, Copy)]
 pub struct AtPrime {
     pub outcome: Outcome,
 }
@@ -27,7 +27,7 @@ const NO_OUTCOME: AtPrime = AtPrime {
 
 // What the call answers: the number of words handed in, how many outcomes there are, and sixteen places for
 // them; those past the count hold Refused(0).
-#[derive(Drop)]
+#[derive(Clone, Copy)]
 pub struct SeveralAnswer {
     pub words: u64,
     pub count: u64,

@@ -11,7 +11,7 @@ use base_field::Field;
 
 // Invariant (`CountsBelow`): of the elements below some k, at how many the value is a nonzero square, and at how many a
 // non-square. An element at which the value is 0 counts in neither.
-#[derive(Drop)]
+#[derive(Clone, Copy)]
 pub struct Counts {
     pub squares: u32,
     pub non_squares: u32,

@@ -22,7 +22,7 @@ use ideal_operand::cofactor::cofactor;
 use walk_step::step::step_by;
 
 // An ideal of the endless walk, held in two arrays: the sizes of Q and P, and its distance.
-#[derive(Drop)]
+#[derive(Clone, Copy)]
 pub struct Located {
     pub q: usize,
     pub p: usize,
@@ -30,7 +30,7 @@ pub struct Located {
 }
 
 // Where single steps stand: the size of Q and the distance.
-#[derive(Drop)]
+#[derive(Clone, Copy)]
 struct Standing {
     size: usize,
     distance: Distance,

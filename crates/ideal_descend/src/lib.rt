@@ -21,7 +21,7 @@ use walk_step::step::step_by;
 
 // Where the reduction stands, at an index j: the size of Q_j, how many places P_j + d may have, and the sum of
 // deg a_i for i from 1 to j.
-#[derive(Drop)]
+#[derive(Clone, Copy)]
 pub struct Stage {
     pub size: usize,
     pub top: usize,
@@ -29,7 +29,7 @@ pub struct Stage {
 }
 
 // The sizes of Q and P of the reduced ideal, and the sum of deg a_j for j from 1 to k.
-#[derive(Drop)]
+#[derive(Clone, Copy)]
 pub struct Reduced {
     pub q: usize,
     pub p: usize,

@@ -8,7 +8,7 @@ pub mod step;
 pub const FARTHEST: u64 = 1099511627776;
 
 // The sizes of Q and P of the reduced ideal, f and the distance.
-#[derive(Drop)]
+#[derive(Clone, Copy)]
 pub struct Giant {
     pub q: usize,
     pub p: usize,

@@ -4,14 +4,14 @@
 pub mod cofactor;
 
 // The sizes of Q and P.
-#[derive(Drop)]
+#[derive(Clone, Copy)]
 pub struct PairSizes {
     pub q: usize,
     pub p: usize,
 }
 
 // The sizes of S, Q and P.
-#[derive(Drop)]
+#[derive(Clone, Copy)]
 pub struct ProductSizes {
     pub s: usize,
     pub q: usize,

@@ -5,7 +5,7 @@ pub mod operand;
 
 // A pair (Q, P) that was handed in. Invariant (`Paired`): `ok` says whether it is an ideal as refusal 9 asks; q
 // and p are the sizes of its polynomials, which are 0 where it is not.
-#[derive(Drop)]
+#[derive(Clone, Copy)]
 pub struct Pair {
     pub ok: bool,
     pub q: usize,

@@ -20,7 +20,7 @@ use ideal_operand::ProductSizes;
 use ideal_operand::cofactor::cofactor;
 
 // The sizes of S, U and W, with S = U.Q_1 + V.Q_2 + W·(P_1 + P_2).
-#[derive(Drop)]
+#[derive(Clone, Copy)]
 pub struct FactorSizes {
     pub s: usize,
     pub u: usize,
@@ -28,7 +28,7 @@ pub struct FactorSizes {
 }
 
 // The sizes of Q_1/S and Q.
-#[derive(Drop)]
+#[derive(Clone, Copy)]
 pub struct NormSizes {
     pub first: usize,
     pub q: usize,

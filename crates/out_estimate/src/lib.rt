@@ -8,7 +8,7 @@ use call_estimate::EstimateAnswer;
 
 // The number of words handed in, the number of a refusal or 0, numerator, denominator and the nearest whole number.
 #[repr(C)]
-#[derive(Drop)]
+#[derive(Clone, Copy)]
 pub struct EstimateNumbers {
     pub words: u64,
     pub number: u64,

@@ -12,7 +12,7 @@ use walk_outcome::{Answer, Outcome};
 // The number of words handed in, the paper's number of the outcome and its values: found 0, R, m, c; spent
 // 11, k, e, 0; refused j, 0, 0, 0.
 #[repr(C)]
-#[derive(Drop)]
+#[derive(Clone, Copy)]
 pub struct Numbers {
     pub words: u64,
     pub number: u64,
@@ -23,7 +23,7 @@ pub struct Numbers {
 
 // A part of a list: how many words stand before it, and how many it has.
 #[repr(C)]
-#[derive(Drop)]
+#[derive(Clone, Copy)]
 pub struct Part {
     pub offset: u64,
     pub length: u64,

@@ -13,7 +13,7 @@ use call_product::ProductAnswer;
 // The number of words handed in, the number of a refusal or 0, and the sizes of S, Q and P: the degree + 1,
 // or 0 for the zero polynomial.
 #[repr(C)]
-#[derive(Drop)]
+#[derive(Clone, Copy)]
 pub struct ProductNumbers {
     pub words: u64,
     pub number: u64,
@@ -24,7 +24,7 @@ pub struct ProductNumbers {
 
 // The number of words handed in, the number of a refusal or 0, the sizes of Q and P, f and the distance.
 #[repr(C)]
-#[derive(Drop)]
+#[derive(Clone, Copy)]
 pub struct GiantStepNumbers {
     pub words: u64,
     pub number: u64,
@@ -36,7 +36,7 @@ pub struct GiantStepNumbers {
 
 // The number of words handed in, the number of a refusal or 0, the sizes of Q and P, the distance and that of the next.
 #[repr(C)]
-#[derive(Drop)]
+#[derive(Clone, Copy)]
 pub struct IdealNumbers {
     pub words: u64,
     pub number: u64,

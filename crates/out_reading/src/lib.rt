@@ -6,7 +6,7 @@ ghost use Rattle.spec_definitions.specs.Program.{read_bytes};
 ghost use Rattle.out_reading.specs.Reading.{word_from, Read};
 
 // The whole words among the first 280 bytes, the number of them, and whether a word is cut.
-#[derive(Drop)]
+#[derive(Clone, Copy)]
 pub struct Words {
     pub cut: bool,
     pub count: usize,

@@ -13,7 +13,7 @@ use walk_outcome::{Answer, Outcome};
 
 // The number of words handed in, and how many outcomes there are.
 #[repr(C)]
-#[derive(Drop)]
+#[derive(Clone, Copy)]
 pub struct SeveralNumbers {
     pub words: u64,
     pub count: u64,

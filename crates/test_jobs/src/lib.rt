@@ -110,7 +110,7 @@ pub fn same_part(part: &[u32], list: &[u32], place: usize) -> bool {
 }
 
 // An answer's number and its values, zeros where it has fewer than three.
-#[derive(Drop)]
+#[derive(Clone, Copy)]
 pub struct Numbers {
     pub number: u64,
     pub first: u64,

@@ -19,7 +19,7 @@ use test_jobs::{
 const MOST: u64 = 2199023255552;
 
 // An ideal of a job: the lists of Q and P with the number of their words, and its distance.
-#[derive(Drop)]
+#[derive(Clone, Copy)]
 struct Operand {
     q: [u32; 64],
     qsize: usize,

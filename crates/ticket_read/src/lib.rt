@@ -22,7 +22,7 @@ use ticket_radicand::{radicand_of, radicand_refusal};
 
 // What a ticket says. Invariant (`Stands`): `number` is that of the first refusal, 1 to 7, with all other
 // values zero, or 0; then the field is one, and D has the ticket's coefficients.
-#[derive(Drop)]
+#[derive(Clone, Copy)]
 pub struct Ticket {
     pub number: u32,
     pub field: Field,

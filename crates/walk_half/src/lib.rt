@@ -19,7 +19,7 @@ use base_polynomial::Poly;
 use walk_state::start::prepare;
 
 // Found with R and m; spent with the indices tried and the degree reached; refused with its number.
-#[derive(Drop)]
+#[derive(Clone, Copy)]
 pub enum HalfOutcome {
     Found(Distance, Index),
     Spent(Index, Distance),
@@ -27,7 +27,7 @@ pub enum HalfOutcome {
 }
 
 // What a call answers: the number of words handed in, and one of three outcomes.
-#[derive(Drop)]
+#[derive(Clone, Copy)]
 pub struct HalfAnswer {
     pub words: u64,
     pub outcome: HalfOutcome,

@@ -13,7 +13,7 @@ use base_field::{Field, reduce};
 use walk_stride::Progress;
 
 // Whether half the walk stops, and by which test.
-#[derive(Drop)]
+#[derive(Clone, Copy)]
 pub enum Stop {
     No,
     ByQ,

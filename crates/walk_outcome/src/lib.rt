@@ -4,7 +4,7 @@
 use base_counters::{Distance, Index};
 
 // Found with R, m and c; spent with the steps made and the degree reached; refused with its number.
-#[derive(Drop)]
+#[derive(Clone, Copy)]
 pub enum Outcome {
     Found(Distance, Index, u32),
     Spent(Index, Distance),
@@ -12,7 +12,7 @@ pub enum Outcome {
 }
 
 // What a call on a ticket answers: the number of words handed in, and one of three outcomes.
-#[derive(Drop)]
+#[derive(Clone, Copy)]
 pub struct Answer {
     pub words: u64,
     pub outcome: Outcome,

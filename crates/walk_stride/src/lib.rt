@@ -10,7 +10,7 @@ use base_field::Field;
 use walk_step::step::step;
 
 // Where the walk stands: the index i, the degree of p_{i − 1}, the size of Q_i and its constant coefficient.
-#[derive(Drop)]
+#[derive(Clone, Copy)]
 pub struct Progress {
     pub index: Index,
     pub degree: Distance,
