@@ -3,12 +3,13 @@
 -- ideal of the endless walk whose distance is at most y, with its distance and that of the next; the distances
 -- inside stay at or below 2^40; the walk past R repeats its ideals with distances raised by R. No other answer
 -- is refused so and stands so. The walk past R is proved in Repeats, the last of these in Only.
-use Prim.Native.Nat.{ℕ, suc, ◌+◌, ◌*◌, ◌/◌, ◌≤◌, ◌<◌}
-use Rattle.std.proofs.Common.{arith, sym, ap₂, subst, le-ltb}
-use Rattle.std.specs.Prelude.{◌≡◌, refl, ◌↔◌, ◌≢◌, ◌⊎◌, false, ◌||◌, ltb, get_or}
-use Rattle.std.proofs.Math.Path.{ap}
+use Prim.Native.Nat.{ℕ, zero, suc, ◌+◌, ◌*◌, ◌/◌, ◌≤◌, ◌<◌}
+use Rattle.std.proofs.Common.{arith, sym, ap₂, ◌∙◌, subst, inl, inr, ⊎_elim, lt-ltb, le-ltb}
+use Rattle.std.specs.Prelude.{◌≡◌, ◌↔◌, ◌≢◌, ◌⊎◌, Bool, true, false, ◌||◌, ltb, get_or}
+use Rattle.std.proofs.Math.Path.{refl, ap}
 use mathlib.Core.List.{List, []}
 use Rattle.std.proofs.Math.ListN.{length}
+use Rattle.math_ring.specs.Order.{le_or_lt}
 use Rattle.math_giants.specs.Below.{halves}
 use Rattle.spec_arithmetic.specs.Field.{reading}
 use Rattle.spec_arithmetic.specs.Polynomials.{size, lead, sub, scale}
@@ -20,12 +21,10 @@ use Rattle.spec_definitions.specs.Listing.{ideal_of, entry_of}
 use Rattle.spec_definitions.specs.Products.{farthest, wrong_distance}
 use Rattle.spec_fields.specs.Named.{Ok, arithmetic}
 use Rattle.spec_laws.specs.Admitted.{Admitted, is_field, admitted}
-use Rattle.spec_sentences.specs.Tests.{tests_lt}
 use Rattle.spec_sentences.specs.Sentences.{Same}
 use Rattle.spec_sentences.specs.Arithmetic.{Divides, lead_is_one}
 use Rattle.spec_expansion.specs.QuasiPeriod.{IsQuasiPeriod}
-use Rattle.spec_answers.specs.Refusals.{First, None}
-use Rattle.spec_answers.specs.Further.{words_refused, own_refused, is_done, further_number, further_refused}
+use Rattle.spec_answers.specs.Refusals.{First, None, passes, none_applies, first_number, number_first}
 use Rattle.spec_answers.specs.Records.{lead_inverse, monic_is, rem_congruent}
 use Rattle.spec_answers.specs.Outcomes.{degree_at}
 use Rattle.spec_giants.specs.Entries.{ideal, δ, Last, q_trim, p_trim, p_length, q_oks, p_oks, entry_ideal, last_most}
@@ -113,29 +112,58 @@ IdealAtOnly = (w : List ℕ) (y : ℕ) (a : IdealAtAnswer) → RefusedFirst w y 
 -- ---- the proof
 -- ---- the answer by its cases
 module _ (w : List ℕ) (y : ℕ) where
-  pub refused_answer : (k : ℕ) → refusal_of w ≡ suc k → ideal_at_answer w y ≡ ideal_at_refused (suc k)
+  abbrev past : Bool → IdealAtAnswer
+  past b = elim b [ true ↦ ideal_at_refused 10 | false ↦ ideal_at_done (ticket_of w) y ]
+
+  answer_by : (k : ℕ) → refusal_of w ≡ k → ideal_at_answer w y ≡ (elim k as (λ _. IdealAtAnswer) [ zero ↦ past (ltb farthest y) | suc j ↦ ideal_at_refused (suc j) ])
   unfolding ideal_at_answer
-  refused_answer = words_refused ideal_at_refused 10 (ideal_at_done (ticket_of w) y) w (tests_lt farthest y)
+  answer_by k e = ap (λ (k : ℕ). elim k as (λ _. IdealAtAnswer) [ zero ↦ past (ltb farthest y) | suc j ↦ ideal_at_refused (suc j) ]) e
+
+  pub refused_answer : (k : ℕ) → refusal_of w ≡ suc k → ideal_at_answer w y ≡ ideal_at_refused (suc k)
+  refused_answer k e = answer_by (suc k) e
 
   pub far_answer : refusal_of w ≡ 0 → farthest < y → ideal_at_answer w y ≡ ideal_at_refused 10
-  unfolding ideal_at_answer
-  far_answer = own_refused ideal_at_refused 10 (ideal_at_done (ticket_of w) y) w (tests_lt farthest y)
+  far_answer e l = answer_by 0 e ∙ ap past (lt-ltb farthest y l)
 
   pub done_answer : refusal_of w ≡ 0 → y ≤ farthest → ideal_at_answer w y ≡ ideal_at_done (ticket_of w) y
-  unfolding ideal_at_answer
-  done_answer e l = is_done ideal_at_refused 10 (ideal_at_done (ticket_of w) y) w (tests_lt farthest y) e (λ f. omega arith)
+  done_answer e l = answer_by 0 e ∙ ap past (le-ltb farthest y l)
 
--- ---- T1
-refused_zeros : (k : ℕ) → IdealAtZero (ideal_at_refused k)
-unfolding ideal_at_refused
-refused_zeros k = (refl, refl, refl, refl)
+  -- ---- T1
+  answer_number : {k : ℕ} → ideal_at_answer w y ≡ ideal_at_refused k → (ideal_at_answer w y).number ≡ k
+  unfolding ideal_at_refused
+  answer_number e = ap (λ (a : IdealAtAnswer). a.number) e
+
+  done_number : (ideal_at_done (ticket_of w) y).number ≡ 0
+  unfolding ideal_at_done
+  done_number = refl
+
+  refused_zeros : (k : ℕ) → IdealAtZero (ideal_at_refused k)
+  unfolding ideal_at_refused
+  refused_zeros k = (refl, refl, refl, refl)
+
+  number_by : (k : ℕ) → k ≢ 0 → ((ideal_at_answer w y).number ≡ k) ↔ (First k w ⊎ ((k ≡ 10) × None w × (farthest < y)))
+  number_by k some = (λ e. go (refusal_of w) refl e, ⊎_elim (λ f. from_first k (first_number w f) some) (λ f. answer_number (far_answer (passes w f.1) f.2) ∙ sym f.0))
+    where
+      from_first : (k : ℕ) → refusal_of w ≡ k → k ≢ 0 → (ideal_at_answer w y).number ≡ k
+      from_first zero e not = absurd (not refl)
+      from_first (suc k) e not = answer_number (refused_answer k e)
+
+      go : (n : ℕ) → refusal_of w ≡ n → (ideal_at_answer w y).number ≡ k → First k w ⊎ ((k ≡ 10) × None w × (farthest < y))
+      go zero z e = ⊎_elim (λ l. absurd (some (sym e ∙ ap (λ (a : IdealAtAnswer). a.number) (done_answer z l) ∙ done_number))) (λ l. inr (sym e ∙ answer_number (far_answer z l), none_applies w z, l)) (le_or_lt y farthest)
+      go (suc n) z e = inl (number_first w k some (z ∙ sym (answer_number (refused_answer n z)) ∙ e))
+
+  zeros_by : (ideal_at_answer w y).number ≢ 0 → IdealAtZero (ideal_at_answer w y)
+  zeros_by some = go (refusal_of w) refl
+    where
+      from : (k : ℕ) → ideal_at_answer w y ≡ ideal_at_refused k → IdealAtZero (ideal_at_answer w y)
+      from k e = subst IdealAtZero (sym e) (refused_zeros k)
+
+      go : (n : ℕ) → refusal_of w ≡ n → IdealAtZero (ideal_at_answer w y)
+      go zero z = ⊎_elim (λ l. absurd (some (ap (λ (a : IdealAtAnswer). a.number) (done_answer z l) ∙ done_number))) (λ l. from 10 (far_answer z l)) (le_or_lt y farthest)
+      go (suc n) z = from (suc n) (refused_answer n z)
 
 pub t1_ideal_at : T1IdealAt
-unfolding ideal_at_answer ideal_at_refused ideal_at_done
-t1_ideal_at w y =
-    let n = further_number ideal_at_refused 10 (ideal_at_done (ticket_of w) y) w (tests_lt farthest y) (λ a. a.number) (λ k. refl) refl in
-    let r = further_refused ideal_at_refused 10 (ideal_at_done (ticket_of w) y) w (tests_lt farthest y) (λ a. a.number) (λ k. refl) refl in
-    record { number = n; zeros = r IdealAtZero refused_zeros }
+t1_ideal_at w y = record { number = number_by w y; zeros = zeros_by w y }
 
 -- ---- T2
 module _ (t : Ticket) (h : Admitted t.field (genus t.n) t.D) where
