@@ -1,5 +1,5 @@
 -- One place is filled; the size is found from it.
-use Rattle.std.proofs.Common.{◌≡◌, refl, sym, ◌∙◌, [], ◌∷◌, ℕ, zero, suc, ◌<◌, ◌≤◌, arith, get_or, set, rules}
+use Rattle.std.proofs.Common.{◌≡◌, refl, sym, ◌∙◌, [], ◌∷◌, ℕ, zero, suc, ◌<◌, ◌≤◌, arith, get_or, set}
 use Rattle.spec_arithmetic.specs.Field.{modulo}
 use Rattle.spec_arithmetic.specs.Polynomials.{trim}
 use Rattle.spec_bridge.specs.Trim.{at_trim, trim_idem}
@@ -22,13 +22,10 @@ module _ (q c : ℕ) (less : c < q) where
   trimmed_place : Places (set zeros 0 c) (λ i. get_or (trim (modulo q) (c ∷ [])) i 0)
   trimmed_place = record { long = (one_place c).long; at = λ i. (one_place c).at i ∙ sym (at_trim (model q (omega arith)) (c ∷ []) reduced i) }
 
-pub top-requires : goal.top-requires
-top-requires c =
+pub top-requires-clause-by_index : goal.top-requires-clause-by_index
+top-requires-clause-by_index c =
     let v = c.args.c in
-    record {
-      from_bound = search rules;
-      by_index = λ i h. (one_place v).at i ∙ past v i h;
-    }
+    λ i h. (one_place v).at i ∙ past v i h
 
 pub returns : goal.returns
 returns c =

@@ -1,5 +1,3 @@
--- The measure is the size of b: the remainder's is smaller. Each branch is a rule of the definition, and
--- where b is constant two of them.
 use Rattle.std.proofs.Common.{arith, rules}
 use Rattle.base_polynomial.specs.Result.{size_rem}
 use Rattle.base_euclid.specs.Turn.{gcd_last, gcd_one, turn_held, gcd_turn}

@@ -1,0 +1,35 @@
+-- The derivative is held, so that its gcd with D can be formed, and the size of that decides.
+use Rattle.std.proofs.Common.{◌+◌, ◌<◌, arith, ◌∙◌}
+use Rattle.base_places.specs.Zeros.{scale_zero}
+use Rattle.base_polynomial.specs.Held.{held_positive}
+use Rattle.base_polynomial.specs.Linear.{held_within, is_derivative}
+use Rattle.ticket_radicand.specs.Squarefree.{held_derivative, not_squarefree_test}
+use Rattle.ticket_radicand.proofs.not_squarefree.Goals as goal
+
+pub derivative_places-requires : goal.derivative_places-requires
+derivative_places-requires c =
+    record {
+      field = (c.requires.field, c.requires.held.short);
+      within = held_within _ _ _ _ c.requires.held (omega arith);
+    }
+
+pub top-m-requires : goal.top-m-requires
+top-m-requires c =
+    let h = c.requires.held in
+    let pos : 0 < c.args.f.q = held_positive _ _ _ h in
+    record {
+      from_bound = h.short;
+      by_index = λ i l. c.derivative_places.ensures.at i ∙ scale_zero c.args.f.q pos (i + 1) ((held_within _ _ _ c.args.radicand.size h (omega arith)).past (i + 1) (omega arith));
+    }
+
+pub gcd-size-requires : goal.gcd-size-requires
+gcd-size-requires c =
+    record {
+      field = c.requires.field;
+      held = c.requires.held;
+      held_2 = held_derivative c.requires.held (is_derivative _ _ _ c.requires.held _ _ c.top-m.ensures c.derivative_places.ensures);
+    }
+
+pub returns : goal.returns
+returns c =
+    not_squarefree_test c.requires.held (is_derivative _ _ _ c.requires.held _ _ c.top-m.ensures c.derivative_places.ensures) c.requires.field.0 c.gcd-size.ensures
