@@ -1,0 +1,25 @@
+-- `product` meets its contract: a ticket that is refused gives zeros; else the pairs are tested.
+use Rattle.std.proofs.Common.{arith}
+use Rattle.ticket_read.specs.Accepted.{accepted, number_is, degree_two}
+use Rattle.call_product.specs.Products.{says_path, product_refused_lem, product_passed}
+use Rattle.call_product.proofs.product.Goals as goal
+
+pub returns-then-t-ne0 : goal.returns-then-t-ne0
+returns-then-t-ne0 c =
+    record {
+      words = c.refused.ensures.words_value;
+      says = says_path (product_refused_lem _ _ _ _ (number_is _ c.read_ticket-t.ensures) (λ e. omega arith)) c.refused.ensures.product_says;
+    }
+
+pub tested-requires : goal.tested-requires
+tested-requires c =
+    let a = accepted _ c.read_ticket-t.ensures (omega arith) in
+    (a.is_field, a.radicand, a.held, degree_two a)
+
+pub returns : goal.returns
+returns c =
+    let a = accepted _ c.read_ticket-t.ensures (omega arith) in
+    record {
+      words = c.tested.ensures.words_value;
+      says = says_path (product_passed _ _ _ _ a.passes a.ticket_is) (c.tested.ensures.by_index _);
+    }
