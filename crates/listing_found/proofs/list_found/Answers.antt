@@ -1,7 +1,6 @@
 -- `list_found` meets its contract: a list that is too short is refused as it is, any other receives the
 -- records.
-use Rattle.std.proofs.Common.{arith, sym, ◌∙◌, leb-true, leb-false, ap, not}
-use borrow.Author.Tests.{not-true, not-false}
+use Rattle.std.proofs.Common.{arith, sym, ◌∙◌, leb-true, leb-false}
 use Rattle.walk_run.specs.Found.{found_index, found_degree}
 use Rattle.listing_found.specs.Answers.{long_list, short_list}
 use Rattle.listing_found.proofs.list_found.Goals as goal
@@ -15,19 +14,19 @@ room-requires c =
     (omega arith, omega arith)
 
 pub returns-then-not-room : goal.returns-then-not-room
-returns-then-not-room c = short_list _ _ _ _ _ (leb-false _ _ (sym c.room.ensures ∙ not-true _ (ap not c.if-not-room.true)))
+returns-then-not-room c = short_list _ _ _ _ _ (leb-false _ _ (sym c.room.ensures ∙ c.if-not-room.true))
 
 pub write_records-requires : goal.write_records-requires
 write_records-requires c =
     let f = c.requires.found in
-    let w = leb-true _ _ (sym c.room.ensures ∙ not-false _ (ap not c.if-not-room.false)) in
+    let w = leb-true _ _ (sym c.room.ensures ∙ c.if-not-room.false) in
     record {
       field = c.requires.field;
-      listable = record { admitted = f.admitted; even = f.even; index_fits = found_index f; regulator_is = found_degree f; words-fit = w };
+      listable = record { admitted = f.admitted; even = f.even; index_fits = found_index f; regulator_is = found_degree f; words_fit_lem = w };
       held_at = c.requires.held;
       prepared = c.requires.prepared;
     }
 
 pub returns : goal.returns
 returns c =
-    long_list _ _ _ _ _ _ (leb-true _ _ (sym c.room.ensures ∙ not-false _ (ap not c.if-not-room.false))) (c.write_records.ensures _)
+    long_list _ _ _ _ _ _ (leb-true _ _ (sym c.room.ensures ∙ c.if-not-room.false)) (c.write_records.ensures _)

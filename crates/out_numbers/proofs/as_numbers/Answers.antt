@@ -1,0 +1,24 @@
+-- `as_numbers` meets its contract: each case of the outcome has its number and its values.
+use Rattle.std.proofs.Common.{refl, sym, ap}
+use Rattle.spec_definitions.specs.Answers.{said}
+use Rattle.walk_outcome.specs.Outcome.{meaning}
+use Rattle.out_numbers.specs.Numbers.{plain_found, plain_spent, plain_refused, plain_same}
+use Rattle.out_numbers.proofs.as_numbers.Goals as goal
+
+pub returns-in-Found : goal.returns-in-Found
+returns-in-Found c = record {
+      words = refl;
+      says = plain_same (sym (ap (λ x. said (meaning x)) c.outcome-1.given.1)) (plain_found _ _ _);
+    }
+
+pub returns-in-Spent : goal.returns-in-Spent
+returns-in-Spent c = record {
+      words = refl;
+      says = plain_same (sym (ap (λ x. said (meaning x)) c.outcome-in-Spent-1.given.1)) (plain_spent _ _);
+    }
+
+pub returns-in-Refused : goal.returns-in-Refused
+returns-in-Refused c = record {
+      words = refl;
+      says = plain_same (sym (ap (λ x. said (meaning x)) c.outcome-in-Refused-1.given.1)) (plain_refused _);
+    }
