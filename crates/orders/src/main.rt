@@ -1,16 +1,39 @@
 // The program "orders": a ticket's words from standard input, the answer of the call `listing` as lines on
 // standard output.
-// `output` promises that the bytes are those of the definition `program_of`. No contract can speak of what a
-// call of C's reads or writes.
+// `output` promises that the bytes are those of the definition `program_of`. No contract can speak of what the
+// system gives or takes.
 #![tactic(auto)]
 
-use libc::{STDIN_FILENO, STDOUT_FILENO};
-use out_program::output;
+ghost use Rattle.std.specs.Prelude.{◌≤◌, length, take};
+ghost use Rattle.std.specs.Io.KnownBytes.{Consumes};
 
-fn main() {
+use out_program::output;
+use std::io::Read;
+
+// Reads until the bytes are full or the input ends, and returns how many there are. A read that fails is taken
+// for the end.
+fn read_full<R: Read>(input: &mut R, bytes: &mut [u8]) -> usize
+    ensures within { result ≤ length bytes.new }
+    ensures read { Consumes (R.remaining input.old) (R.remaining input.new) (take result bytes.new) }
+{
+    let mut done: usize = 0;
+    while done < bytes.len() {
+        let Ok(n) = input.read(&mut bytes[done..]) else {
+            return done;
+        };
+        if n == 0 {
+            return done;
+        }
+        done += n;
+    }
+    done
+}
+
+fn main(rt: HostRuntime) {
     let mut bytes = [0u8; 280];
-    let count = io::read_full(STDIN_FILENO, &mut bytes);
+    let count = read_full(&mut rt.reader(), &mut bytes);
     let mut lines = [0u8; 98304];
     let size = output(&bytes[..count], &mut lines);
-    io::write_all(STDOUT_FILENO, &lines[..size]);
+    // What standard output does not take is lost, and the status stays 0.
+    let _ = rt.write_all(&lines[..size]);
 }

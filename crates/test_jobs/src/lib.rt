@@ -3,9 +3,10 @@
 // differs and a last line with the counts.
 #![tactic(auto)]
 
-ghost use Rattle.std.specs.Prelude.{◌≤◌, length};
+ghost use Rattle.std.specs.Prelude.{◌≤◌, length, IfOk};
 
-use libc::STDOUT_FILENO;
+use std::io;
+use std::io::Read;
 use walk_outcome::Outcome;
 
 // What no call writes: a place that keeps it was not written.
@@ -21,72 +22,71 @@ fn word(bytes: &[u8]) -> u32
     a | (b << 8) | (c << 16) | (d << 24)
 }
 
-pub fn read_word() -> u32 {
+// Reads until the bytes are full or the input ends: those that it does not reach stay as they are.
+fn read_full<R: Read>(input: &mut R, bytes: &mut [u8]) -> io::Result<()> {
+    let mut done: usize = 0;
+    while done < bytes.len() {
+        let n = input.read(&mut bytes[done..])?;
+        if n == 0 {
+            return Ok(());
+        }
+        done += n;
+    }
+    Ok(())
+}
+
+// Past the end of the input every byte is 0.
+pub fn read_word<R: Read>(input: &mut R) -> io::Result<u32> {
     let mut bytes = [0u8; 4];
-    io::read_full(0, &mut bytes);
-    word(&bytes)
+    read_full(input, &mut bytes)?;
+    Ok(word(&bytes))
 }
 
 // 64 bits, the high word first.
-pub fn read_wide() -> u64 {
-    let high = read_word() as u64;
-    let low = read_word() as u64;
-    (high << 32) | low
+pub fn read_wide<R: Read>(input: &mut R) -> io::Result<u64> {
+    let high = read_word(input)? as u64;
+    let low = read_word(input)? as u64;
+    Ok((high << 32) | low)
 }
 
 // A count, cut to the most that there is room for.
-pub fn read_count(most: usize) -> usize
-    ensures { result ≤ most }
+pub fn read_count<R: Read>(input: &mut R, most: usize) -> io::Result<usize>
+    ensures { IfOk result (λ n. n ≤ most) }
 {
-    let n = read_word() as usize;
-    if n < most { n } else { most }
+    let n = read_word(input)? as usize;
+    if n < most { Ok(n) } else { Ok(most) }
 }
 
-pub fn read_words(words: &mut [u32]) {
-    let mut i: usize = 0;
-    while i < words.len() {
-        words[i] = read_word();
-        i += 1;
+pub fn read_words<R: Read>(input: &mut R, words: &mut [u32]) -> io::Result<()> {
+    for place in words.iter_mut() {
+        *place = read_word(input)?;
     }
+    Ok(())
 }
 
 // Reads the first words of a list.
-pub fn read_first(words: &mut [u32], count: usize)
+pub fn read_first<R: Read>(input: &mut R, words: &mut [u32], count: usize) -> io::Result<()>
     requires { count ≤ length words.old }
 {
-    read_words(&mut words[..count]);
+    read_words(input, &mut words[..count])
 }
 
 pub fn fill(list: &mut [u32], v: u32) {
-    let mut i: usize = 0;
-    while i < list.len() {
-        list[i] = v;
-        i += 1;
+    for place in list.iter_mut() {
+        *place = v;
     }
 }
 
 pub fn same(a: &[u32], b: &[u32]) -> bool {
-    if a.len() != b.len() {
-        return false;
-    }
-    let mut i: usize = 0;
-    while i < a.len() {
-        if a[i] != b[i] {
-            return false;
-        }
-        i += 1;
-    }
-    true
+    a == b
 }
 
 // Whether every place of the list is v.
 pub fn keeps(list: &[u32], v: u32) -> bool {
-    let mut i: usize = 0;
-    while i < list.len() {
-        if list[i] != v {
+    for place in list {
+        if *place != v {
             return false;
         }
-        i += 1;
     }
     true
 }
@@ -99,12 +99,10 @@ pub fn same_part(part: &[u32], list: &[u32], place: usize) -> bool {
     if list.len() - place < part.len() {
         return false;
     }
-    let mut i: usize = 0;
-    while i < part.len() {
-        if part[i] != list[place + i] {
+    for (i, w) in part.iter().enumerate() {
+        if *w != list[place + i] {
             return false;
         }
-        i += 1;
     }
     true
 }
@@ -145,17 +143,17 @@ pub fn refused(j: u32) -> Numbers {
     }
 }
 
-pub fn read_numbers() -> Numbers {
-    let number = read_word() as u64;
-    let first = read_word() as u64;
-    let second = read_word() as u64;
-    let third = read_word() as u64;
-    Numbers {
+pub fn read_numbers<R: Read>(input: &mut R) -> io::Result<Numbers> {
+    let number = read_word(input)? as u64;
+    let first = read_word(input)? as u64;
+    let second = read_word(input)? as u64;
+    let third = read_word(input)? as u64;
+    Ok(Numbers {
         number,
         first,
         second,
         third,
-    }
+    })
 }
 
 pub fn same_numbers(a: Numbers, b: Numbers) -> bool {
@@ -171,35 +169,31 @@ pub fn same_numbers(a: Numbers, b: Numbers) -> bool {
     a.third == b.third
 }
 
-fn show(n: u64) {
-    io::print_decimal(STDOUT_FILENO, n);
-    io::write_all(STDOUT_FILENO, b" ");
+fn show(rt: &impl Print, n: u64) -> io::Result<()> {
+    print!(rt; "{n} ")
 }
 
 // The line of a job that differs: its number, and what the call said.
-pub fn show_difference(job: u32, said: Numbers) {
-    show(job as u64);
-    show(said.number);
-    show(said.first);
-    show(said.second);
-    show(said.third);
-    io::write_all(STDOUT_FILENO, b"\n");
+pub fn show_difference(rt: &impl Print, job: u32, said: Numbers) -> io::Result<()> {
+    show(rt, job as u64)?;
+    show(rt, said.number)?;
+    show(rt, said.first)?;
+    show(rt, said.second)?;
+    show(rt, said.third)?;
+    println!(rt; "")
 }
 
 // 0 where the job agrees; where it differs 1, and its line.
-pub fn differs(agrees: bool, job: u32, said: Numbers) -> u32
-    ensures { result ≤ 1 }
+pub fn differs(rt: &impl Print, agrees: bool, job: u32, said: Numbers) -> io::Result<u32>
+    ensures { IfOk result (λ n. n ≤ 1) }
 {
     if agrees {
-        return 0;
+        return Ok(0);
     }
-    show_difference(job, said);
-    1
+    show_difference(rt, job, said)?;
+    Ok(1)
 }
 
-pub fn show_counts(jobs: u32, differ: u32) {
-    io::print_decimal(STDOUT_FILENO, jobs as u64);
-    io::write_all(STDOUT_FILENO, b" jobs, ");
-    io::print_decimal(STDOUT_FILENO, differ as u64);
-    io::write_all(STDOUT_FILENO, b" differ\n");
+pub fn show_counts(rt: &impl Print, jobs: u32, differ: u32) -> io::Result<()> {
+    println!(rt; "{jobs} jobs, {differ} differ")
 }

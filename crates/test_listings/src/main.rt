@@ -7,11 +7,13 @@
 // Prints a line for each job that differs, then the counts.
 #![tactic(auto)]
 
-ghost use Rattle.std.specs.Prelude.{◌≤◌, length};
+ghost use Rattle.std.specs.Prelude.{◌≤◌, length, IfOk};
 
 use base_counters::Distance;
 use call_lookup::lookup;
 use engine::listing::listing;
+use std::io;
+use std::io::Read;
 use test_jobs::{
     MARK, Numbers, differs, fill, keeps, numbers_of, read_count, read_first, read_numbers,
     read_wide, read_word, refused, same, same_numbers, same_part, show_counts,
@@ -30,8 +32,15 @@ fn list_first(ticket: &[u32], out: &mut [u32], count: usize) -> Numbers
 }
 
 // Whether the answer and the whole lent list are the stored ones.
-fn lists(job: u32, ticket: &[u32], want: Numbers, stored: &[u32], out: &mut [u32]) -> u32
-    ensures { result ≤ 1 }
+fn lists(
+    rt: &impl Print,
+    job: u32,
+    ticket: &[u32],
+    want: Numbers,
+    stored: &[u32],
+    out: &mut [u32],
+) -> io::Result<u32>
+    ensures { IfOk result (λ n. n ≤ 1) }
 {
     fill(out, MARK);
     let said = list(ticket, out);
@@ -39,16 +48,22 @@ fn lists(job: u32, ticket: &[u32], want: Numbers, stored: &[u32], out: &mut [u32
     if same_numbers(said, want) {
         agrees = same(out, stored);
     }
-    differs(agrees, job, said)
+    differs(rt, agrees, job, said)
 }
 
 // Whether a list one word short of size is refused and kept.
-fn refuses(job: u32, ticket: &[u32], size: usize, out: &mut [u32]) -> u32
+fn refuses(
+    rt: &impl Print,
+    job: u32,
+    ticket: &[u32],
+    size: usize,
+    out: &mut [u32],
+) -> io::Result<u32>
     requires { size ≤ length out.old }
-    ensures { result ≤ 1 }
+    ensures { IfOk result (λ n. n ≤ 1) }
 {
     if size == 0 {
-        return 0;
+        return Ok(0);
     }
     fill(out, MARK);
     let said = list_first(ticket, out, size - 1);
@@ -56,80 +71,92 @@ fn refuses(job: u32, ticket: &[u32], size: usize, out: &mut [u32]) -> u32
     if same_numbers(said, refused(13)) {
         agrees = keeps(out, MARK);
     }
-    differs(agrees, job, said)
+    differs(rt, agrees, job, said)
 }
 
 // Whether the part of the list that comes next in the input is the one at the distance that comes next.
-fn finds(list: &[u32]) -> bool {
-    let n = read_word() as u64;
-    let y = read_wide();
-    let place = read_word() as usize;
-    let size = read_word() as usize;
+fn finds<R: Read>(input: &mut R, list: &[u32]) -> io::Result<bool> {
+    let n = read_word(input)? as u64;
+    let y = read_wide(input)?;
+    let place = read_word(input)? as usize;
+    let size = read_word(input)? as usize;
     let part = lookup(list, n, Distance(y));
     if part.len() != size {
-        return false;
+        return Ok(false);
     }
-    same_part(part, list, place)
+    Ok(same_part(part, list, place))
 }
 
-fn finds_first(list: &[u32], count: usize) -> bool
+fn finds_first<R: Read>(input: &mut R, list: &[u32], count: usize) -> io::Result<bool>
     requires { count ≤ length list.now }
 {
-    finds(&list[..count])
+    finds(input, &list[..count])
 }
 
 // Every lookup of a job. The line of one that differs has the number 8.
-fn looks_up(job: u32, list: &[u32]) -> u32
-    ensures { result ≤ 1 }
+fn looks_up<R: Read>(rt: &impl Print, input: &mut R, job: u32, list: &[u32]) -> io::Result<u32>
+    ensures { IfOk result (λ n. n ≤ 1) }
 {
-    let lookups = read_word();
+    let lookups = read_word(input)?;
     let mut wrong: u32 = 0;
-    let mut i: u32 = 0;
-    while i < lookups {
-        let count = read_count(list.len());
-        if !finds_first(list, count) {
+    for _ in 0..lookups {
+        let count = read_count(input, list.len())?;
+        if !finds_first(input, list, count)? {
             wrong = 1;
         }
-        i += 1;
     }
-    differs(wrong == 0, job, refused(8))
+    differs(rt, wrong == 0, job, refused(8))
 }
 
 // A job after its ticket.
-fn compare(job: u32, ticket: &[u32], stored: &mut [u32], out: &mut [u32]) -> u32
+fn compare<R: Read>(
+    rt: &impl Print,
+    input: &mut R,
+    job: u32,
+    ticket: &[u32],
+    stored: &mut [u32],
+    out: &mut [u32],
+) -> io::Result<u32>
     requires { length stored.old ≤ length out.old }
-    ensures { result ≤ 1 }
+    ensures { IfOk result (λ n. n ≤ 1) }
 {
-    let want = read_numbers();
+    let want = read_numbers(input)?;
     fill(stored, MARK);
-    let size = read_count(stored.len());
-    read_first(stored, size);
-    let a = lists(job, ticket, want, stored, out);
-    let b = refuses(job, ticket, size, out);
-    let c = looks_up(job, stored);
-    if a + b + c > 0 { 1 } else { 0 }
+    let size = read_count(input, stored.len())?;
+    read_first(input, stored, size)?;
+    let a = lists(rt, job, ticket, want, stored, out)?;
+    let b = refuses(rt, job, ticket, size, out)?;
+    let c = looks_up(rt, input, job, stored)?;
+    if a + b + c > 0 { Ok(1) } else { Ok(0) }
 }
 
-fn compare_first(job: u32, words: &[u32], count: usize, stored: &mut [u32], out: &mut [u32]) -> u32
+fn compare_first<R: Read>(
+    rt: &impl Print,
+    input: &mut R,
+    job: u32,
+    words: &[u32],
+    count: usize,
+    stored: &mut [u32],
+    out: &mut [u32],
+) -> io::Result<u32>
     requires count_in_bounds { count ≤ length words.now }
     requires stored_in_bounds { length stored.old ≤ length out.old }
-    ensures { result ≤ 1 }
+    ensures { IfOk result (λ n. n ≤ 1) }
 {
-    compare(job, &words[..count], stored, out)
+    compare(rt, input, job, &words[..count], stored, out)
 }
 
-fn main() {
-    let jobs = read_word();
+fn main(rt: HostRuntime) -> io::Result<()> {
+    let mut input = rt.reader();
+    let jobs = read_word(&mut input)?;
     let mut words = [0u32; 140];
     let mut stored = [0u32; 512];
     let mut out = [0u32; 512];
     let mut differ: u32 = 0;
-    let mut i: u32 = 0;
-    while i < jobs {
-        let count = read_count(140);
-        read_first(&mut words, count);
-        i += 1;
-        differ += compare_first(i, &words, count, &mut stored, &mut out);
+    for i in 0..jobs {
+        let count = read_count(&mut input, 140)?;
+        read_first(&mut input, &mut words, count)?;
+        differ += compare_first(&rt, &mut input, i + 1, &words, count, &mut stored, &mut out)?;
     }
-    show_counts(jobs, differ);
+    show_counts(&rt, jobs, differ)
 }

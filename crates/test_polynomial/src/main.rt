@@ -11,7 +11,7 @@ use base_field::{Field, field_of};
 use base_polynomial::Poly;
 use base_polynomial::arrays::multiply;
 use base_polynomial::linear::zero;
-use libc::STDOUT_FILENO;
+use std::io;
 
 // n coefficients from a linear congruence that starts at `seed`.
 fn sample(f: Field, seed: u32, n: usize) -> Poly
@@ -20,11 +20,9 @@ fn sample(f: Field, seed: u32, n: usize) -> Poly
 {
     let mut z = [0u32; 129];
     let mut s: u32 = seed;
-    let mut i: usize = 0;
-    while i < n {
+    for i in 0..n {
         s = (s * 75 + 74) % 65537;
         z[i] = s % f.q;
-        i += 1;
     }
     let size = base_polynomial::linear::top(&z, n);
     Poly { c: z, size }
@@ -41,57 +39,55 @@ fn places(n: usize) -> usize
 }
 
 // The coefficients in one line, constant term first.
-fn show(p: Poly) {
+fn show(rt: &impl Print, p: Poly) -> io::Result<()> {
     let n = places(p.size);
-    let mut i: usize = 0;
-    while i < n {
-        io::print_decimal(STDOUT_FILENO, wide(p.c[i]));
-        io::write_all(STDOUT_FILENO, b" ");
-        i += 1;
+    for i in 0..n {
+        let c = wide(p.c[i]);
+        print!(rt; "{c} ")?;
     }
-    io::write_all(STDOUT_FILENO, b"\n");
+    println!(rt; "")
 }
 
-fn show_product(f: Field, a: Poly, b: Poly)
+fn show_product(rt: &impl Print, f: Field, a: Poly, b: Poly) -> io::Result<()>
     requires field { IsField f × (a.size + b.size ≤ 130) }
     requires held { Held f a }
     requires held_2 { Held f b }
 {
     let mut z = [0u32; 129];
     let size = multiply(f, &a.c, a.size, &b.c, b.size, &mut z);
-    show(Poly { c: z, size });
+    show(rt, Poly { c: z, size })
 }
 
 // Quotient and remainder by a polynomial that is not 0.
-fn show_quotient(f: Field, a: Poly, b: Poly)
+fn show_quotient(rt: &impl Print, f: Field, a: Poly, b: Poly) -> io::Result<()>
     requires field { IsField f × (0 < b.size) }
     requires held { Held f a }
     requires held_2 { Held f b }
 {
     let mut z = [0u32; 129];
     let k = quotient(f, &a.c, a.size, &b.c, b.size, &mut z);
-    show(Poly { c: z, size: k });
+    show(rt, Poly { c: z, size: k })?;
     let mut y = a.c;
     let l = remainder(f, &mut y, a.size, &b.c, b.size);
-    show(Poly { c: y, size: l });
+    show(rt, Poly { c: y, size: l })
 }
 
 // Quotient and remainder; by 0 they are 0 and a.
-fn show_division(f: Field, a: Poly, b: Poly)
+fn show_division(rt: &impl Print, f: Field, a: Poly, b: Poly) -> io::Result<()>
     requires field { IsField f }
     requires held { Held f a }
     requires held_2 { Held f b }
 {
     if b.size == 0 {
-        show(zero());
-        show(a);
+        show(rt, zero())?;
+        show(rt, a)
     } else {
-        show_quotient(f, a, b);
+        show_quotient(rt, f, a, b)
     }
 }
 
 // The greatest common divisor. Euclid's algorithm uses up what it is lent, so copies are lent.
-fn show_divisor(f: Field, a: Poly, b: Poly)
+fn show_divisor(rt: &impl Print, f: Field, a: Poly, b: Poly) -> io::Result<()>
     requires field { IsField f }
     requires held { Held f a }
     requires held_2 { Held f b }
@@ -100,11 +96,11 @@ fn show_divisor(f: Field, a: Poly, b: Poly)
     let mut y = b.c;
     let mut g = [0u32; 129];
     let size = base_euclid::gcd::gcd(f, &mut x, a.size, &mut y, b.size, &mut g);
-    show(Poly { c: g, size });
+    show(rt, Poly { c: g, size })
 }
 
 // The same with Bezout's factors.
-fn show_factors(f: Field, a: Poly, b: Poly)
+fn show_factors(rt: &impl Print, f: Field, a: Poly, b: Poly) -> io::Result<()>
     requires field { IsField f }
     requires held { Held f a }
     requires held_2 { Held f b }
@@ -115,23 +111,23 @@ fn show_factors(f: Field, a: Poly, b: Poly)
     let mut u = [0u32; 129];
     let mut v = [0u32; 129];
     let s = base_euclid::bezout::bezout(f, &mut x, a.size, &mut y, b.size, &mut g, &mut u, &mut v);
-    show(Poly { c: g, size: s.gcd });
-    show(Poly { c: u, size: s.u });
-    show(Poly { c: v, size: s.v });
+    show(rt, Poly { c: g, size: s.gcd })?;
+    show(rt, Poly { c: u, size: s.u })?;
+    show(rt, Poly { c: v, size: s.v })
 }
 
 // The greatest common divisor, alone and with its factors.
-fn show_gcd(f: Field, a: Poly, b: Poly)
+fn show_gcd(rt: &impl Print, f: Field, a: Poly, b: Poly) -> io::Result<()>
     requires field { IsField f }
     requires held { Held f a }
     requires held_2 { Held f b }
 {
-    show_divisor(f, a, b);
-    show_factors(f, a, b);
+    show_divisor(rt, f, a, b)?;
+    show_factors(rt, f, a, b)
 }
 
 // The same of a and b times a third polynomial.
-fn show_common(f: Field, a: Poly, b: Poly, c: Poly)
+fn show_common(rt: &impl Print, f: Field, a: Poly, b: Poly, c: Poly) -> io::Result<()>
     requires field { IsField f × (a.size + c.size ≤ 130) × (b.size + c.size ≤ 130) }
     requires held { Held f a }
     requires held_2 { Held f b }
@@ -141,37 +137,38 @@ fn show_common(f: Field, a: Poly, b: Poly, c: Poly)
     let m = multiply(f, &a.c, a.size, &c.c, c.size, &mut x);
     let mut y = [0u32; 129];
     let n = multiply(f, &b.c, b.size, &c.c, c.size, &mut y);
-    show_gcd(f, Poly { c: x, size: m }, Poly { c: y, size: n });
+    show_gcd(rt, f, Poly { c: x, size: m }, Poly { c: y, size: n })
 }
 
 // Of sample polynomials of m and n places, and one of 9.
-fn samples(f: Field, m: usize, n: usize, seed: u32)
+fn samples(rt: &impl Print, f: Field, m: usize, n: usize, seed: u32) -> io::Result<()>
     requires { IsField f × (m ≤ 65) × (n ≤ 65) × (seed < 1000) }
 {
     let a = sample(f, seed, m);
     let b = sample(f, seed + 1, n);
     let c = sample(f, seed + 2, 9);
-    show_product(f, a, b);
-    show_division(f, a, b);
-    show_gcd(f, a, b);
-    show_common(f, a, b, c);
+    show_product(rt, f, a, b)?;
+    show_division(rt, f, a, b)?;
+    show_gcd(rt, f, a, b)?;
+    show_common(rt, f, a, b, c)
 }
 
-fn run(q: u32, m: usize, n: usize, seed: u32)
+fn run(rt: &impl Print, q: u32, m: usize, n: usize, seed: u32) -> io::Result<()>
     requires { (m ≤ 65) × (n ≤ 65) × (seed < 1000) }
 {
     if base_primes::is_odd_prime(q) {
-        samples(field_of(q), m, n, seed);
+        samples(rt, field_of(q), m, n, seed)?;
     }
+    Ok(())
 }
 
-fn main() {
-    run(3, 9, 5, 1);
-    run(7, 20, 8, 2);
-    run(101, 33, 33, 3);
-    run(4093, 65, 33, 4);
-    run(4093, 33, 65, 5);
-    run(5, 6, 0, 6);
-    run(4091, 0, 4, 7);
-    run(61, 1, 1, 8);
+fn main(rt: HostRuntime) -> io::Result<()> {
+    run(&rt, 3, 9, 5, 1)?;
+    run(&rt, 7, 20, 8, 2)?;
+    run(&rt, 101, 33, 33, 3)?;
+    run(&rt, 4093, 65, 33, 4)?;
+    run(&rt, 4093, 33, 65, 5)?;
+    run(&rt, 5, 6, 0, 6)?;
+    run(&rt, 4091, 0, 4, 7)?;
+    run(&rt, 61, 1, 1, 8)
 }

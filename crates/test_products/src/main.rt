@@ -4,13 +4,15 @@
 // differs, then the counts.
 #![tactic(auto)]
 
-ghost use Rattle.std.specs.Prelude.{◌≤◌, length};
+ghost use Rattle.std.specs.Prelude.{◌≤◌, length, IfOk};
 ghost use Rattle.ideal_giant.specs.Signed.{two_distances};
 
 use base_counters::Distance;
 use base_polynomial::Poly;
 use engine::giant_step::{GiantStepAnswer, giant_step};
 use engine::product::{ProductAnswer, product};
+use std::io;
+use std::io::Read;
 use test_jobs::{
     differs, read_count, read_first, read_wide, read_word, refused, same, show_counts,
 };
@@ -28,53 +30,53 @@ struct Operand {
     distance: u64,
 }
 
-fn read_operand() -> Operand
-    ensures { (result.qsize ≤ length result.q) × (result.psize ≤ length result.p) }
+fn read_operand<R: Read>(input: &mut R) -> io::Result<Operand>
+    ensures { IfOk result (λ o. (o.qsize ≤ length o.q) × (o.psize ≤ length o.p)) }
 {
     let mut q = [0u32; 64];
     let mut p = [0u32; 64];
-    let qsize = read_count(64);
-    read_first(&mut q, qsize);
-    let psize = read_count(64);
-    read_first(&mut p, psize);
-    let distance = read_wide();
-    Operand {
+    let qsize = read_count(input, 64)?;
+    read_first(input, &mut q, qsize)?;
+    let psize = read_count(input, 64)?;
+    read_first(input, &mut p, psize)?;
+    let distance = read_wide(input)?;
+    Ok(Operand {
         q,
         qsize,
         p,
         psize,
         distance,
-    }
+    })
 }
 
 // Whether the polynomial that comes next in the input is this one, with zeros above its degree.
-fn next_is(f: Poly) -> bool {
+fn next_is<R: Read>(input: &mut R, f: Poly) -> io::Result<bool> {
     let mut want = [0u32; 129];
-    let size = read_count(129);
-    read_first(&mut want, size);
+    let size = read_count(input, 129)?;
+    read_first(input, &mut want, size)?;
     if f.size != size {
-        return false;
+        return Ok(false);
     }
     let c = f.c;
-    same(&c, &want)
+    Ok(same(&c, &want))
 }
 
 // Whether the product that comes next in the input is this one.
-fn same_product(a: ProductAnswer) -> bool {
-    let number = read_word();
-    let s = next_is(a.s);
-    let q = next_is(a.q);
-    let p = next_is(a.p);
+fn same_product<R: Read>(input: &mut R, a: ProductAnswer) -> io::Result<bool> {
+    let number = read_word(input)?;
+    let s = next_is(input, a.s)?;
+    let q = next_is(input, a.q)?;
+    let p = next_is(input, a.p)?;
     if a.number != number {
-        return false;
+        return Ok(false);
     }
     if !s {
-        return false;
+        return Ok(false);
     }
     if !q {
-        return false;
+        return Ok(false);
     }
-    p
+    Ok(p)
 }
 
 // total − lower.
@@ -92,34 +94,35 @@ fn cut(size: u64) -> u64
 }
 
 // The number that comes next in the input, negative where its sign is 1.
-fn read_signed(negative: u32) -> i64 {
-    let size = cut(read_wide());
+fn read_signed<R: Read>(input: &mut R, negative: u32) -> io::Result<i64> {
+    let size = cut(read_wide(input)?);
     if negative == 1 {
-        return signed(0, size);
+        return Ok(signed(0, size));
     }
-    signed(size, 0)
+    Ok(signed(size, 0))
 }
 
 // Whether the giant step that comes next in the input is this one.
-fn same_giant_step(a: GiantStepAnswer) -> bool {
-    let number = read_word();
-    let q = next_is(a.q);
-    let p = next_is(a.p);
-    let f = signed(0, read_word() as u64);
-    let distance = read_signed(read_word());
+fn same_giant_step<R: Read>(input: &mut R, a: GiantStepAnswer) -> io::Result<bool> {
+    let number = read_word(input)?;
+    let q = next_is(input, a.q)?;
+    let p = next_is(input, a.p)?;
+    let f = signed(0, read_word(input)? as u64);
+    let negative = read_word(input)?;
+    let distance = read_signed(input, negative)?;
     if a.number != number {
-        return false;
+        return Ok(false);
     }
     if a.f != f {
-        return false;
+        return Ok(false);
     }
     if a.distance != distance {
-        return false;
+        return Ok(false);
     }
     if !q {
-        return false;
+        return Ok(false);
     }
-    p
+    Ok(p)
 }
 
 fn multiply(ticket: &[u32], x: Operand, y: Operand) -> ProductAnswer
@@ -157,51 +160,72 @@ fn step(ticket: &[u32], x: Operand, y: Operand) -> GiantStepAnswer
 }
 
 // The line of a product, or of a giant step, that differs has the number that it said.
-fn compare_product(job: u32, ticket: &[u32], x: Operand, y: Operand) -> u32
+fn compare_product<R: Read>(
+    rt: &impl Print,
+    input: &mut R,
+    job: u32,
+    ticket: &[u32],
+    x: Operand,
+    y: Operand,
+) -> io::Result<u32>
     requires { (x.qsize ≤ length x.q) × (x.psize ≤ length x.p) × (y.qsize ≤ length y.q) × (y.psize ≤ length y.p) }
-    ensures { result ≤ 1 }
+    ensures { IfOk result (λ n. n ≤ 1) }
 {
     let a = multiply(ticket, x, y);
-    differs(same_product(a), job, refused(a.number))
+    let agrees = same_product(input, a)?;
+    differs(rt, agrees, job, refused(a.number))
 }
 
-fn compare_step(job: u32, ticket: &[u32], x: Operand, y: Operand) -> u32
+fn compare_step<R: Read>(
+    rt: &impl Print,
+    input: &mut R,
+    job: u32,
+    ticket: &[u32],
+    x: Operand,
+    y: Operand,
+) -> io::Result<u32>
     requires { (x.qsize ≤ length x.q) × (x.psize ≤ length x.p) × (y.qsize ≤ length y.q) × (y.psize ≤ length y.p) }
-    ensures { result ≤ 1 }
+    ensures { IfOk result (λ n. n ≤ 1) }
 {
     let a = step(ticket, x, y);
-    differs(same_giant_step(a), job, refused(a.number))
+    let agrees = same_giant_step(input, a)?;
+    differs(rt, agrees, job, refused(a.number))
 }
 
 // A job after its ticket.
-fn compare(job: u32, ticket: &[u32]) -> u32
-    ensures { result ≤ 1 }
+fn compare<R: Read>(rt: &impl Print, input: &mut R, job: u32, ticket: &[u32]) -> io::Result<u32>
+    ensures { IfOk result (λ n. n ≤ 1) }
 {
-    let x = read_operand();
-    let y = read_operand();
-    let a = compare_product(job, ticket, x, y);
-    let b = compare_step(job, ticket, x, y);
-    if a + b > 0 { 1 } else { 0 }
+    let x = read_operand(input)?;
+    let y = read_operand(input)?;
+    let a = compare_product(rt, input, job, ticket, x, y)?;
+    let b = compare_step(rt, input, job, ticket, x, y)?;
+    if a + b > 0 { Ok(1) } else { Ok(0) }
 }
 
 // The same, of the first words of the list.
-fn compare_first(job: u32, words: &[u32], count: usize) -> u32
+fn compare_first<R: Read>(
+    rt: &impl Print,
+    input: &mut R,
+    job: u32,
+    words: &[u32],
+    count: usize,
+) -> io::Result<u32>
     requires { count ≤ length words.now }
-    ensures { result ≤ 1 }
+    ensures { IfOk result (λ n. n ≤ 1) }
 {
-    compare(job, &words[..count])
+    compare(rt, input, job, &words[..count])
 }
 
-fn main() {
-    let jobs = read_word();
+fn main(rt: HostRuntime) -> io::Result<()> {
+    let mut input = rt.reader();
+    let jobs = read_word(&mut input)?;
     let mut words = [0u32; 140];
     let mut differ: u32 = 0;
-    let mut i: u32 = 0;
-    while i < jobs {
-        let count = read_count(140);
-        read_first(&mut words, count);
-        i += 1;
-        differ += compare_first(i, &words, count);
+    for i in 0..jobs {
+        let count = read_count(&mut input, 140)?;
+        read_first(&mut input, &mut words, count)?;
+        differ += compare_first(&rt, &mut input, i + 1, &words, count)?;
     }
-    show_counts(jobs, differ);
+    show_counts(&rt, jobs, differ)
 }

@@ -6,7 +6,7 @@
 
 ghost use Rattle.std.specs.Prelude.{◌≤◌, length};
 
-use libc::STDOUT_FILENO;
+use std::io;
 use test_jobs::{read_count, read_first, read_word};
 use ticket_read::{Ticket, read_ticket};
 
@@ -16,45 +16,42 @@ fn at_most(n: usize, most: usize) -> usize
     if n < most { n } else { most }
 }
 
-fn show(n: u64) {
-    io::print_decimal(STDOUT_FILENO, n);
-    io::write_all(STDOUT_FILENO, b" ");
+fn show(rt: &impl Print, n: u64) -> io::Result<()> {
+    print!(rt; "{n} ")
 }
 
-fn show_word(w: u32) {
-    show(w as u64);
+fn show_word(rt: &impl Print, w: u32) -> io::Result<()> {
+    show(rt, w as u64)
 }
 
-fn show_ticket(t: Ticket) {
-    show_word(t.number);
-    show_word(t.field.q);
-    show(t.n as u64);
-    show(t.budget);
+fn show_ticket(rt: &impl Print, t: Ticket) -> io::Result<()> {
+    show_word(rt, t.number)?;
+    show_word(rt, t.field.q)?;
+    show(rt, t.n as u64)?;
+    show(rt, t.budget)?;
     let c = t.radicand.c;
     let size = at_most(t.radicand.size, 129);
-    let mut i: usize = 0;
-    while i < size {
-        show_word(c[i]);
-        i += 1;
+    for i in 0..size {
+        show_word(rt, c[i])?;
     }
-    io::write_all(STDOUT_FILENO, b"\n");
+    println!(rt; "")
 }
 
 // Reads the ticket of the first words of the list.
-fn show_first(words: &[u32], count: usize)
+fn show_first(rt: &impl Print, words: &[u32], count: usize) -> io::Result<()>
     requires { count ≤ length words.now }
 {
-    show_ticket(read_ticket(&words[..count]));
+    show_ticket(rt, read_ticket(&words[..count]))
 }
 
-fn main() {
-    let jobs = read_word();
+fn main(rt: HostRuntime) -> io::Result<()> {
+    let mut input = rt.reader();
+    let jobs = read_word(&mut input)?;
     let mut words = [0u32; 80];
-    let mut i: u32 = 0;
-    while i < jobs {
-        let count = read_count(80);
-        read_first(&mut words, count);
-        show_first(&words, count);
-        i += 1;
+    for _ in 0..jobs {
+        let count = read_count(&mut input, 80)?;
+        read_first(&mut input, &mut words, count)?;
+        show_first(&rt, &words, count)?;
     }
+    Ok(())
 }

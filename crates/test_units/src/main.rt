@@ -5,9 +5,11 @@
 // differs, then the counts.
 #![tactic(auto)]
 
-ghost use Rattle.std.specs.Prelude.{◌<◌, ◌≤◌, length};
+ghost use Rattle.std.specs.Prelude.{◌<◌, ◌≤◌, length, IfOk};
 
 use engine::unit::unit;
+use std::io;
+use std::io::Read;
 use test_jobs::{
     MARK, Numbers, differs, keeps, numbers_of, read_count, read_first, read_numbers, read_word,
     refused, same, same_numbers, show_counts,
@@ -28,13 +30,11 @@ fn kept(p: &[u32], s: &[u32], x: &[u32], y: &[u32]) -> bool {
 
 // Whether the list has zeros in its first places and the mark in the others.
 fn cleared(list: &[u32], places: usize) -> bool {
-    let mut i: usize = 0;
-    while i < list.len() {
+    for (i, w) in list.iter().enumerate() {
         let want = if i < places { 0 } else { MARK };
-        if list[i] != want {
+        if *w != want {
             return false;
         }
-        i += 1;
     }
     true
 }
@@ -74,9 +74,9 @@ fn write_short(
 }
 
 // Whether four lists of which list k is short are refused and kept.
-fn refuses(job: u32, ticket: &[u32], places: usize, k: u32) -> u32
+fn refuses(rt: &impl Print, job: u32, ticket: &[u32], places: usize, k: u32) -> io::Result<u32>
     requires { (0 < places) × (places ≤ 64) }
-    ensures { result ≤ 1 }
+    ensures { IfOk result (λ n. n ≤ 1) }
 {
     let mut p = [MARK; 64];
     let mut s = [MARK; 64];
@@ -87,7 +87,7 @@ fn refuses(job: u32, ticket: &[u32], places: usize, k: u32) -> u32
     if same_numbers(said, refused(12)) {
         agrees = kept(&p, &s, &x, &y);
     }
-    differs(agrees, job, said)
+    differs(rt, agrees, job, said)
 }
 
 // Whether the four lists hold the stored unit.
@@ -113,8 +113,16 @@ fn holds(
 }
 
 // Whether the answer and the four lists are the stored ones.
-fn writes(job: u32, ticket: &[u32], want: Numbers, unit: &[u32], root: &[u32], places: usize) -> u32
-    ensures { result ≤ 1 }
+fn writes(
+    rt: &impl Print,
+    job: u32,
+    ticket: &[u32],
+    want: Numbers,
+    unit: &[u32],
+    root: &[u32],
+    places: usize,
+) -> io::Result<u32>
+    ensures { IfOk result (λ n. n ≤ 1) }
 {
     let mut p = [MARK; 64];
     let mut s = [MARK; 64];
@@ -125,19 +133,19 @@ fn writes(job: u32, ticket: &[u32], want: Numbers, unit: &[u32], root: &[u32], p
     if same_numbers(said, want) {
         agrees = holds(unit, root, &p, &s, &x, &y, places);
     }
-    differs(agrees, job, said)
+    differs(rt, agrees, job, said)
 }
 
 // The four refusals of a job, one for each list.
-fn refuses_each(job: u32, ticket: &[u32], places: usize) -> u32
+fn refuses_each(rt: &impl Print, job: u32, ticket: &[u32], places: usize) -> io::Result<u32>
     requires { (0 < places) × (places ≤ 64) }
-    ensures { result ≤ 4 }
+    ensures { IfOk result (λ n. n ≤ 4) }
 {
-    let a = refuses(job, ticket, places, 0);
-    let b = refuses(job, ticket, places, 1);
-    let c = refuses(job, ticket, places, 2);
-    let d = refuses(job, ticket, places, 3);
-    a + b + c + d
+    let a = refuses(rt, job, ticket, places, 0)?;
+    let b = refuses(rt, job, ticket, places, 1)?;
+    let c = refuses(rt, job, ticket, places, 2)?;
+    let d = refuses(rt, job, ticket, places, 3)?;
+    Ok(a + b + c + d)
 }
 
 // R + 1, cut to the 64 places of a list.
@@ -148,38 +156,43 @@ fn places_of(r: u64) -> usize
 }
 
 // A job after its ticket.
-fn compare(job: u32, ticket: &[u32]) -> u32
-    ensures { result ≤ 1 }
+fn compare<R: Read>(rt: &impl Print, input: &mut R, job: u32, ticket: &[u32]) -> io::Result<u32>
+    ensures { IfOk result (λ n. n ≤ 1) }
 {
-    let want = read_numbers();
+    let want = read_numbers(input)?;
     let places = places_of(want.first);
     let mut unit = [MARK; 64];
     let mut root = [MARK; 64];
-    read_first(&mut unit, places);
-    read_first(&mut root, places);
-    let a = writes(job, ticket, want, &unit, &root, places);
-    let b = refuses_each(job, ticket, places);
-    if a + b > 0 { 1 } else { 0 }
+    read_first(input, &mut unit, places)?;
+    read_first(input, &mut root, places)?;
+    let a = writes(rt, job, ticket, want, &unit, &root, places)?;
+    let b = refuses_each(rt, job, ticket, places)?;
+    if a + b > 0 { Ok(1) } else { Ok(0) }
 }
 
 // The same, of the first words of the list.
-fn compare_first(job: u32, words: &[u32], count: usize) -> u32
+fn compare_first<R: Read>(
+    rt: &impl Print,
+    input: &mut R,
+    job: u32,
+    words: &[u32],
+    count: usize,
+) -> io::Result<u32>
     requires { count ≤ length words.now }
-    ensures { result ≤ 1 }
+    ensures { IfOk result (λ n. n ≤ 1) }
 {
-    compare(job, &words[..count])
+    compare(rt, input, job, &words[..count])
 }
 
-fn main() {
-    let jobs = read_word();
+fn main(rt: HostRuntime) -> io::Result<()> {
+    let mut input = rt.reader();
+    let jobs = read_word(&mut input)?;
     let mut words = [0u32; 140];
     let mut differ: u32 = 0;
-    let mut i: u32 = 0;
-    while i < jobs {
-        let count = read_count(140);
-        read_first(&mut words, count);
-        i += 1;
-        differ += compare_first(i, &words, count);
+    for i in 0..jobs {
+        let count = read_count(&mut input, 140)?;
+        read_first(&mut input, &mut words, count)?;
+        differ += compare_first(&rt, &mut input, i + 1, &words, count)?;
     }
-    show_counts(jobs, differ);
+    show_counts(&rt, jobs, differ)
 }
