@@ -30,18 +30,18 @@ seek-o-requires c =
 pub returns-in_default : goal.returns-in_default
 returns-in_default c =
     let o = c.seek-o in
-    from_outcome _ _ _ _ _ o.ensures (kept _ _ _ (not_found o.result c.in_default.keys2))
+    from_outcome _ _ _ _ _ o.ensures (kept _ _ _ (not_found o.result c.in_default.not-Found))
 
 pub list_found-requires : goal.list_found-requires
 list_found-requires c =
     let r = c.requires in
     record {
       field = r.is_field;
-      found = record { admitted = r.admitted; even = r.even; budget = r.budget; outcome = sym c.seek-o.ensures ∙ ap meaning c.o-1.given.1 };
+      found = record { admitted = r.admitted; even = r.even; budget = r.budget; outcome = sym c.seek-o.ensures ∙ ap meaning c.in-Found.is };
       held = r.held;
       prepared = c.prepare.ensures;
     }
 
 pub returns : goal.returns
 returns c =
-    from_outcome _ _ _ _ _ (sym (ap meaning c.o-1.given.1) ∙ c.seek-o.ensures) c.list_found.ensures
+    from_outcome _ _ _ _ _ (sym (ap meaning c.in-Found.is) ∙ c.seek-o.ensures) c.list_found.ensures

@@ -7,18 +7,18 @@ use Rattle.out_numbers.proofs.as_numbers.Goals as goal
 
 pub returns-in-Found : goal.returns-in-Found
 returns-in-Found c = record {
-      words = refl;
-      says = plain_same (sym (ap (λ x. said (meaning x)) c.outcome-1.given.1)) (plain_found _ _ _);
-    }
+  words = refl;
+  says = plain_same (sym (ap (λ x. said (meaning x)) c.in-Found.is)) (plain_found _ _ _);
+}
 
 pub returns-in-Spent : goal.returns-in-Spent
 returns-in-Spent c = record {
-      words = refl;
-      says = plain_same (sym (ap (λ x. said (meaning x)) c.outcome-in-Spent-1.given.1)) (plain_spent _ _);
-    }
+  words = refl;
+  says = plain_same (sym (ap (λ x. said (meaning x)) c.in-Spent.is)) (plain_spent _ _);
+}
 
 pub returns-in-Refused : goal.returns-in-Refused
 returns-in-Refused c = record {
-      words = refl;
-      says = plain_same (sym (ap (λ x. said (meaning x)) c.outcome-in-Refused-1.given.1)) (plain_refused _);
-    }
+  words = refl;
+  says = plain_same (sym (ap (λ x. said (meaning x)) c.in-Refused.is)) (plain_refused _);
+}

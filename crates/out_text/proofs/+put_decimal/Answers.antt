@@ -38,7 +38,7 @@ overflow_add-result-2 t c =
     omega arith
 
 pub shape_of-out : goal.shape_of-out
-shape_of-out t c = simp length-set c.put_decimal-last.auto.0
+shape_of-out t c = simp length-set c.put_decimal-last.auto.out
 
 pub returns : goal.returns
 returns t c =
