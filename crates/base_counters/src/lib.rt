@@ -2,7 +2,6 @@
 // a conversion is always by name, `Index(n)` or `i.0`.
 #![tactic(auto)]
 
-
 // A walk's index, the source's i; also the quasi-period and the number of steps taken.
 #[derive(Clone, Copy)]
 pub struct Index(pub u64);

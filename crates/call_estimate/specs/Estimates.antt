@@ -8,8 +8,10 @@ use Rattle.spec_arithmetic.specs.Field.{FieldName}
 use Rattle.spec_definitions.specs.Ticket.{Ticket, ticket, genus, ticket_of, refusal_of}
 use Rattle.spec_laws.specs.Admitted.{Admitted}
 use Rattle.spec_estimate.specs.Estimate.{numerator_of, denominator_of, nearest_of, squares_of, non_squares_of, EstimateAnswer, estimate_is, estimate_done, estimate_refused, estimate_answer}
-use Rattle.spec_estimate.specs.Bounds.{Fits, bounds}
-use Rattle.spec_estimate.specs.Estimates.{AboveThese, refused_answer, large_answer, done_answer, counts_most}
+use Rattle.spec_estimate.specs.Bounds.{Fits}
+use Rattle.spec_estimate.proofs.Bounds.{bounds}
+use Rattle.spec_estimate.specs.Estimates.{AboveThese}
+use Rattle.spec_estimate.proofs.Estimates.{refused_answer, large_answer, done_answer, counts_most}
 use Rattle.estimate_fraction.specs.Powers.{range}
 use Rattle.estimate_counts.specs.declared.Counts.{Counts}
 use Rattle.call_estimate.specs.declared.EstimateAnswer.{EstimateAnswer as Given}

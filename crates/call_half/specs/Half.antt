@@ -4,9 +4,11 @@ use Rattle.std.specs.Prelude.{ℕ, zero, suc, ◌≡◌, refl, List}
 use Rattle.std.proofs.Common.{sym, ◌∙◌}
 use Rattle.std.proofs.Math.Path.{ap, subst}
 use Rattle.spec_definitions.specs.Ticket.{ticket, refusal_of}
-use Rattle.spec_half.specs.Half.{HalfOutcome, half_refused, half_said, half_said_injective, half_of, words_half, half_answer}
-use Rattle.spec_half.specs.HalfWalk.{LeastHalf, past_half, t3_half}
-use Rattle.spec_half.specs.HalfWalk as demands
+use Rattle.spec_half.specs.Half.{HalfOutcome, half_refused, half_said, half_of, words_half, half_answer}
+use Rattle.spec_half.proofs.Half.{half_said_injective}
+use Rattle.spec_half.specs.HalfWalk.{LeastHalf}
+use Rattle.spec_half.proofs.HalfWalk.{past_half, t3_half}
+use Rattle.spec_half.proofs.HalfWalk as demands
 use Rattle.base_field.specs.Named.{name}
 use Rattle.base_polynomial.specs.Whole.{poly}
 use Rattle.ticket_read.specs.declared.Ticket as code

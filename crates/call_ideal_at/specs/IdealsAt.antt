@@ -8,10 +8,11 @@ use Rattle.spec_definitions.specs.Products.{farthest}
 use Rattle.spec_definitions.specs.Answers.{root_of}
 use Rattle.spec_definitions.specs.Listing.{entry_of}
 use Rattle.spec_laws.specs.Admitted.{Admitted}
-use Rattle.spec_giants.specs.Entries.{ideal, δ, q_length, distance_next}
+use Rattle.spec_giants.specs.Entries.{ideal, δ, distance_next}
+use Rattle.spec_giants.proofs.Entries.{q_length}
 use Rattle.spec_ideal_at.specs.Halving.{IdealAtAnswer, ideal_at_done, ideal_at_refused, ideal_at_answer}
-use Rattle.spec_ideal_at.specs.Reached.{done_at}
-use Rattle.spec_ideal_at.specs.Below.{refused_answer, done_answer}
+use Rattle.spec_ideal_at.proofs.Reached.{done_at}
+use Rattle.spec_ideal_at.proofs.Below.{refused_answer, done_answer}
 use Rattle.base_polynomial.specs.declared.Poly.{Poly}
 use Rattle.base_polynomial.specs.Over.{Holds, holds}
 use Rattle.walk_state.specs.Start.{top_is}

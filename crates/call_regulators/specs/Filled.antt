@@ -9,7 +9,7 @@ use Rattle.std.proofs.Math.Seq.{append_snoc, set-append_seam}
 use Rattle.spec_arithmetic.specs.Words.{value}
 use Rattle.spec_definitions.specs.Answers.{Outcome, refused, words_outcome}
 use Rattle.spec_several.specs.Several.{most_primes, degree_of, several_refusal, job_words, several_of, sixteen_places}
-use Rattle.spec_several.specs.Laws.{several_refused, most_primes_lem, length_words, count_outcomes, outcome_at_lem}
+use Rattle.spec_several.proofs.Laws.{several_refused, most_primes_lem, length_words, count_outcomes, outcome_at_lem}
 use Rattle.walk_outcome.specs.Outcome.{meaning}
 use Rattle.walk_outcome.specs.declared.Outcome as code
 use Rattle.call_regulators.specs.declared.AtPrime.{AtPrime}

@@ -4,7 +4,7 @@ use Rattle.std.proofs.Common.{sym, ap, ◌∙◌, subst}
 use Rattle.spec_definitions.specs.Answers.{Outcome, refused, words_outcome}
 use Rattle.spec_demands.specs.LeastDegree.{Least, t3}
 use Rattle.spec_several.specs.Several.{primes_of, several_refusal, job_words, several_of, sixteen_places}
-use Rattle.spec_several.specs.Laws.{several_refused, several_primes, at_sixteen}
+use Rattle.spec_several.proofs.Laws.{several_refused, several_primes, at_sixteen}
 use Rattle.walk_outcome.specs.Outcome.{meaning}
 use Rattle.call_regulators.specs.declared.AtPrime.{AtPrime}
 use Rattle.call_regulators.specs.declared.SeveralAnswer.{SeveralAnswer}

@@ -5,7 +5,8 @@ use Rattle.std.proofs.Math.Path.{subst}
 use Rattle.spec_definitions.specs.Ticket.{Ticket, ticket_of}
 use Rattle.spec_definitions.specs.Answers.{Outcome, found, spent, refused, words_outcome}
 use Rattle.spec_definitions.specs.Units.{Lists, unit_from, unit_answer}
-use Rattle.spec_demands.specs.LeastAnswers.{LeastWritten, t3_written}
+use Rattle.spec_demands.specs.LeastAnswers.{LeastWritten}
+use Rattle.spec_demands.proofs.LeastAnswers.{t3_written}
 use Rattle.unit_found.specs.Answers.{Answers}
 
 -- an outcome that is not found is the answer, and every list keeps every place

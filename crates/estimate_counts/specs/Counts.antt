@@ -9,7 +9,8 @@ use Rattle.std.proofs.Math.ListN.{length, length-take}
 use Rattle.spec_arithmetic.specs.Field.{Ops, FieldName, ops}
 use Rattle.spec_fields.specs.Named.{IsField}
 use Rattle.spec_estimate.specs.Estimate.{evaluate, some_root, square?, non_square?, count_below, squares_of, non_squares_of}
-use Rattle.spec_estimate.specs.Squares.{more, count_next, tests_square, root_next, square_apart, non_square_true, square_zero, non_square_zero}
+use Rattle.spec_estimate.specs.Squares.{more}
+use Rattle.spec_estimate.proofs.Squares.{count_next, tests_square, root_next, square_apart, non_square_true, square_zero, non_square_zero}
 use Rattle.estimate_counts.specs.declared.Counts.{Counts}
 
 -- r is the counts before with one element more, whose value is v

@@ -3,7 +3,7 @@
 use Rattle.std.specs.Prelude.{ℕ, ◌+◌, ◌*◌, ◌/◌, ◌%◌, ◌≤◌, ◌<◌, ◌≡◌}
 use Rattle.std.proofs.Common.{mod-lt, div-add-mod', mul_assoc, add-mul, one-mul, arith, ap, ◌∙◌}
 use Rattle.spec_estimate.specs.Estimate.{nearest_of}
-use Rattle.spec_estimate.specs.Rounding.{rounds}
+use Rattle.spec_estimate.proofs.Rounding.{rounds}
 
 more : (w M : ℕ) → (w + 1) * M ≡ w * M + M
 more w M = add-mul w 1 M ∙ ap (λ (k : ℕ). w * M + k) (one-mul M)

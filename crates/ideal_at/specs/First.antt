@@ -12,8 +12,9 @@ use Rattle.spec_bridge.specs.Trim.{trim_nil}
 use Rattle.spec_fields.specs.Named.{arithmetic}
 use Rattle.spec_laws.specs.Admitted.{Admitted, is_field, surd_of}
 use Rattle.spec_laws.specs.Surd.{Q_zero}
-use Rattle.spec_sentences.specs.Arithmetic.{lead_is_one}
-use Rattle.spec_giants.specs.Entries.{ideal, q_as_long, q_trim, q_oks, p_length, p_trim, entry_ideal, distance_zero, distance_rise}
+use Rattle.spec_sentences.proofs.Arithmetic.{lead_is_one}
+use Rattle.spec_giants.specs.Entries.{ideal, q_as_long, entry_ideal}
+use Rattle.spec_giants.proofs.Entries.{q_trim, q_oks, p_length, p_trim, distance_zero, distance_rise}
 use Rattle.base_polynomial.specs.Places.{zeros}
 use Rattle.ideal_climb.specs.declared.Located.{Located}
 use Rattle.ideal_climb.specs.Located.{IsLast}

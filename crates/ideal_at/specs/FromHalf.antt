@@ -5,15 +5,16 @@ use Rattle.std.proofs.Common.{arith, sym, ap, ap₂, ◌∙◌, subst, Fits, to_
 use Rattle.std.specs.Int.Signed.{non_neg}
 use Rattle.std.specs.Int.{w64}
 use Rattle.std.proofs.lemmas.Int.{to_z-of_z}
-use Rattle.math_giants.specs.Below.{halves}
+use Rattle.math_giants.proofs.Below.{halves}
 use Rattle.spec_arithmetic.specs.Field.{FieldName}
 use Rattle.spec_definitions.specs.Ticket.{Ticket, ticket, genus}
 use Rattle.spec_definitions.specs.Walk.{Ideal}
 use Rattle.spec_definitions.specs.Products.{farthest, giant_done}
 use Rattle.spec_laws.specs.Admitted.{Admitted}
 use Rattle.spec_giants.specs.Entries.{ideal, δ}
-use Rattle.spec_giants.specs.Landings.{Lands, lands}
-use Rattle.spec_ideal_at.specs.Reached.{landing_near}
+use Rattle.spec_giants.specs.Landings.{Lands}
+use Rattle.spec_giants.proofs.Landings.{lands}
+use Rattle.spec_ideal_at.proofs.Reached.{landing_near}
 use Rattle.base_polynomial.specs.Record.{Is}
 use Rattle.ideal_operand.specs.Operand.{held_pair, Operand}
 use Rattle.ideal_giant.specs.declared.Giant.{Giant}

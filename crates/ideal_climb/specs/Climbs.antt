@@ -16,7 +16,8 @@ use Rattle.spec_definitions.specs.Listing.{ideal_of}
 use Rattle.spec_bridge.specs.Lengths.{length_sub}
 use Rattle.spec_laws.specs.Admitted.{Admitted}
 use Rattle.spec_laws.specs.Pairs.{cofactor_at}
-use Rattle.spec_giants.specs.Entries.{ideal, δ, q_length, p_length, q_trim, p_trim, q_oks, p_oks, entry_ideal, distance_next, steps_entry, steps_length}
+use Rattle.spec_giants.specs.Entries.{ideal, δ, entry_ideal, distance_next, steps_entry}
+use Rattle.spec_giants.proofs.Entries.{q_length, p_length, q_trim, p_trim, q_oks, p_oks, steps_length}
 use Rattle.base_polynomial.specs.Record.{poly, Held, Is}
 use Rattle.base_polynomial.specs.Places.{Places, Within}
 use Rattle.walk_step.specs.Step.{Ready, Stepped}

@@ -5,7 +5,8 @@ use Rattle.std.proofs.Common.{arith, sym, ap₂, subst}
 use Rattle.spec_arithmetic.specs.Field.{FieldName}
 use Rattle.spec_definitions.specs.Ticket.{Ticket, genus, ticket}
 use Rattle.spec_laws.specs.Admitted.{Admitted}
-use Rattle.spec_giants.specs.Entries.{padded, ideal, δ, Last, q_length, p_length, padded_passes, padded_trim}
+use Rattle.spec_giants.specs.Entries.{padded, ideal, δ, Last}
+use Rattle.spec_giants.proofs.Entries.{q_length, p_length, padded_passes, padded_trim}
 use Rattle.base_polynomial.specs.Record.{Is}
 use Rattle.base_polynomial.specs.Held.{is_poly}
 use Rattle.ideal_operand.specs.Operand.{held_pair, Operand}

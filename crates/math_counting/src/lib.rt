@@ -7,4 +7,3 @@
 //   how many of them pass a test.
 // - SquarePart: a monic polynomial is a squarefree one times a square, in one way.
 #![tactic(auto)]
-

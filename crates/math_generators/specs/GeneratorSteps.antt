@@ -1,16 +1,14 @@
 -- A big generator through the steps of a reduction: what is reached after k steps has a big generator, whose
 -- degree has grown by the sum of deg (P_j + d) - deg Q_{j-1} for j from 1 to k. `reached` says so, step by
 -- step.
-use Rattle.std.specs.Prelude.{ℕ, zero, suc, ◌+◌ as ◌+ₙ◌, ◌≡◌}
-use native.Mathlib.Omega.{arith}
+use Rattle.std.specs.Prelude.{ℕ, ◌+◌ as ◌+ₙ◌, ◌≡◌}
 use Rattle.math_algebra.specs.Field.{Field}
-use Rattle.math_algebra.specs.Polynomial.{Px, deg_unique}
+use Rattle.math_algebra.specs.Polynomial.{Px}
 use Rattle.math_surd.specs.Root.{Root}
 use Rattle.math_surd.specs.Big.{Big}
 use Rattle.math_algebra.specs.Finite.{Finite}
-use Rattle.math_ideals.specs.Steps.{Steps, height, height_deg, height_more, height_sum, prior_sum}
+use Rattle.math_ideals.specs.Steps.{Steps, height, height_sum, prior_sum}
 use Rattle.math_generators.specs.Generators.{Generates}
-use Rattle.math_generators.specs.GeneratorStep.{Stepped, stepped}
 
 module _ {A : Type 0} (K : Field A) {g : ℕ} {D : Px K} {o : Root K g D} (s : Steps K o) where
   -- a big generator of the ideal after k steps, where that of the start has a y of degree v
@@ -22,30 +20,3 @@ module _ {A : Type 0} (K : Field A) {g : ℕ} {D : Px K} {o : Root K g D} (s : S
     pub generates : Generates K D x y (s.Q k) (s.P k)
     pub big : Big K o x y
     pub height_is : big.height +ₙ prior_sum K s k ≡ v +ₙ height_sum K s k
-
-  -- ---- the proof
-  reached_next : (v k : ℕ) → Reached v k → Reached v (suc k)
-  unfolding prior_sum height_sum
-  reached_next v k r = go (stepped K (s.follows k) r.generates r.x_finite r.y_finite)
-    where
-      go : Stepped K (s.follows k) r.x r.y → Reached v (suc k)
-      go t = record {
-        x = t.x';
-        y = t.y';
-        x_finite = t.x_finite;
-        y_finite = t.y_finite;
-        generates = t.generates;
-        big = b.0;
-        height_is = let e = b.1 in let e' = deg_unique K (s.follows k).deg (s.deg k) in let e'' = r.height_is in omega arith;
-      }
-        where
-          b : (b' : Big K o t.x' t.y') × (b'.height +ₙ (s.follows k).κ ≡ r.big.height +ₙ height K s k)
-          b = t.big (s.deg (suc k)) (height_deg K s k) (height_more K s k) r.big
-
-  reached_after : (v k : ℕ) → Reached v 0 → Reached v k
-  reached_after v zero r = r
-  reached_after v (suc k) r = reached_next v k (reached_after v k r)
-
-  pub reached : {x y : Px K} → Finite K x → Finite K y → Generates K D x y (s.Q 0) (s.P 0) → (b : Big K o x y) (k : ℕ) → Reached b.height k
-  unfolding prior_sum height_sum
-  reached {x} {y} f f' h b k = reached_after b.height k (record { x = x; y = y; x_finite = f; y_finite = f'; generates = h; big = b; height_is = omega arith })

@@ -5,4 +5,3 @@
 // - Classification: a reduced ideal with a big generator is an ideal of the walk (`classify` is the theorem to
 //   open).
 #![tactic(auto)]
-

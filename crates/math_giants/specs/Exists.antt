@@ -13,12 +13,17 @@ use Rattle.math_algebra.specs.Division.{Division, division}
 use Rattle.math_algebra.specs.Gcd.{IsGcd, gcd_exists, gcd_zero, gcd_low, gcd_monic}
 use Rattle.math_surd.specs.Root.{Root, NoSquare}
 use Rattle.math_surd.specs.Step.{State, next_P, next_Q, next}
-use Rattle.math_surd.specs.Big.{Big, dichotomy}
-use Rattle.math_surd.specs.Walk.{Walk, walk_state, Q_one}
-use Rattle.math_surd.specs.Ideal.{Follows, step_follows}
+use Rattle.math_surd.specs.Big.{Big}
+use Rattle.math_surd.proofs.Big.{dichotomy}
+use Rattle.math_surd.specs.Walk.{Walk, walk_state}
+use Rattle.math_surd.proofs.Walk.{Q_one}
+use Rattle.math_surd.specs.Ideal.{Follows}
+use Rattle.math_surd.proofs.Ideal.{step_follows}
 use Rattle.math_algebra.specs.Finite.{Finite, finite_mul, finite_monic}
-use Rattle.math_ideals.specs.Product.{Common, Multipliers, product_Q, product_P, product_P_finite, product_meets}
-use Rattle.math_ideals.specs.Steps.{Steps, first_reduced}
+use Rattle.math_ideals.specs.Product.{Common, Multipliers, product_Q, product_P}
+use Rattle.math_ideals.proofs.Product.{product_P_finite, product_meets}
+use Rattle.math_ideals.specs.Steps.{Steps}
+use Rattle.math_ideals.proofs.Steps.{first_reduced}
 use Rattle.math_giants.specs.GiantStep.{GiantStep, product_state}
 
 module _ {A : Type 0} (K : Field A) where

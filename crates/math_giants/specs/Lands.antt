@@ -12,17 +12,25 @@ use Rattle.math_algebra.specs.Divides.{divides_constant}
 use Rattle.math_algebra.specs.Associate.{Associate, associate_sym, associate_trans, associate_path, associate_deg, associate_scale, divides_associate}
 use Rattle.math_surd.specs.Root.{Root}
 use Rattle.math_surd.specs.Step.{State}
-use Rattle.math_surd.specs.Big.{Big, big_deg}
+use Rattle.math_surd.specs.Big.{Big}
+use Rattle.math_surd.proofs.Big.{big_deg}
 use Rattle.math_surd.specs.Walk.{Walk, κ_first}
 use Rattle.math_surd.specs.Convergents as convergents
-use Rattle.math_surd.specs.Distance.{distance, height, distance_height, convergent_big}
-use Rattle.math_surd.specs.Ideal.{SameIdeal, same_trans}
+use Rattle.math_surd.specs.Distance.{distance, height, convergent_big}
+use Rattle.math_surd.proofs.Distance.{distance_height}
+use Rattle.math_surd.specs.Ideal.{SameIdeal}
+use Rattle.math_surd.proofs.Ideal.{same_trans}
 use Rattle.math_ideals.specs.Reduction.{next_state}
-use Rattle.math_ideals.specs.Steps.{degree_sum_lem, shift_form}
-use Rattle.math_generators.specs.Generators.{Generates, generates_same, convergent_generates, s_finite}
-use Rattle.math_generators.specs.Classification.{Located, classify}
-use Rattle.math_generators.specs.GeneratorProduct.{Multiplied, multiplied}
-use Rattle.math_generators.specs.GeneratorSteps.{Reached, reached}
+use Rattle.math_ideals.specs.Steps.{degree_sum_lem}
+use Rattle.math_ideals.proofs.Steps.{shift_form}
+use Rattle.math_generators.specs.Generators.{Generates}
+use Rattle.math_generators.proofs.Generators.{generates_same, convergent_generates, s_finite}
+use Rattle.math_generators.specs.Classification.{Located}
+use Rattle.math_generators.proofs.Classification.{classify}
+use Rattle.math_generators.specs.GeneratorProduct.{Multiplied}
+use Rattle.math_generators.proofs.GeneratorProduct.{multiplied}
+use Rattle.math_generators.specs.GeneratorSteps.{Reached}
+use Rattle.math_generators.proofs.GeneratorSteps.{reached}
 use Rattle.math_giants.specs.Exists.{walk_no_square}
 use Rattle.math_giants.specs.GiantStep.{GiantStep, giant_Q, giant_P, drop, drop_sum, start_state, giant_swap}
 

@@ -9,4 +9,3 @@
 // What carries it: the generators of math_generators; GiantStep and Exists, the giant step, and that any two
 // ideals have one.
 #![tactic(auto)]
-

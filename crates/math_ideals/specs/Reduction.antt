@@ -2,13 +2,13 @@
 -- Q', and the degree of Q falls while it is above g. Carried by one identity, Q' Q = (d - P')(P' + d) + e, in
 -- which the degrees are compared.
 use Rattle.std.specs.Prelude.{ℕ, suc, ◌+◌ as ◌+ₙ◌, ◌-◌ as ◌-ₙ◌, ◌≤◌, ◌<◌, ◌≡◌, ◌⊎◌, [], ◌∷◌}
-use Rattle.std.proofs.Common.{arith, sym, ◌∙◌, inl, inr, ⊎_elim}
+use Rattle.std.proofs.Common.{arith, ◌∙◌, inl, inr, ⊎_elim}
 use Rattle.math_ring.specs.Ring.{CRing}
 use Rattle.math_ring.specs.Identity.{ring, ring_from, times, plus, quote}
 use Rattle.math_ring.specs.Order.{le_or_lt}
 use Rattle.math_ring.specs.Series.{Series}
 use Rattle.math_algebra.specs.Field.{Field}
-use Rattle.math_algebra.specs.Polynomial.{F, Px, ◌≺◌ as Low, Deg, low_up, low_add, low_neg, low_sub, low_mul, low_path, degree, deg_path, deg_mul, deg_neg, deg_dominant, deg_below, deg_factor, deg_unique, deg_not_zero}
+use Rattle.math_algebra.specs.Polynomial.{F, Px, ◌≺◌ as Low, Deg, low_up, low_neg, low_sub, low_mul, low_path, degree, deg_path, deg_mul, deg_neg, deg_dominant, deg_below, deg_factor, deg_unique, deg_not_zero}
 use Rattle.math_surd.specs.Root.{Root, NoSquare, deg_twice, d_deg}
 use Rattle.math_surd.specs.Step.{State}
 use Rattle.math_surd.specs.Ideal.{Follows}
@@ -43,7 +43,7 @@ module _ {A : Type 0} (K : Field A) where
     abbrev r : P[x]
     r = d - P'
 
-    r_low : r ≺ κ
+    pub r_low : r ≺ κ
     r_low = low_path K κ turn (low_neg K (P' - d) κ near)
       where
         turn : - (P' - d) ≡ r
@@ -66,15 +66,15 @@ module _ {A : Type 0} (K : Field A) where
         go (inl z) = absurd (no_square P' f.size f.low (norm ∙ ring_from R[x] (P' ∷ Q' ∷ Q ∷ []) (times R[x] Q z) (search quote depth 40 fits 9999) tt))
         go (inr t) = record { κ = t.0; deg = t.2; norm = norm; size = suc κ +ₙ f.size; C_low = low_up K Q (omega arith) deg.low; P_low = low_up K P' (omega arith) f.low }
 
-    product : Q' * Q ≡ r * (P' + d) + o.e
+    pub product : Q' * Q ≡ r * (P' + d) + o.e
     product = ring_from R[x] (D ∷ Q ∷ Q' ∷ P' ∷ d ∷ o.e ∷ []) (plus R[x] (times R[x] (- 𝟙) norm) (times R[x] 𝟙 o.is)) (search quote depth 40 fits 9999) tt
 
-    two_d : d + d - r ≡ P' + d
+    pub two_d : d + d - r ≡ P' + d
     two_d = ring R[x] (P' ∷ d ∷ []) (search quote depth 40 fits 9999) tt
 
     -- ---- the degrees, κ' that of Q'
     module _ {κ' : ℕ} (t : Deg K Q' κ') where
-      left : Deg K (Q' * Q) (κ' +ₙ κ)
+      pub left : Deg K (Q' * Q) (κ' +ₙ κ)
       left = deg_mul K Q' Q κ' κ t deg
 
       -- what is left of the product has its degree, where e is small
@@ -102,16 +102,6 @@ module _ {A : Type 0} (K : Field A) where
 
               some : (h : ℕ) × (h < f.size) × Deg K (P' + d) h → (h : ℕ) × (κ' < h) × Deg K (P' + d) h
               some v = ⊎_elim (λ k. (v.0, k, v.2)) (λ k. absurd (let m = deg_below K (r * (P' + d)) _ (κ +ₙ κ') (rest l) (low_mul K r (P' + d) κ κ' r_low (low_up K (P' + d) k v.2.low)) in omega arith)) (le_or_lt (suc κ') v.0)
-
-      -- a reduced ideal is followed by a reduced one
-      pub small_next : κ ≤ g → κ' ≤ g
-      small_next l = let m = deg_below K (Q' * Q) (κ' +ₙ κ) (κ +ₙ suc g) left (low_path K _ (sym product) both) in omega arith
-        where
-          sum_low : P' + d ≺ suc (suc g)
-          sum_low = low_path K _ two_d (low_sub K (d + d) r _ (deg_twice K d (suc g) (d_deg K o)).low (low_up K r (omega arith) r_low))
-
-          both : r * (P' + d) + o.e ≺ κ +ₙ suc g
-          both = low_add K (r * (P' + d)) o.e _ (low_mul K r (P' + d) κ (suc g) r_low sum_low) (low_up K o.e (omega arith) o.e_low)
 
       -- where the degree of Q is above g: the remainder is not 0, and with ρ its degree, deg (P' + d) - deg
       -- Q' = deg Q - ρ

@@ -2,4 +2,3 @@
 // theorem to open is `searches` in specs/Landings: it is found exactly if it is at most the last landing's
 // distance. Which landings there are is in math_giants.
 #![tactic(auto)]
-

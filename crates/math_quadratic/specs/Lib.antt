@@ -1,4 +1,3 @@
 pub mod Extension
 pub mod Pairs
-pub mod Powers
 pub mod Roots

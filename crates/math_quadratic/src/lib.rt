@@ -4,4 +4,3 @@
 // - Pairs, Extension: the pairs (u, v) are a ring, and a field, with inverses by the norm u² - ν v².
 // - Powers: powers of products and of squares.
 #![tactic(auto)]
-

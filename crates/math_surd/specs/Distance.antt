@@ -1,18 +1,15 @@
 -- Degrees of the convergents: the distance formula. Carried by p - d s being of smaller degree than s, so p
 -- is led by d s.
-use Rattle.std.specs.Prelude.{ℕ, zero, suc, ◌+◌ as ◌+ₙ◌, ◌-◌ as ◌-ₙ◌, ◌*◌ as ◌*ₙ◌, ◌≤◌, ◌<◌, ◌≡◌, [], ◌∷◌}
-use Rattle.std.proofs.Common.{zero-add, suc-add, suc-mul, arith, sym, ◌∙◌, subst, ⊎_elim}
-use Rattle.std.proofs.Math.Path.{ap, ap₂}
-use Rattle.math_ring.specs.Ring.{CRing, one_mul}
+use Rattle.std.specs.Prelude.{ℕ, zero, suc, ◌+◌ as ◌+ₙ◌, ◌-◌ as ◌-ₙ◌, ◌≡◌, [], ◌∷◌}
+use Rattle.std.proofs.Common.{arith, subst}
+use Rattle.math_ring.specs.Ring.{CRing}
 use Rattle.math_ring.specs.Identity.{ring, ring_from, times, quote}
-use Rattle.math_ring.specs.Series.{Series, add_s}
-use Rattle.math_ring.specs.Order.{le_or_lt}
-use Rattle.math_ring.specs.Degree.{lead_conv}
+use Rattle.math_ring.specs.Series.{Series}
 use Rattle.math_algebra.specs.Field.{Field}
 use Rattle.math_algebra.specs.Polynomial.{F, Px, ◌≺◌ as Low, Deg, low_up, low_zero, low_add, low_mul, low_path, deg_path, deg_mul, deg_dominant, monic_deg, monic_one, one_low}
 use Rattle.math_surd.specs.Root.{Root}
-use Rattle.math_surd.specs.Walk.{Walk, κ_first, a_first, a_deg}
-use Rattle.math_surd.specs.Big.{Big, big_deg}
+use Rattle.math_surd.specs.Walk.{Walk, a_first, a_deg}
+use Rattle.math_surd.specs.Big.{Big}
 use Rattle.math_surd.specs.Convergents as convergents
 
 module _ {A : Type 0} (K : Field A) where
@@ -53,18 +50,14 @@ module _ {A : Type 0} (K : Field A) where
     height zero = 0
     height (suc i) = height i +ₙ (suc g -ₙ κ (suc i))
 
-    pub distance_height : (i : ℕ) → distance (suc i) ≡ suc g +ₙ height i
-    distance_height zero = omega (arith, κ_first K w)
-    distance_height (suc i) = omega (arith, distance_height i)
-
     -- ---- s has the degree height, and p is near to d s
-    record Growth (i : ℕ) : Type 0 where
-      s_deg : Deg K (s (suc (suc i))) (height i)
-      near : p (suc (suc i)) - o.d * s (suc (suc i)) ≺ height i
-      s_prior : s (suc i) ≺ height i
-      near_prior : p (suc i) - o.d * s (suc i) ≺ suc (height i)
+    pub record Growth (i : ℕ) : Type 0 where
+      pub s_deg : Deg K (s (suc (suc i))) (height i)
+      pub near : p (suc (suc i)) - o.d * s (suc (suc i)) ≺ height i
+      pub s_prior : s (suc i) ≺ height i
+      pub near_prior : p (suc i) - o.d * s (suc i) ≺ suc (height i)
 
-    growth_step : (i : ℕ) → Growth i → Growth (suc i)
+    pub growth_step : (i : ℕ) → Growth i → Growth (suc i)
     growth_step i b = record {
       s_deg = deg_dominant K (a (suc i) * s (suc (suc i))) (s (suc i)) (height i +ₙ α) (subst (Deg K (a (suc i) * s (suc (suc i)))) turn (deg_mul K (a (suc i)) (s (suc (suc i))) α (height i) (a_deg K w (suc i)) b.s_deg)) (low_up K (s (suc i)) (omega arith) b.s_prior);
       near = low_path K (height i +ₙ α) same (low_add K _ _ (height i +ₙ α) (low_mul K (p (suc (suc i)) - o.d * s (suc (suc i))) (a (suc i)) (height i) α b.near (a_deg K w (suc i)).low) (low_up K _ (omega (arith, reduced (suc i))) b.near_prior));
@@ -81,7 +74,7 @@ module _ {A : Type 0} (K : Field A) where
         same : (p (suc (suc i)) - o.d * s (suc (suc i))) * a (suc i) + (p (suc i) - o.d * s (suc i)) ≡ (a (suc i) * p (suc (suc i)) + p (suc i)) - o.d * (a (suc i) * s (suc (suc i)) + s (suc i))
         same = ring R[x] (p (suc (suc i)) ∷ s (suc (suc i)) ∷ p (suc i) ∷ s (suc i) ∷ a (suc i) ∷ o.d ∷ []) (search quote depth 40 fits 9999) tt
 
-    growth : (i : ℕ) → Growth i
+    pub growth : (i : ℕ) → Growth i
     growth zero = record {
       s_deg = deg_path K 0 s2 (monic_deg K (monic_one K));
       near = low_path K 0 n2 (low_zero K 0);
@@ -107,50 +100,3 @@ module _ {A : Type 0} (K : Field A) where
 
     abbrev pub convergent_big : (i : ℕ) → Big K o (p (suc (suc i))) (s (suc (suc i)))
     convergent_big i = record { height = height i; y_deg = s_deg i; near = convergent_near i }
-
-    pub p_deg : (i : ℕ) → Deg K (p (suc i)) (distance i)
-    p_deg zero = monic_deg K (monic_one K)
-    p_deg (suc i) = subst (Deg K (p (suc (suc i)))) (sym (distance_height i)) (big_deg K o (p (suc (suc i))) (s (suc (suc i))) (convergent_big i))
-
-    -- p and s have the same leading coefficient
-    pub p_top : (i : ℕ) → p (suc (suc i)) (distance (suc i)) ≡ s (suc (suc i)) (height i)
-    unfolding add_s
-    p_top i =
-        ap (p (suc (suc i))) (distance_height i)
-        ∙ ap (λ (f : P[x]). f (suc g +ₙ height i)) led
-        ∙ ap₂ (F K).add (lead_conv (F K) (suc g) (height i) o.d (s (suc (suc i))) o.monic.low (s_deg i).low ∙ ap (λ c. (F K).mul c (s (suc (suc i)) (height i))) o.monic.top ∙ one_mul (F K) (s (suc (suc i)) (height i))) (convergent_near i (suc g +ₙ height i) (omega arith))
-        ∙ (F K).add_zer (s (suc (suc i)) (height i))
-      where
-        led : p (suc (suc i)) ≡ o.d * s (suc (suc i)) + (p (suc (suc i)) - o.d * s (suc (suc i)))
-        led = ring R[x] (p (suc (suc i)) ∷ s (suc (suc i)) ∷ o.d ∷ []) (search quote depth 40 fits 9999) tt
-
-    -- ---- the strict rise of the distance, and its bounds
-    distance_add : (k i : ℕ) → distance i +ₙ k ≤ distance (k +ₙ i)
-    distance_add zero i = rw zero-add (omega arith)
-    distance_add (suc k) i = let h : distance i +ₙ k ≤ distance (k +ₙ i) = distance_add k i in rw suc-add (omega (arith, reduced (k +ₙ i)))
-
-    pub distance_mono : (i j : ℕ) → i ≤ j → distance i +ₙ (j -ₙ i) ≤ distance j
-    distance_mono i j h = subst (λ (n : ℕ). distance i +ₙ (j -ₙ i) ≤ distance n) at (distance_add (j -ₙ i) i)
-      where
-        at : (j -ₙ i) +ₙ i ≡ j
-        at = omega arith
-
-    pub distance_rise : (i j : ℕ) → i < j → distance i < distance j
-    distance_rise i j h = let k = distance_mono i j (omega arith) in omega arith
-
-    -- an order of distances is one of indices
-    pub index_le : (i j : ℕ) → distance i ≤ distance j → i ≤ j
-    index_le i j h = ⊎_elim (λ l. l) (λ l. absurd (let r = distance_rise j i l in omega arith)) (le_or_lt i j)
-
-    pub index_lt : (i j : ℕ) → distance i < distance j → i < j
-    index_lt i j h = ⊎_elim (λ l. absurd (let r = distance_mono j i l in omega arith)) (λ l. l) (le_or_lt j i)
-
-    pub distance_injective : (i j : ℕ) → distance i ≡ distance j → i ≡ j
-    distance_injective i j e = let a = index_le i j (omega arith) in let b = index_le j i (omega arith) in omega arith
-
-    pub distance_least : (i : ℕ) → suc g +ₙ i ≤ distance (suc i)
-    distance_least i = let h = distance_mono 1 (suc i) (omega arith) in let k = κ_first K w in omega arith
-
-    pub distance_most : (i : ℕ) → distance i ≤ i *ₙ suc g
-    distance_most zero = omega arith
-    distance_most (suc i) = let h = distance_most i in let e = suc-mul i (suc g) in omega arith

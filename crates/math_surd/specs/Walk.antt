@@ -3,11 +3,10 @@
 use Prim.Native.Nat.{ℕ, zero, suc, ◌+◌ as ◌+ₙ◌, ◌-◌ as ◌-ₙ◌, ◌≤◌, ◌<◌}
 use Rattle.std.proofs.Common.{arith, ◌∙◌}
 use Rattle.std.specs.Prelude.{◌≡◌, [], ◌∷◌}
-use Rattle.std.proofs.Math.Path.{sym, ap, ap₂}
+use Rattle.std.proofs.Math.Path.{sym}
 use Rattle.math_ring.specs.Ring.{CRing}
 use Rattle.math_ring.specs.Identity.{ring, ring_from, times, plus, quote}
-use Rattle.math_ring.specs.Series.{Series, add_s}
-use Rattle.math_ring.specs.Degree.{lead_conv}
+use Rattle.math_ring.specs.Series.{Series}
 use Rattle.math_algebra.specs.Field.{Field}
 use Rattle.math_algebra.specs.Polynomial.{F, Px, ◌≺◌ as Low, Deg, Monic, low_up, low_neg, low_zero, low_none, low_path, deg_path, deg_dominant, deg_below, deg_factor, monic_dominant, monic_path, one_low}
 use Rattle.math_surd.specs.Root.{Root, deg_twice, d_deg, D_low}
@@ -64,15 +63,9 @@ module _ {A : Type 0} (K : Field A) where
     norm zero = rw (Q_first, P_first) (ring R[x] (D ∷ []) (search quote depth 40 fits 9999) tt)
     norm (suc i) = norm i ∙ (rw (Q_step i, P_step i) (ring R[x] (P i ∷ prior D Q i ∷ Q i ∷ a i ∷ []) (search quote depth 40 fits 9999) tt))
 
-    pub P_sum : (i : ℕ) → P i + P (suc i) ≡ a i * Q i
-    P_sum i = ring_from R[x] (P i ∷ P (suc i) ∷ a i ∷ Q i ∷ []) (times R[x] 𝟙 (P_step i)) (search quote depth 40 fits 9999) tt
-
     -- ---- with the remainders in place of P
     pub P_rem : (i : ℕ) → P (suc i) ≡ o.d - r i
     P_rem i = ring_from R[x] (P i ∷ P (suc i) ∷ a i ∷ Q i ∷ o.d ∷ r i ∷ []) (plus R[x] (times R[x] 𝟙 (P_step i)) (times R[x] (- 𝟙) (divide i))) (search quote depth 40 fits 9999) tt
-
-    pub Q_rem : (i : ℕ) → Q (suc (suc i)) ≡ Q i + a (suc i) * (r (suc i) - r i)
-    Q_rem i = Q_step (suc i) ∙ ring_from R[x] (Q i ∷ a (suc i) ∷ P (suc i) ∷ P (suc (suc i)) ∷ r (suc i) ∷ r i ∷ o.d ∷ []) (plus R[x] (times R[x] (a (suc i)) (P_rem i)) (times R[x] (- a (suc i)) (P_rem (suc i)))) (search quote depth 40 fits 9999) tt
 
     -- ---- the first states
     pub κ_first : κ 0 ≡ 0
@@ -83,12 +76,6 @@ module _ {A : Type 0} (K : Field A) where
 
     pub a_first : a 0 ≡ o.d
     a_first = ring_from R[x] (a 0 ∷ o.d ∷ P 0 ∷ Q 0 ∷ r 0 ∷ []) (plus R[x] (times R[x] (- 𝟙) (divide 0)) (plus R[x] (times R[x] 𝟙 P_first) (plus R[x] (times R[x] (- a 0) Q_first) (times R[x] (- 𝟙) r_first)))) (search quote depth 40 fits 9999) tt
-
-    pub P_one : P 1 ≡ o.d
-    P_one = ring_from R[x] (P 1 ∷ o.d ∷ r 0 ∷ []) (plus R[x] (times R[x] 𝟙 (P_rem 0)) (times R[x] (- 𝟙) r_first)) (search quote depth 40 fits 9999) tt
-
-    pub Q_one : Q 1 ≡ o.e
-    Q_one = ring_from R[x] (Q 1 ∷ o.e ∷ D ∷ P 1 ∷ Q 0 ∷ o.d ∷ []) (plus R[x] (times R[x] (- 𝟙) (norm 1)) (plus R[x] (times R[x] 𝟙 o.is) (plus R[x] (times R[x] (- Q 1) Q_first) (times R[x] (- (P 1 + o.d)) P_one)))) (search quote depth 40 fits 9999) tt
 
     -- ---- P i is monic of degree g + 1, and near to d
     pub near_prior : (i : ℕ) → P (suc i) - o.d ≺ κ i
@@ -116,7 +103,7 @@ module _ {A : Type 0} (K : Field A) where
     walk_state i = record { κ = κ i; deg = Q_deg i; norm = norm i; size = suc (suc g +ₙ suc g); C_low = prior_low i; P_low = low_up K (P i) (omega arith) (P_low i) }
 
     -- ---- a i Q i has the degree g + 1
-    sum_deg : (i : ℕ) → Deg K (P i + o.d) (suc g)
+    pub sum_deg : (i : ℕ) → Deg K (P i + o.d) (suc g)
     sum_deg zero = deg_path K (suc g) same (d_deg K o)
       where
         same : o.d ≡ P 0 + o.d
@@ -126,7 +113,7 @@ module _ {A : Type 0} (K : Field A) where
         same : (o.d + o.d) + (P (suc i) - o.d) ≡ P (suc i) + o.d
         same = ring R[x] (P (suc i) ∷ o.d ∷ []) (search quote depth 40 fits 9999) tt
 
-    a_q_deg : (i : ℕ) → Deg K (a i * Q i) (suc g)
+    pub a_q_deg : (i : ℕ) → Deg K (a i * Q i) (suc g)
     a_q_deg i = deg_path K (suc g) same (deg_dominant K (P i + o.d) (- r i) (suc g) (sum_deg i) (low_neg K (r i) (suc g) (low_up K (r i) (omega (arith, reduced i)) (r_low i))))
       where
         same : (P i + o.d) + (- r i) ≡ a i * Q i
@@ -134,15 +121,3 @@ module _ {A : Type 0} (K : Field A) where
 
     pub a_deg : (i : ℕ) → Deg K (a i) (suc g -ₙ κ i)
     a_deg i = (deg_factor K (size i) (a i) (Q i) (suc g) (κ i) (a_low i) (Q_deg i) (a_q_deg i)).1
-
-    -- the leading coefficients of a i and Q i multiply to 2, past the first
-    pub a_top : (i : ℕ) → (F K).mul (a (suc i) (suc g -ₙ κ (suc i))) (Q (suc i) (κ (suc i))) ≡ (F K).add (F K).one (F K).one
-    unfolding add_s
-    a_top i =
-        sym (lead_conv (F K) (suc g -ₙ κ (suc i)) (κ (suc i)) (a (suc i)) (Q (suc i)) (a_deg (suc i)).low (Q_deg (suc i)).low)
-        ∙ ap (a (suc i) * Q (suc i)) at
-        ∙ ap (λ (f : P[x]). f (suc g)) (sym (P_sum (suc i)))
-        ∙ ap₂ (F K).add (P_monic i).top (P_monic (suc i)).top
-      where
-        at : (suc g -ₙ κ (suc i)) +ₙ κ (suc i) ≡ suc g
-        at = omega (arith, reduced (suc i))

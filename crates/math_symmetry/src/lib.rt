@@ -7,4 +7,3 @@
 // - Distinct: before m no ideal comes twice.
 // - Conjugate: the index and the distance of the conjugate of an ideal.
 #![tactic(auto)]
-

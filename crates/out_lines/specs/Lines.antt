@@ -6,7 +6,8 @@ use Rattle.spec_arithmetic.specs.Words.{value, joined}
 use Rattle.spec_definitions.specs.Text.{ascii, decimal, spaced, line}
 use Rattle.spec_definitions.specs.Answers.{said, refused}
 use Rattle.spec_definitions.specs.Program.{first_line, record_line}
-use Rattle.spec_digits.specs.Decimal.{digits, power}
+use Rattle.spec_digits.specs.Decimal.{power}
+use Rattle.spec_digits.proofs.Decimal.{digits}
 use Rattle.out_text.specs.Spaced.{digits_value}
 
 -- the number in the two words from `at` on

@@ -12,10 +12,11 @@ use Rattle.spec_definitions.specs.Listing.{ListingAnswer, listing_from, listing_
 use Rattle.spec_definitions.specs.Text.{ascii, spaced, line}
 use Rattle.spec_definitions.specs.Program.{words_of, read_bytes, cut_word, first_line, answer_lines, program_of}
 use Rattle.spec_demands.specs.LeastDegree.{Least}
-use Rattle.spec_demands.specs.Numbered.{Numbered, numbered, numbered_found, numbered_spent, t1_numbers}
-use Rattle.spec_demands.specs.LeastAnswers.{t3_listing}
+use Rattle.spec_demands.specs.Numbered.{Numbered}
+use Rattle.spec_demands.proofs.Numbered.{numbered, numbered_found, numbered_spent, t1_numbers}
+use Rattle.spec_demands.proofs.LeastAnswers.{t3_listing}
 use Rattle.listing_found.specs.Answers.{room_cases}
-use Rattle.spec_digits.specs.Digits.{spaced_fixes}
+use Rattle.spec_digits.proofs.Digits.{spaced_fixes}
 use Rattle.out_answer.specs.Refused.{refused_first}
 use Rattle.out_program.specs.Program.{program_cut, program_whole}
 

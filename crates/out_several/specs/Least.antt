@@ -6,7 +6,7 @@ use Rattle.std.proofs.Math.ListN.{get_or-map}
 use Rattle.spec_definitions.specs.Answers.{Outcome, Said, refused, said, said_injective}
 use Rattle.spec_demands.specs.Numbered.{Numbered}
 use Rattle.spec_several.specs.Several.{most_primes, several_answer}
-use Rattle.spec_several.specs.Regulators.{t1_several, several_numbered, places}
+use Rattle.spec_several.proofs.Regulators.{t1_several, several_numbered, places}
 use Rattle.call_regulators.specs.Regulators.{LeastEach}
 use Rattle.out_numbers.specs.Numbers.{plain_same}
 use Rattle.out_numbers.specs.Least.{least_plain}

@@ -4,7 +4,8 @@ use Rattle.std.proofs.Common.{add-one, arith, sym, ap, ◌∙◌, subst, append_
 use Rattle.std.proofs.Math.ListN.{get_or-map}
 use Rattle.spec_arithmetic.specs.Words.{value}
 use Rattle.spec_definitions.specs.Text.{decimal, spaced}
-use Rattle.spec_digits.specs.Decimal.{digits, power}
+use Rattle.spec_digits.specs.Decimal.{power}
+use Rattle.spec_digits.proofs.Decimal.{digits}
 
 spaced_append : (a b : List ℕ) → spaced (a ++ b) ≡ spaced a ++ spaced b
 unfolding spaced

@@ -3,4 +3,3 @@
 // Words: kinds and values. A crate apart from spec_definitions, so that a change of the ticket, the walk or
 // an answer re-proves no leaf.
 #![tactic(auto)]
-

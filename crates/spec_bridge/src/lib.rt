@@ -7,4 +7,3 @@
 // - Gcd, Bezout, BezoutLength, Euclid: gcd and its factors. Prime, Residues: the allowed q, and the numbers
 //   modulo q.
 #![tactic(auto)]
-

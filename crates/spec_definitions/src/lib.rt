@@ -5,4 +5,3 @@
 // - Units, Listing, Lookup, Products: the answers of the other calls. Text, Program: what the program prints.
 // - Marked: the marked table, by computation.
 #![tactic(auto)]
-

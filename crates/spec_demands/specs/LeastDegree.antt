@@ -36,7 +36,7 @@ use Rattle.spec_laws.specs.QuasiPeriod.{Quasi, NoQuasi, Says, quasi_says}
 use Rattle.spec_laws.specs.Solutions as solutions
 use Rattle.spec_laws.specs.Admitted.{Admitted, is_field, surd_of, admitted}
 use Rattle.spec_sentences.specs.Sentences.{Same}
-use Rattle.spec_sentences.specs.Arithmetic.{series_same}
+use Rattle.spec_sentences.proofs.Arithmetic.{series_same}
 
 -- p² − D·s²
 abbrev pub norm : FieldName → List ℕ → List ℕ → List ℕ → List ℕ

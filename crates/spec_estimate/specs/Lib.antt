@@ -5,6 +5,3 @@ pub mod Rounding
 pub mod Bounds
 pub mod Ratios
 pub mod Estimates
-pub mod Approximation
-pub mod Only
-pub mod Example

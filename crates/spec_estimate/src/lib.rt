@@ -4,4 +4,3 @@
 // - Values, Squares, Rounding, Bounds, Ratios: values and squares modulo x − e, how many there are, the nearest whole
 //   number, 64 bits, fractions as they are written. Example: answers by computation.
 #![tactic(auto)]
-

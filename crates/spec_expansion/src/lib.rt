@@ -2,4 +2,3 @@
 // (specs/QuasiPeriod), specs only. Digits and the pigeonhole principle carry the second: finitely many pairs
 // (Q, P).
 #![tactic(auto)]
-

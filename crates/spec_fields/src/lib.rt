@@ -2,4 +2,3 @@
 // perfect field. The record to open is `Arithmetic` in specs/Named: what is proved above this crate is proved
 // over it.
 #![tactic(auto)]
-

@@ -9,7 +9,8 @@ use Rattle.math_algebra.specs.Polynomial.{F, Px, low_sub, ◌≺◌ as Low, deg_
 use Rattle.math_algebra.specs.Divides.{rigid}
 use Rattle.math_algebra.specs.Associate.{associate_monic_equal, divides_associate}
 use Rattle.math_surd.specs.Step.{State}
-use Rattle.math_surd.specs.Ideal.{SameIdeal, same_sym, same_trans}
+use Rattle.math_surd.specs.Ideal.{SameIdeal}
+use Rattle.math_surd.proofs.Ideal.{same_sym, same_trans}
 use Rattle.spec_arithmetic.specs.Field.{Ops}
 use Rattle.spec_definitions.specs.Walk.{Ideal}
 use Rattle.spec_definitions.specs.Listing.{ideal_of}

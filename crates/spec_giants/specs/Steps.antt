@@ -5,8 +5,8 @@ use Rattle.std.proofs.Common.{zero-add, suc-add}
 use Rattle.math_algebra.specs.Field.{Field}
 use Rattle.math_algebra.specs.Polynomial.{F, Px}
 use Rattle.math_surd.specs.Step.{State}
-use Rattle.math_surd.specs.Ideal.{next_same}
-use Rattle.math_surd.specs.Same.{walk_follows}
+use Rattle.math_surd.proofs.Ideal.{next_same}
+use Rattle.math_surd.proofs.Same.{walk_follows}
 use Rattle.spec_arithmetic.specs.Field.{Ops}
 use Rattle.spec_definitions.specs.Walk.{Ideal, walk, steps}
 use Rattle.spec_bridge.specs.Model.{Model, series}

@@ -5,4 +5,3 @@
 // - Entries: the ideal and the distance of every index of the endless walk, and the steps from one. Landings:
 //   where the giant step of two of them lands.
 #![tactic(auto)]
-

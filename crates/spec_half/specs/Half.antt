@@ -1,7 +1,6 @@
 -- R-2, half the walk: where the call stops, the quasi-period and the regulator that it tells there, and its
 -- answer to any list of words.
-use Rattle.std.specs.Prelude.{ℕ, zero, suc, ◌+◌, ◌*◌, ◌≡◌, Bool, true, false, List, [], ◌∷◌, eqb}
-use Rattle.std.proofs.Common.{arith, ap}
+use Rattle.std.specs.Prelude.{ℕ, zero, suc, ◌+◌, ◌*◌, Bool, true, false, List, [], ◌∷◌, eqb}
 use Rattle.std.proofs.Math.Option.{Option, none, some}
 use Rattle.spec_arithmetic.specs.Field.{Ops}
 use Rattle.spec_arithmetic.specs.Polynomials.{sub, size, deg, monic}
@@ -64,19 +63,6 @@ unfoldable pub half_said : HalfOutcome → Said
 half_said (half_found R m) = record { number = 0; values = R ∷ m ∷ [] }
 half_said (half_spent k e) = record { number = 11; values = k ∷ e ∷ [] }
 half_said (half_refused j) = record { number = j; values = [] }
-
--- `half_said` is one to one: what is said fixes the case and every number in it
-pub half_said_injective : (x y : HalfOutcome) → half_said x ≡ half_said y → x ≡ y
-unfolding half_said
-half_said_injective (half_found R m) (half_found R' m') h = let v : ◌≡◌ {A = List ℕ} (R ∷ m ∷ []) (R' ∷ m' ∷ []) = ap (λ (s : Said). s.values) h in cc
-half_said_injective (half_found R m) (half_spent k e) h = let v : ◌≡◌ {A = ℕ} 0 11 = ap (λ (s : Said). s.number) h in absurd (omega arith)
-half_said_injective (half_found R m) (half_refused j) h = let v : ◌≡◌ {A = List ℕ} (R ∷ m ∷ []) [] = ap (λ (s : Said). s.values) h in cc
-half_said_injective (half_spent k e) (half_found R m) h = let v : ◌≡◌ {A = ℕ} 11 0 = ap (λ (s : Said). s.number) h in absurd (omega arith)
-half_said_injective (half_spent k e) (half_spent k' e') h = let v : ◌≡◌ {A = List ℕ} (k ∷ e ∷ []) (k' ∷ e' ∷ []) = ap (λ (s : Said). s.values) h in cc
-half_said_injective (half_spent k e) (half_refused j) h = let v : ◌≡◌ {A = List ℕ} (k ∷ e ∷ []) [] = ap (λ (s : Said). s.values) h in cc
-half_said_injective (half_refused j) (half_found R m) h = let v : ◌≡◌ {A = List ℕ} [] (R ∷ m ∷ []) = ap (λ (s : Said). s.values) h in cc
-half_said_injective (half_refused j) (half_spent k e) h = let v : ◌≡◌ {A = List ℕ} [] (k ∷ e ∷ []) = ap (λ (s : Said). s.values) h in cc
-half_said_injective (half_refused j) (half_refused j') h = ap (λ (s : Said). half_refused s.number) h
 
 -- "It counts one step for each i tried.": a budget b is b indices from 0 up
 unfoldable pub half_of : Ticket → HalfOutcome

@@ -3,4 +3,3 @@
 // - Middles, Duplication, Cases: what the proofs rest on. Computed: the tests and R from what the code holds.
 // - Example: answers by computation.
 #![tactic(auto)]
-

@@ -3,4 +3,3 @@
 //   and of T2 up to R. Repeats: the walk past R.
 // - Only: no other answer satisfies the statements. Example: answers by computation.
 #![tactic(auto)]
-

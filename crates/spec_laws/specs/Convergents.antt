@@ -12,7 +12,8 @@ use Rattle.math_algebra.specs.Field.{Field}
 use Rattle.math_algebra.specs.Polynomial.{F, Px, deg_path}
 use Rattle.math_surd.specs.Walk.{a_first}
 use Rattle.math_surd.specs.Convergents as convergents
-use Rattle.math_surd.specs.Distance.{distance, distance_height, p_deg, s_deg, distance_rise, distance_least, distance_most}
+use Rattle.math_surd.specs.Distance.{distance, s_deg}
+use Rattle.math_surd.proofs.Distance.{distance_height, p_deg, distance_rise, distance_least, distance_most}
 use Rattle.spec_arithmetic.specs.Field.{Ops}
 use Rattle.spec_arithmetic.specs.Polynomials.{trim, deg, add, mul}
 use Rattle.spec_definitions.specs.Walk.{p_before, s_before, degree_before}

@@ -10,9 +10,11 @@ use Rattle.math_ring.specs.Series.{add_s, conv}
 use Rattle.math_ring.specs.Degree.{lead_conv}
 use Rattle.math_algebra.specs.Field.{Field, some_mul}
 use Rattle.math_algebra.specs.Polynomial.{F, Px, Deg, deg_path}
-use Rattle.math_surd.specs.Walk.{a_deg, a_top}
+use Rattle.math_surd.specs.Walk.{a_deg}
+use Rattle.math_surd.proofs.Walk.{a_top}
 use Rattle.math_surd.specs.Convergents as convergents
-use Rattle.math_surd.specs.Distance.{distance, height, distance_rise, p_deg, s_deg, p_top}
+use Rattle.math_surd.specs.Distance.{distance, height, s_deg}
+use Rattle.math_surd.proofs.Distance.{distance_rise, p_deg, p_top}
 use Rattle.spec_arithmetic.specs.Field.{Ops}
 use Rattle.spec_arithmetic.specs.Polynomials.{at, trim, lead}
 use Rattle.spec_definitions.specs.Walk.{Q, p_before, s_before, over_lead, signed_q, constant_of}

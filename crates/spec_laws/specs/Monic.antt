@@ -8,7 +8,8 @@ use Rattle.math_ring.specs.Identity.{ring, ring_from, times, plus, quote}
 use Rattle.math_ring.specs.Series.{Series, conv, con}
 use Rattle.math_algebra.specs.Field.{Field, some_mul}
 use Rattle.math_algebra.specs.Polynomial.{F, Px, Deg, Monic, low_path, low_scale, deg_path, con_mul}
-use Rattle.math_surd.specs.Distance.{distance, height, p_deg, s_deg}
+use Rattle.math_surd.specs.Distance.{distance, height, s_deg}
+use Rattle.math_surd.proofs.Distance.{p_deg}
 use Rattle.spec_arithmetic.specs.Field.{Ops}
 use Rattle.spec_arithmetic.specs.Polynomials.{lead, scale}
 use Rattle.spec_definitions.specs.Walk.{Q, p_before, s_before, degree_before, over_lead, unit_of, signed_q, constant_of}

@@ -10,8 +10,10 @@ use Rattle.math_ring.specs.Identity.{ring_from, times, quote}
 use Rattle.math_ring.specs.Series.{Series}
 use Rattle.math_algebra.specs.Field.{Field}
 use Rattle.math_algebra.specs.Polynomial.{F, Px, Deg, deg_path}
-use Rattle.math_surd.specs.Walk.{norm, P_sum}
-use Rattle.math_surd.specs.Convergents.{sign, sign_deg, norm_convergent, determinant}
+use Rattle.math_surd.specs.Walk.{norm}
+use Rattle.math_surd.proofs.Walk.{P_sum}
+use Rattle.math_surd.specs.Convergents.{sign}
+use Rattle.math_surd.proofs.Convergents.{sign_deg, norm_convergent, determinant}
 use Rattle.math_surd.specs.Convergents as convergents
 use Rattle.spec_arithmetic.specs.Field.{Ops}
 use Rattle.spec_arithmetic.specs.Polynomials.{at, add, sub, mul}

@@ -15,7 +15,8 @@ use Rattle.math_algebra.specs.Division.{Division}
 use Rattle.math_algebra.specs.Gcd.{IsGcd, gcd_zero, gcd_monic}
 use Rattle.math_surd.specs.Step.{State}
 use Rattle.math_algebra.specs.Finite.{Finite, finite_mul, finite_by, finite_monic}
-use Rattle.math_ideals.specs.Product.{Common, Multipliers, Meets, product_Q, product_P, product_square, product_monic, meets_unique, remainder_meets, meets_norm}
+use Rattle.math_ideals.specs.Product.{Common, Multipliers, Meets, product_Q, product_P}
+use Rattle.math_ideals.proofs.Product.{product_square, product_monic, meets_unique, remainder_meets, meets_norm}
 use Rattle.spec_arithmetic.specs.Field.{Ops}
 use Rattle.spec_arithmetic.specs.Polynomials.{trim, add, sub, mul, quo, rem, gcd, Bezout, bezout}
 use Rattle.spec_definitions.specs.Walk.{Ideal}

@@ -16,9 +16,11 @@ use Rattle.math_algebra.specs.Polynomial.{F, Px, Deg, deg_unique}
 use Rattle.math_algebra.specs.Division.{Division}
 use Rattle.math_surd.specs.Step.{State}
 use Rattle.math_surd.specs.Step as states
-use Rattle.math_surd.specs.Ideal.{Follows, step_follows}
+use Rattle.math_surd.specs.Ideal.{Follows}
+use Rattle.math_surd.proofs.Ideal.{step_follows}
 use Rattle.math_ideals.specs.Reduction.{next_state}
-use Rattle.math_ideals.specs.Steps.{Steps, Above, above_more, turns_less, degree_falls, height_more, partial_deg, degree_sum_lem, shift_most}
+use Rattle.math_ideals.specs.Steps.{Steps, Above, height_more, degree_sum_lem, shift_most}
+use Rattle.math_ideals.proofs.Steps.{above_more, turns_less, degree_falls, partial_deg}
 use Rattle.spec_arithmetic.specs.Field.{Ops}
 use Rattle.spec_arithmetic.specs.Polynomials.{trim, size, deg, add, mul, quo, rem}
 use Rattle.spec_definitions.specs.Walk.{Ideal, partial, next_p, next, steps}

@@ -10,7 +10,7 @@ use Rattle.math_ring.specs.Series.{Series}
 use Rattle.math_algebra.specs.Field.{Field}
 use Rattle.math_algebra.specs.Polynomial.{F, Px, low_up, low_add, low_path, deg_unique}
 use Rattle.math_surd.specs.Step.{State}
-use Rattle.math_ideals.specs.Steps.{degree_most}
+use Rattle.math_ideals.proofs.Steps.{degree_most}
 use Rattle.spec_arithmetic.specs.Field.{Ops}
 use Rattle.spec_arithmetic.specs.Polynomials.{trim, deg, add, mul}
 use Rattle.spec_definitions.specs.Walk.{Ideal, next_p, next, steps}

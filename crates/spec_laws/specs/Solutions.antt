@@ -7,7 +7,7 @@ use Rattle.math_algebra.specs.Field.{Field}
 use Rattle.math_algebra.specs.Polynomial.{F, Deg, low_up, low_one}
 use Rattle.math_surd.specs.Units.{Scaled}
 use Rattle.math_surd.specs.LeastDegree.{Solution}
-use Rattle.math_surd.specs.LeastDegree as least
+use Rattle.math_surd.proofs.LeastDegree as least
 use Rattle.spec_arithmetic.specs.Field.{Ops}
 use Rattle.spec_arithmetic.specs.Polynomials.{trim, size, deg}
 use Rattle.spec_definitions.specs.Walk.{degree_before}

@@ -8,8 +8,9 @@ use Rattle.math_ring.specs.Identity.{ring_from, times, quote}
 use Rattle.math_ring.specs.Series.{Series}
 use Rattle.math_algebra.specs.Field.{Field}
 use Rattle.math_algebra.specs.Polynomial.{F, Px, monic_deg}
-use Rattle.math_surd.specs.Walk.{P_rem, Q_rem, P_monic, a_deg}
-use Rattle.math_surd.specs.Walk as states
+use Rattle.math_surd.specs.Walk.{P_rem, P_monic, a_deg}
+use Rattle.math_surd.proofs.Walk.{Q_rem}
+use Rattle.math_surd.proofs.Walk as states
 use Rattle.spec_arithmetic.specs.Field.{Ops}
 use Rattle.spec_arithmetic.specs.Polynomials.{trim, deg, add, sub, mul}
 use Rattle.spec_definitions.specs.Walk as lists

@@ -8,4 +8,3 @@
 // - Pairs, PairTest, Product, ProductCong, ProductSizes: products. Reduction, ReductionSizes, Reduced, Shift:
 //   reductions.
 #![tactic(auto)]
-

@@ -9,7 +9,8 @@ use mathlib.Core.List.Memᴰ
 use mathlib.Core.List.{List, [], ◌∷◌, ◌++◌, map, Nodup-nil, Nodup-append}
 use Rattle.std.proofs.lemmas.List.{length-map}
 use Rattle.math_ring.specs.Order.{le_or_lt}
-use Rattle.math_counting.specs.Pigeonhole.{In, Distinct, distinct_cons, distinct_map}
+use Rattle.math_counting.specs.Pigeonhole.{In, Distinct}
+use Rattle.math_counting.proofs.Pigeonhole.{distinct_cons, distinct_map}
 use Rattle.math_counting.specs.HowMany.{HowMany}
 
 -- n coefficients below q, then 1 at x^n

@@ -1,18 +1,7 @@
 -- What the program prints after "found", by computation: numbers of one to four digits, and degrees other
 -- than the printed example's. The texts come from a model of document 01 in another language
 -- (vectors/check.py).
-use Rattle.std.specs.Prelude.{refl, [], ◌∷◌}
-use Rattle.spec_arithmetic.specs.Field.{inverse, inverse_in, fits}
-use Rattle.spec_arithmetic.specs.Polynomials.{trim, size, deg, pad, zip, add, sub, scale, mul, lead, put, divide, quo, rem, monic, gcd, gcd_in, times, times_from, derivative, monomial, root, root_in}
-use Rattle.spec_arithmetic.specs.Primes.{odd_prime, no_divisor}
-use Rattle.spec_arithmetic.specs.Words.{kind, value, word, high, low, joined, same, some_not, one_of}
-use Rattle.spec_definitions.specs.Ticket.{genus, ticket_of, wrong_head, wrong_prime, wrong_degree, later_kinds, wrong_layout, wrong_coefficient, wrong_lead, not_squarefree, first_of, tests_of, refusal_of}
-use Rattle.spec_definitions.specs.Walk.{partial, next_p, next, steps, walk, p_before, constant?, first_from, quasi_period, degree_before, over_lead, signed_q, constant_of}
-use Rattle.spec_definitions.specs.Answers.{said, root_of, outcome_of, words_outcome}
-use Rattle.spec_definitions.specs.Listing.{ideal_of, mirror_of, record_words, entry_of, record_of, records_from, listing_of, listing_from, listing_answer}
-use Rattle.spec_definitions.specs.Lookup.{record_at}
-use Rattle.spec_definitions.specs.Text.{ascii, decimal, decimal_in, spaced, line}
-use Rattle.spec_definitions.specs.Program.{words_of, read_bytes, cut_word, first_line, record_line, record_lines, answer_lines, program_of}
+use Rattle.std.specs.Prelude.{[], ◌∷◌}
 use Rattle.spec_definitions.specs.Marked.{ticket, bytes}
 use Rattle.spec_printed.specs.Lines.{Prints}
 
@@ -34,8 +23,3 @@ TwoDigits = Prints (bytes (ticket 101 (17 ∷ 99 ∷ 17 ∷ 91 ∷ 1 ∷ []) 11)
 -- three and four digits; q = 4,093, D = x^4 + 2770x³ + 5x² + 3450x + 196
 abbrev pub FourDigits : Type 0
 FourDigits = Prints (bytes (ticket 4093 (196 ∷ 3450 ∷ 5 ∷ 2770 ∷ 1 ∷ []) 3)) "found 4 3 757\n1 0 4 1 0 0\n2 2 3 638 1 947\n3 3 2 638 1 3146\n"
-
--- ---- the proof
-pub found_lines : Linear × Sextic × TwoDigits × FourDigits
-unfolding inverse inverse_in fits trim size deg pad zip add sub scale mul lead put divide quo rem monic gcd gcd_in times times_from derivative monomial root root_in odd_prime no_divisor kind value word high low joined same some_not one_of genus ticket_of wrong_head wrong_prime wrong_degree later_kinds wrong_layout wrong_coefficient wrong_lead not_squarefree first_of tests_of refusal_of partial next_p next steps walk p_before constant? first_from quasi_period degree_before over_lead signed_q constant_of said root_of outcome_of words_outcome ideal_of mirror_of record_words entry_of record_of records_from listing_of listing_from listing_answer record_at ascii decimal decimal_in spaced line words_of read_bytes cut_word first_line record_line record_lines answer_lines program_of
-found_lines = (refl, refl, refl, refl)

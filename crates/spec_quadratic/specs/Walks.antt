@@ -9,13 +9,10 @@ use Rattle.math_ring.specs.Residues.{Fq, to, mul_f}
 use Rattle.math_algebra.specs.Field.{Field}
 use Rattle.math_algebra.specs.Polynomial.{F, Px, Deg}
 use Rattle.math_algebra.specs.Divides.{Divides}
-use Rattle.math_algebra.specs.Finite.{finite_monic}
 use Rattle.math_algebra.specs.Gcd.{IsGcd}
 use Rattle.math_algebra.specs.Derivative.{derivative}
-use Rattle.math_algebra.specs.Characteristic.{Perfect}
-use Rattle.math_algebra.specs.Fermat.{residue_zero, fermat_residue}
 use Rattle.math_algebra.specs.Prime.{Prime}
-use Rattle.math_algebra.specs.Squarefree.{SquareFactor, square_gcd, gcd_square}
+use Rattle.math_algebra.specs.Squarefree.{SquareFactor}
 use Rattle.math_surd.specs.Root.{Root}
 use Rattle.math_surd.specs.Step.{State}
 use Rattle.math_surd.specs.Walk.{Walk}
@@ -23,12 +20,10 @@ use Rattle.math_surd.specs.Convergents.{p, s}
 use Rattle.math_surd.specs.Distance.{distance}
 use Rattle.math_surd.specs.QuasiPeriod.{QuasiPeriod, NoneConstant}
 use Rattle.math_surd.specs.LeastDegree.{Solution}
-use Rattle.math_surd.specs.LeastDegree as least
-use Rattle.math_ideals.specs.Product.{Common, Multipliers, product_Q, product_P, product_meets, meets_norm, meets_same}
+use Rattle.math_ideals.specs.Product.{Common, Multipliers, product_Q, product_P}
 use Rattle.spec_bridge.specs.Residues.{pos, field, to_val, to_mul, to_back}
 use Rattle.math_quadratic.specs.Pairs.{Pair}
 use Rattle.math_quadratic.specs.Extension.{NonSquare, extension}
-use Rattle.math_quadratic.specs.Roots.{perfect_extension}
 
 -- no number's square is ν modulo q
 abbrev pub NonSquareModulo : ℕ → ℕ → Type 0
@@ -78,26 +73,3 @@ module _ (q : ℕ) (prime : Prime q) (more : 2 < q) (ν : ℕ) (n : NonSquareMod
   -- ---- square factors: the square of a polynomial of degree 1 or more divides D exactly where the gcd of D and D' is not constant
   abbrev pub SquareTest : Type 0
   SquareTest = (D G : Px E) (k : ℕ) → Deg E D k → IsGcd E D (derivative (F E) D) G → SquareFactor E D ↔ ((m : ℕ) × (1 ≤ m) × Deg E G m)
-
-  -- ---- the proof
-  -- the q-th root of c is c^q
-  pub perfect : Perfect E
-  perfect = perfect_extension (field q prime more) (to q (pos q prime) ν) non_square q prime more (residue_zero q (pos q prime)) (fermat_residue q (pos q prime) prime)
-
-  pub spent : Spent
-  spent g D o w b none X Y = least.spent E w b none
-
-  pub found : Found
-  found g D o w m first X Y = least.found E w m first
-
-  pub reached : Reached
-  reached g D o w m first = (least.reached E w m first, least.reached_deg E w m first)
-
-  pub product_ideal : ProductIdeal
-  product_ideal D Q₁ C₁ P₁ Q₂ C₂ P₂ S s₁ s₂ c b = meets_norm E (finite_monic E c.monic) (product_meets E s₁ s₂ c b)
-
-  pub product_same : ProductSame
-  product_same D Q₁ C₁ P₁ Q₂ C₂ P₂ S s₁ s₂ c b b' = meets_same E s₁ s₂ c b (product_meets E s₁ s₂ c b) (product_meets E s₁ s₂ c b')
-
-  pub square_test : SquareTest
-  square_test D G k t i = (square_gcd E t i, λ r. gcd_square E perfect i r.1 r.2)

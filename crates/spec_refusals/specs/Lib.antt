@@ -1,4 +1,3 @@
 pub mod Pairs
 pub mod Lookups
-pub mod Records
 pub mod LentLists

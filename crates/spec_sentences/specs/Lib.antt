@@ -1,7 +1,5 @@
 pub mod Sentences
 pub mod Tests
-pub mod Readings
-pub mod Squares
 pub mod FirstRefusal
 pub mod TicketRead
 pub mod Arithmetic

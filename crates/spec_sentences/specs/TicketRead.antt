@@ -2,7 +2,7 @@
 -- coefficients of D, constant term first; kind 4: the step budget b". The sentences 1 to 7 are not about b,
 -- and the other demands are about the ticket: here its fields are the values of the words, for any list of
 -- words.
-use Rattle.std.specs.Prelude.{ℕ, ◌+◌, ◌≡◌, refl, List}
+use Rattle.std.specs.Prelude.{ℕ, ◌+◌, ◌≡◌, List}
 use Rattle.spec_arithmetic.specs.Field.{prime}
 use Rattle.spec_definitions.specs.Ticket.{ticket_of}
 use Rattle.spec_sentences.specs.Sentences.{value_at, q, n, D}
@@ -15,8 +15,3 @@ pub record TicketRead (w : List ℕ) : Type 0 where
 
 abbrev pub T1Ticket : Type 0
 T1Ticket = (w : List ℕ) → TicketRead w
-
--- ---- the proof
-pub t1_ticket : T1Ticket
-unfolding ticket_of
-t1_ticket w = record { field_is = refl; n_is = refl; D_is = refl; b_is = refl }

@@ -3,4 +3,3 @@
 // statement is at the head of its file; docs/READING.md, section 2, has the table. Tests, Readings and
 // Squares are proofs: a test is true exactly where its sentence applies.
 #![tactic(auto)]
-

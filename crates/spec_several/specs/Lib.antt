@@ -1,9 +1,6 @@
 pub mod Several
 pub mod Residues
-pub mod Kinds
 pub mod Shape
 pub mod Jobs
 pub mod Single
-pub mod Laws
 pub mod Regulators
-pub mod Example

@@ -3,4 +3,3 @@
 // - Residues, Shape, Single: what the statements speak of, each with its proof.
 // - Kinds, Jobs, Laws: what the proofs rest on, here and in the code. Example: outcomes by computation.
 #![tactic(auto)]
-

@@ -2,4 +2,3 @@
 // definitions give, specs only.
 // docs/READING.md, section 4, has the table.
 #![tactic(auto)]
-

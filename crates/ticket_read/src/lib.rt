@@ -2,7 +2,6 @@
 // number of the first test that applies.
 #![tactic(auto)]
 
-
 ghost use Rattle.std.specs.Prelude.{◌≡◌, ◌+◌, ◌<◌, ◌≤◌, length, get_or};
 ghost use Rattle.spec_arithmetic.specs.Words.{value as value_of};
 ghost use Rattle.spec_definitions.specs.Ticket.{ticket, first_of};

@@ -7,8 +7,9 @@ use Rattle.spec_arithmetic.specs.Field.{prime}
 use Rattle.spec_arithmetic.specs.Words.{values, value}
 use Rattle.spec_definitions.specs.Ticket.{ticket, ticket_of, wrong_prime, first_of, refusal_of}
 use Rattle.spec_several.specs.Several.{degree_of, coefficients_of, budget_of, several_refusal, job_at, job_words}
-use Rattle.spec_several.specs.Jobs.{residues_in, length_residues}
-use Rattle.spec_several.specs.Laws as several
+use Rattle.spec_several.specs.Jobs.{residues_in}
+use Rattle.spec_several.proofs.Jobs.{length_residues}
+use Rattle.spec_several.proofs.Laws as several
 use Rattle.base_polynomial.specs.declared.Poly.{Poly}
 use Rattle.base_polynomial.specs.Over.{poly, Is, is_poly}
 use Rattle.spec_laws.specs.FirstTest.{radicand_tests}

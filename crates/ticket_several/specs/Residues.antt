@@ -5,7 +5,7 @@ use Rattle.std.proofs.Common.{sym, ap, ◌∙◌}
 use Rattle.spec_arithmetic.specs.Field.{modulo}
 use Rattle.spec_arithmetic.specs.Words.{values}
 use Rattle.spec_several.specs.Several.{negatives, residue}
-use Rattle.spec_several.specs.Residues.{negative_residue}
+use Rattle.spec_several.proofs.Residues.{negative_residue}
 
 -- it is the difference of two residues
 pub negative_difference : (q v : ℕ) → negatives ≤ v → residue q v ≡ (modulo q).sub (v % q) (values % q)

@@ -9,7 +9,7 @@ use Rattle.spec_definitions.specs.Ticket.{wrong_degree}
 use Rattle.spec_lists.specs.Kinds as kinds
 use Rattle.spec_laws.specs.FirstTest.{neither, first_applies, first_passes, first_nil}
 use Rattle.spec_several.specs.Several.{most_primes, several_kinds, degree_of, prime_count, wrong_shape, several_refusal}
-use Rattle.spec_several.specs.Laws.{kinds_length}
+use Rattle.spec_several.proofs.Laws.{kinds_length}
 use Rattle.ticket_layout.specs.Any.{any_first, any_second, any_third}
 
 module _ (w : List ℕ) (n : ℕ) where

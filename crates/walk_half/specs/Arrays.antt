@@ -16,7 +16,7 @@ use Rattle.spec_laws.specs.Admitted.{Admitted, surd_of}
 use Rattle.spec_laws.specs.Surd.{r_trim}
 use Rattle.spec_laws.specs.Fraction.{Q_deg, Q_some}
 use Rattle.spec_laws.specs.State.{left, left_length}
-use Rattle.spec_half.specs.Middles.{lead_not_zero}
+use Rattle.spec_half.proofs.Middles.{lead_not_zero}
 use Rattle.spec_half.specs.Computed.{Cross}
 use Rattle.base_polynomial.specs.Pad.{at_pad}
 use Rattle.walk_state.specs.State.{root_d, State, Q_at, last_is_lead}

@@ -12,7 +12,8 @@ use Rattle.spec_laws.specs.Surd.{Q_zero}
 use Rattle.spec_laws.specs.Walk.{deg_Q}
 use Rattle.spec_laws.specs.State.{before, left, before_zero, before_suc}
 use Rattle.spec_half.specs.Half.{middle_q?, middle_p?, half_found, half_spent, half_of}
-use Rattle.spec_half.specs.Computed.{NoTestHolds, remainders_P, not_remainders_P, first_remainders, cross_Q, not_cross_Q, half_by_Q, half_by_P, half_none}
+use Rattle.spec_half.specs.Computed.{NoTestHolds}
+use Rattle.spec_half.proofs.Computed.{remainders_P, not_remainders_P, first_remainders, cross_Q, not_cross_Q, half_by_Q, half_by_P, half_none}
 use Rattle.base_polynomial.specs.Record.{poly, Held}
 use Rattle.walk_state.specs.State.{root_d}
 use Rattle.walk_state.specs.Start.{Prepared}

@@ -5,6 +5,6 @@ use Rattle.call_estimate.proofs.refused.Goals as goal
 
 pub returns : goal.returns
 returns c = record {
-      words_value = refl;
-      estimate_says = refused_zeros refl refl refl refl;
-    }
+  words_value = refl;
+  estimate_says = refused_zeros refl refl refl refl;
+}

@@ -5,6 +5,6 @@ use Rattle.call_giant_step.proofs.refused.Goals as goal
 
 pub returns : goal.returns
 returns c = record {
-      words_value = refl;
-      giant_step_says = giant_zeros c.zero-z.ensures refl refl;
-    }
+  words_value = refl;
+  giant_step_says = giant_zeros c.zero-z.ensures refl refl;
+}

@@ -1,7 +1,7 @@
 -- `ideal_at` meets its contract: a ticket that is refused gives zeros, and so does a y that is too far; else the ideal is
 -- made.
 use Rattle.std.proofs.Common.{arith}
-use Rattle.spec_ideal_at.specs.Below.{far_answer}
+use Rattle.spec_ideal_at.proofs.Below.{far_answer}
 use Rattle.ticket_read.specs.Accepted.{accepted, number_is, degree_two}
 use Rattle.call_ideal_at.specs.IdealsAt.{says_path, answer_refused, answer_near}
 use Rattle.call_ideal_at.proofs.ideal_at.Goals as goal

@@ -5,6 +5,6 @@ use Rattle.call_ideal_at.proofs.refused.Goals as goal
 
 pub returns : goal.returns
 returns c = record {
-      words_value = refl;
-      ideal_at_says = refused_zeros refl c.zero-z.ensures c.zero-z.ensures refl refl;
-    }
+  words_value = refl;
+  ideal_at_says = refused_zeros refl c.zero-z.ensures c.zero-z.ensures refl refl;
+}

@@ -1,7 +1,7 @@
 -- `listing` meets its contract: a refused ticket leaves the list as it is, any other goes to `listing_of`; T3
 -- of the outcome follows from what is said.
 use Rattle.std.proofs.Common.{refl, sym, arith}
-use Rattle.spec_demands.specs.LeastAnswers.{t3_listing}
+use Rattle.spec_demands.proofs.LeastAnswers.{t3_listing}
 use Rattle.ticket_read.specs.Accepted.{accepted, number_is}
 use Rattle.call_regulator.specs.Regulator.{walkable, refused_outcome, accepted_outcome}
 use Rattle.call_listing.specs.Listing.{kept_refused, words_answer}

@@ -5,6 +5,6 @@ use Rattle.call_product.proofs.multiplied.Goals as goal
 
 pub returns : goal.returns
 returns c = record {
-      words_value = refl;
-      by_index = λ b. product_done_says _ b c.product-r.ensures;
-    }
+  words_value = refl;
+  by_index = λ b. product_done_says _ b c.product-r.ensures;
+}

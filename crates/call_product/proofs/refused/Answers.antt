@@ -5,6 +5,6 @@ use Rattle.call_product.proofs.refused.Goals as goal
 
 pub returns : goal.returns
 returns c = record {
-      words_value = refl;
-      product_says = product_zeros c.zero-z.ensures;
-    }
+  words_value = refl;
+  product_says = product_zeros c.zero-z.ensures;
+}

@@ -8,17 +8,17 @@ use Rattle.call_regulators.proofs.regulators.Goals as goal
 pub returns-then-number-ne0 : goal.returns-then-number-ne0
 unfolding several_answer
 returns-then-number-ne0 c = let h = c.refused_ticket.ensures in record {
-      words = h.words;
-      count = h.count;
-      says = ap (map said) h.places;
-      least = least_each _ _ h;
-    }
+  words = h.words;
+  count = h.count;
+  says = ap (map said) h.places;
+  least = least_each _ _ h;
+}
 
 pub returns : goal.returns
 unfolding several_answer
 returns c = let h = c.at_primes.ensures in record {
-      words = h.words;
-      count = h.count;
-      says = ap (map said) h.places;
-      least = least_each _ _ h;
-    }
+  words = h.words;
+  count = h.count;
+  says = ap (map said) h.places;
+  least = least_each _ _ h;
+}

@@ -1,6 +1,6 @@
 use Rattle.std.proofs.Common.{arith, refl, sym, subst}
 use Rattle.base_field.specs.Named.{name, named}
-use Rattle.spec_estimate.specs.Values.{value_is}
+use Rattle.spec_estimate.proofs.Values.{value_is}
 use Rattle.spec_fields.specs.Named.{Ok}
 use Rattle.estimate_counts.specs.Counts.{counts_none, counts_below, counts_next, counts_all}
 use Rattle.estimate_counts.proofs.count_values.Goals as goal

@@ -2,7 +2,7 @@
 -- the engine leaves it.
 use mathlib.Core.Path.{sym, ◌∙◌}
 use borrow.Author.Rules.{rules}
-use Rattle.spec_demands.specs.Numbered.{t1_numbers}
+use Rattle.spec_demands.proofs.Numbered.{t1_numbers}
 use Rattle.out_numbers.specs.Numbers.{plain_same}
 use Rattle.out_numbers.specs.Least.{least_plain}
 use Rattle.foskadoin.proofs.foskadoin_listing.Statement.{statement}

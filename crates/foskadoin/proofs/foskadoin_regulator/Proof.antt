@@ -1,7 +1,7 @@
 -- `foskadoin_regulator` meets its contract: the numbers of the engine's outcome, and T3 of them.
 use mathlib.Core.Path.{sym, ◌∙◌}
 use borrow.Author.Rules.{rules}
-use Rattle.spec_demands.specs.Numbered.{t1_numbers}
+use Rattle.spec_demands.proofs.Numbered.{t1_numbers}
 use Rattle.out_numbers.specs.Numbers.{plain_same}
 use Rattle.out_numbers.specs.Least.{least_plain}
 use Rattle.foskadoin.proofs.foskadoin_regulator.Statement.{statement}

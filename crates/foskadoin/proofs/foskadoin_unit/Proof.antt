@@ -2,7 +2,7 @@
 -- them, and T3 of both.
 use mathlib.Core.Path.{sym, ◌∙◌}
 use borrow.Author.Rules.{rules}
-use Rattle.spec_demands.specs.Numbered.{t1_numbers}
+use Rattle.spec_demands.proofs.Numbered.{t1_numbers}
 use Rattle.out_numbers.specs.Numbers.{plain_same}
 use Rattle.out_numbers.specs.Least.{least_in_lists}
 use Rattle.foskadoin.proofs.foskadoin_unit.Statement.{statement}

@@ -33,10 +33,10 @@ subtract_product-l-requires c =
 
 pub multiply-m-requires : goal.multiply-m-requires
 multiply-m-requires c = record {
-      field = (c.requires.field.0, omega arith);
-      held = c.requires.held.0;
-      held_2 = c.requires.held_2.0;
-    }
+  field = (c.requires.field.0, omega arith);
+  held = c.requires.held.0;
+  held_2 = c.requires.held_2.0;
+}
 
 pub returns : goal.returns
 returns c =

@@ -6,9 +6,9 @@ use Rattle.ideal_reduce.proofs.reduce.Goals as goal
 
 pub normal-t-requires : goal.normal-t-requires
 normal-t-requires c = let t = c.requires.start in record {
-      field = (c.requires.field.0, q_some t);
-      held = (t.held_q, t.held_p);
-    }
+  field = (c.requires.field.0, q_some t);
+  held = (t.held_q, t.held_p);
+}
 
 pub returns : goal.returns
 returns c =

@@ -13,10 +13,10 @@ use Rattle.ideal_shared.proofs.bracket.Goals as goal
 
 pub subtract-k-requires : goal.subtract-k-requires
 subtract-k-requires c = record {
-      field = c.requires.field.0;
-      held = c.requires.held.0;
-      held_2 = c.requires.held.1;
-    }
+  field = c.requires.field.0;
+  held = c.requires.held.0;
+  held_2 = c.requires.held.1;
+}
 
 pub multiply-m-requires : goal.multiply-m-requires
 multiply-m-requires c =

@@ -4,10 +4,10 @@ use Rattle.ideal_shared.proofs.multipliers.Goals as goal
 
 pub add-l-requires : goal.add-l-requires
 add-l-requires c = record {
-      field = c.requires.field.0;
-      held = c.requires.held_2.0;
-      held_2 = c.requires.held_2.1;
-    }
+  field = c.requires.field.0;
+  held = c.requires.held_2.0;
+  held_2 = c.requires.held_2.1;
+}
 
 pub bezout-r-requires : goal.bezout-r-requires
 bezout-r-requires c =

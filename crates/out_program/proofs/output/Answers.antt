@@ -1,7 +1,7 @@
 -- A cut word is refused, and whole words are a ticket of at most 70 words. T3 of the first line follows from
 -- what is printed.
 use Rattle.std.proofs.Common.{arith, ◌≡◌, sym, ◌∙◌, length, length-take-le, rules}
-use Rattle.spec_demands.specs.Numbered.{numbered}
+use Rattle.spec_demands.proofs.Numbered.{numbered}
 use Rattle.out_program.specs.Words.{count_most}
 use Rattle.out_program.specs.Program.{program_cut, program_whole}
 use Rattle.out_answer.specs.Printed.{printed_same, printed_whole}

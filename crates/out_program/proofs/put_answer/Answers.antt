@@ -1,7 +1,7 @@
 -- What is found fits the lent list by what `listing` says, and its lines fit the buffer.
 use Rattle.std.proofs.Common.{arith, ◌≡◌, sym, ap, ◌∙◌, length, drop, length-append, length-drop, length-take-le, rules}
 use Rattle.spec_definitions.specs.Answers.{said}
-use Rattle.spec_demands.specs.Numbered.{t1_numbers}
+use Rattle.spec_demands.proofs.Numbered.{t1_numbers}
 use Rattle.walk_outcome.specs.Outcome.{meaning}
 use Rattle.walk_outcome.proofs.Kept.{not_found}
 use Rattle.out_program.specs.Found.{found_fits, records_fit}

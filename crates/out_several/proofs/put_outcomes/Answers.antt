@@ -21,6 +21,6 @@ loop-i-preserved c =
 
 pub returns : goal.returns
 returns c = record {
-      words_value = (refl, refl);
-      out_len = (c.loop-i.invariant.1, λ i h. c.loop-i.invariant.2 i (omega arith));
-    }
+  words_value = (refl, refl);
+  out_len = (c.loop-i.invariant.1, λ i h. c.loop-i.invariant.2 i (omega arith));
+}

@@ -1,7 +1,7 @@
 -- The recursion of the digits: a number below ten is one byte, any other has its last digit after those of its tenth part, which is less.
 use Rattle.std.proofs.Common.{◌+◌, ◌/◌, arith, ◌≡◌, sym, ap, length, length-set}
 use Rattle.spec_definitions.specs.Text.{decimal}
-use Rattle.spec_digits.specs.Decimal.{decimal_one, decimal_more, length_more}
+use Rattle.spec_digits.proofs.Decimal.{decimal_one, decimal_more, length_more}
 use Rattle.out_text.specs.Writing.{put_byte, put_then, put_same, put_length}
 use Rattle.out_text.proofs.+put_decimal.Goals as goal
 

@@ -3,6 +3,6 @@ use Rattle.unit_zeros.proofs.clear_work.Goals as goal
 
 pub returns : goal.returns
 returns c = record {
-      written = c.clear.ensures;
-      written_2 = c.clear-2.ensures;
-    }
+  written = c.clear.ensures;
+  written_2 = c.clear-2.ensures;
+}

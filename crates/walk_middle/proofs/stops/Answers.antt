@@ -33,9 +33,9 @@ apart_3 c h = false≢true (sym c.if-multiple.false ∙ c.multiple.ensures.1 h)
 
 pub same-requires : goal.same-requires
 same-requires c = let t = c.requires.tested in record {
-      top_bound = (t.top_fits, t.rest_long, t.remains_long);
-      ends = (t.rest_within.past, t.remains_within.past);
-    }
+  top_bound = (t.top_fits, t.rest_long, t.remains_long);
+  ends = (t.rest_within.past, t.remains_within.past);
+}
 
 pub returns-then-same : goal.returns-then-same
 returns-then-same c = (apart c, c.same.ensures.0 c.if-same.true)

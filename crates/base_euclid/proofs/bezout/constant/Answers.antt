@@ -19,6 +19,7 @@ module _ (q c : ℕ) (less : c < q) where
   reduced : (i : ℕ) → get_or (c ∷ []) i 0 < q
   reduced zero = less
   reduced (suc i) = omega arith
+
   trimmed_place : Places (set zeros 0 c) (λ i. get_or (trim (modulo q) (c ∷ [])) i 0)
   trimmed_place = record { long = (one_place c).long; at = λ i. (one_place c).at i ∙ sym (at_trim (model q (omega arith)) (c ∷ []) reduced i) }
 

@@ -1,7 +1,7 @@
 -- `foskadoin_half` meets its contract: the numbers of the engine's outcome, and T3 of them.
 use mathlib.Core.Path.{sym, ◌∙◌}
 use borrow.Author.Rules.{rules}
-use Rattle.spec_half.specs.HalfWalk.{t1_half_numbers}
+use Rattle.spec_half.proofs.HalfWalk.{t1_half_numbers}
 use Rattle.out_numbers.specs.Numbers.{plain_same}
 use Rattle.out_half.specs.Least.{least_half_plain}
 use Rattle.foskadoin.proofs.half.foskadoin_half.Statement.{statement}

@@ -6,9 +6,9 @@ use Rattle.ideal_operand.proofs.cofactor.cofactor.Goals as goal
 
 pub upper_square-requires : goal.upper_square-requires
 upper_square-requires c = record {
-      field = (c.requires.field.0, c.requires.field.4);
-      within = held_within _ _ _ c.args.k c.requires.held.2 (omega arith);
-    }
+  field = (c.requires.field.0, c.requires.field.4);
+  within = held_within _ _ _ c.args.k c.requires.held.2 (omega arith);
+}
 
 pub inverse-lead_inverse-requires : goal.inverse-lead_inverse-requires
 inverse-lead_inverse-requires c = (c.requires.field.0, c.requires.held.1.reduced (c.args.m - 1))

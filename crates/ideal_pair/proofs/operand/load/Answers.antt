@@ -15,9 +15,9 @@ loop-i-preserved c = (search rules, filled_more _ _ _ _ c.loop-i.invariant.1 (om
 
 pub top-requires : goal.top-requires
 top-requires c = record {
-      from_bound = search rules;
-      by_index = λ i h. c.loop-i.invariant.1.rest i (let e = c.loop-i-test.false in let l = c.loop-i.invariant.0 in omega arith);
-    }
+  from_bound = search rules;
+  by_index = λ i h. c.loop-i.invariant.1.rest i (let e = c.loop-i-test.false in let l = c.loop-i.invariant.0 in omega arith);
+}
 
 pub returns : goal.returns
 returns c f zero below =

@@ -3,7 +3,7 @@ use Rattle.std.proofs.Common.{arith, ◌≡◌, refl, sym, ap, ◌∙◌, false,
 use Rattle.spec_definitions.specs.Ticket.{wrong_prime}
 use Rattle.spec_laws.specs.Admitted.{field_of}
 use Rattle.spec_several.specs.Several.{degree_of}
-use Rattle.spec_several.specs.Laws.{job_refused_2}
+use Rattle.spec_several.proofs.Laws.{job_refused_2}
 use Rattle.base_field.specs.Named.{name, IsField, made}
 use Rattle.ticket_read.specs.Read.{stands_path}
 use Rattle.ticket_several.specs.Job.{degree_most, job_long, job_size, job_itself, job_stands}

@@ -3,7 +3,8 @@ use lib.ListN.{get_or-eq_default}
 use Rattle.base_polynomial.specs.Places.{Places, filled_none, filled_more, filled_all}
 use Rattle.base_polynomial.specs.Held.{is_of}
 use Rattle.spec_several.specs.Several.{residue}
-use Rattle.spec_several.specs.Jobs.{residues_in, length_residues, residue_at}
+use Rattle.spec_several.specs.Jobs.{residues_in}
+use Rattle.spec_several.proofs.Jobs.{length_residues, residue_at}
 use Rattle.ticket_several.proofs.job.reduced.Goals as goal
 
 pub loop-i-init : goal.loop-i-init

@@ -1,7 +1,7 @@
 -- A value that stands for a negative number is 2²⁸ too large.
 use Rattle.std.proofs.Common.{◌<◌, sym, ap₂, ◌∙◌, subst, mod-lt, arith}
 use Rattle.base_field.specs.Named.{ops}
-use Rattle.spec_several.specs.Residues.{plain_residue}
+use Rattle.spec_several.proofs.Residues.{plain_residue}
 use Rattle.ticket_several.specs.Residues.{negative_difference}
 use Rattle.ticket_several.proofs.job.residue.Goals as goal
 

@@ -1,7 +1,7 @@
 -- The five parts of the shape.
 use Rattle.std.proofs.Common.{◌+◌, ◌-◌, arith, sym, ap, ◌∙◌, get_or}
 use Rattle.spec_several.specs.Several.{several_kinds}
-use Rattle.spec_several.specs.Laws.{kinds_first, kinds_coefficient, kinds_budget, kinds_prime, kinds_end}
+use Rattle.spec_several.proofs.Laws.{kinds_first, kinds_coefficient, kinds_budget, kinds_prime, kinds_end}
 use Rattle.ticket_several.proofs.shape.right_kind.Goals as goal
 
 pub returns-then-i-eq0 : goal.returns-then-i-eq0

@@ -13,11 +13,11 @@ bounds-into-k c = let e = c.loop-k.invariant.1.long in omega arith
 
 pub terms-requires : goal.terms-requires
 terms-requires c = record {
-      field = c.requires.field;
-      l_bound = (c.requires.l_bound.0, omega arith);
-      within = c.requires.within;
-      below_to = λ i h. c.requires.below_to.0 i (omega arith);
-    }
+  field = c.requires.field;
+  l_bound = (c.requires.l_bound.0, omega arith);
+  within = c.requires.within;
+  below_to = λ i h. c.requires.below_to.0 i (omega arith);
+}
 
 pub overflow_add-t : goal.overflow_add-t
 overflow_add-t c =

@@ -6,11 +6,11 @@ use Rattle.unit_recurrence.proofs.steps.advance.Goals as goal
 
 pub partial-requires : goal.partial-requires
 partial-requires c = record {
-      field = c.requires.field;
-      size_nonzero = (c.requires.size_nonzero.0, c.requires.size_nonzero.1, omega arith);
-      inverses = c.requires.inverses;
-      division = c.requires.division;
-    }
+  field = c.requires.field;
+  size_nonzero = (c.requires.size_nonzero.0, c.requires.size_nonzero.1, omega arith);
+  inverses = c.requires.inverses;
+  division = c.requires.division;
+}
 
 pub fold-requires : goal.fold-requires
 fold-requires c =

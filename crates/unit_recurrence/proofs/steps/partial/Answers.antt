@@ -13,8 +13,8 @@ bounds-inverses-current c = omega (arith, c.requires.division.current_within.red
 
 pub quotient-requires : goal.quotient-requires
 quotient-requires c = record {
-      field = c.requires.field;
-      lead_inverse_value = c.requires.inverses _ (c.requires.division.current_within.reduced (c.args.size - 1));
-      size_nonzero = c.requires.size_nonzero;
-      division = c.requires.division;
-    }
+  field = c.requires.field;
+  lead_inverse_value = c.requires.inverses _ (c.requires.division.current_within.reduced (c.args.size - 1));
+  size_nonzero = c.requires.size_nonzero;
+  division = c.requires.division;
+}

@@ -16,6 +16,6 @@ overflow_mul-result c = omega (arith, small c)
 
 pub returns : goal.returns
 returns c = record {
-      value = refl;
-      upper_bound = small c;
-    }
+  value = refl;
+  upper_bound = small c;
+}

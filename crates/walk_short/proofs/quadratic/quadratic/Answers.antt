@@ -56,10 +56,10 @@ coefficients_2 c =
 
 pub first-requires : goal.first-requires
 first-requires c = record {
-      field = c.requires.field;
-      lead_inverse_value = c.requires.lead_inverse_value;
-      size_nonzero = (c.requires.size_nonzero.0, omega arith, omega arith, divided c);
-    }
+  field = c.requires.field;
+  lead_inverse_value = c.requires.lead_inverse_value;
+  size_nonzero = (c.requires.size_nonzero.0, omega arith, omega arith, divided c);
+}
 
 pub over_lead-h-requires : goal.over_lead-h-requires
 over_lead-h-requires c = (c.requires.field, lead_less c, omega arith, (divided_2 c).current_within.reduced)

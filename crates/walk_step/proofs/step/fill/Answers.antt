@@ -30,11 +30,11 @@ quadratic-requires c =
 
 pub general-requires : goal.general-requires
 general-requires c = record {
-      field = c.requires.field;
-      lead_inverse_value = c.requires.lead_inverse_value;
-      size_nonzero = c.requires.size_nonzero;
-      ready = c.requires.ready;
-    }
+  field = c.requires.field;
+  lead_inverse_value = c.requires.lead_inverse_value;
+  size_nonzero = c.requires.size_nonzero;
+  ready = c.requires.ready;
+}
 
 pub returns-then-top-size : goal.returns-then-top-size
 returns-then-top-size c = c.linear.ensures

@@ -5,11 +5,11 @@ use Rattle.walk_step.proofs.step.general.Goals as goal
 
 pub quotient-requires : goal.quotient-requires
 quotient-requires c = record {
-      field = c.requires.field;
-      lead_inverse_value = c.requires.lead_inverse_value;
-      size_nonzero = c.requires.size_nonzero;
-      division = division c.requires.ready;
-    }
+  field = c.requires.field;
+  lead_inverse_value = c.requires.lead_inverse_value;
+  size_nonzero = c.requires.size_nonzero;
+  division = division c.requires.ready;
+}
 
 pub remainder-requires : goal.remainder-requires
 remainder-requires c =

@@ -10,11 +10,11 @@ loop-k-init c = (omega arith, filled_none _)
 
 pub next_at-requires : goal.next_at-requires
 next_at-requires c = record {
-      field = c.requires.field;
-      k_bound = omega arith;
-      bounded = c.requires.bounded;
-      within = c.requires.within;
-    }
+  field = c.requires.field;
+  k_bound = omega arith;
+  bounded = c.requires.bounded;
+  within = c.requires.within;
+}
 
 pub loop-k-preserved : goal.loop-k-preserved
 loop-k-preserved c =

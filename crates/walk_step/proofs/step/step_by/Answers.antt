@@ -5,11 +5,11 @@ use Rattle.walk_step.proofs.step.step_by.Goals as goal
 
 pub fill-requires : goal.fill-requires
 fill-requires c = record {
-      field = c.requires.field;
-      lead_inverse_value = c.requires.lead_inverse_value;
-      size_nonzero = c.requires.size_nonzero;
-      ready = c.requires.ready;
-    }
+  field = c.requires.field;
+  lead_inverse_value = c.requires.lead_inverse_value;
+  size_nonzero = c.requires.size_nonzero;
+  ready = c.requires.ready;
+}
 
 pub top-requires : goal.top-requires
 top-requires c =

@@ -1,0 +1,5 @@
+pub mod Below
+pub mod GiantStep
+pub mod Jumps
+pub mod Place
+pub mod Within

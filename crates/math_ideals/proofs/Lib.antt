@@ -1,0 +1,3 @@
+pub mod Product
+pub mod Reduction
+pub mod Steps

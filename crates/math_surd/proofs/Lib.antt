@@ -1,0 +1,10 @@
+pub mod Big
+pub mod Convergents
+pub mod Descent
+pub mod Distance
+pub mod Ideal
+pub mod LeastDegree
+pub mod QuasiPeriod
+pub mod Same
+pub mod Units
+pub mod Walk

@@ -1,0 +1,5 @@
+pub mod Further
+pub mod Outcomes
+pub mod Records
+pub mod Refusals
+pub mod Units

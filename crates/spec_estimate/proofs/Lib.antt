@@ -1,0 +1,9 @@
+pub mod Approximation
+pub mod Bounds
+pub mod Estimates
+pub mod Example
+pub mod Only
+pub mod Ratios
+pub mod Rounding
+pub mod Squares
+pub mod Values

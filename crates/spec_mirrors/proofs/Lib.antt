@@ -1,0 +1,2 @@
+pub mod Conjugates
+pub mod Mirrors

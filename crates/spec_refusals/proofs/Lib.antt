@@ -1,0 +1,4 @@
+pub mod LentLists
+pub mod Lookups
+pub mod Pairs
+pub mod Records

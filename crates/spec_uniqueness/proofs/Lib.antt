@@ -1,0 +1,9 @@
+pub mod Division
+pub mod GiantSteps
+pub mod Lookups
+pub mod Outcomes
+pub mod Products
+pub mod Records
+pub mod Refusals
+pub mod Units
+pub mod Walk
