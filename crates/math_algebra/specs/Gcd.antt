@@ -54,13 +54,19 @@ module _ {A : Type 0} (K : Field A) where
     form = inl refl;
   }
 
+  pub base_is : (a : Px K) (n : ℕ) → Deg K a n → a ≡ (con (F K) (K.inv (a n)) * a) * con (F K) (a n)
+  base_is a n t = ring_from R[x] (a ∷ con (F K) (a n) ∷ con (F K) (K.inv (a n)) ∷ []) (times R[x] (- a) (con_inv K (a n) t.top)) (search quote depth 40 fits 9999) tt
+
+  pub base_bezout : (a : Px K) (n : ℕ) → con (F K) (K.inv (a n)) * a ≡ con (F K) (K.inv (a n)) * a + 𝟘 * 𝟘
+  base_bezout a n = ring R[x] (a ∷ con (F K) (K.inv (a n)) ∷ []) (search quote depth 40 fits 9999) tt
+
   unfoldable pub gcd_base : (a : Px K) (n : ℕ) → Deg K a n → IsGcd a 𝟘 (con (F K) (K.inv (a n)) * a)
   gcd_base a n t = record {
     left = record {
       by = con (F K) (a n);
       size = 1;
       low = below_con (F K) (a n);
-      is = ring_from R[x] (a ∷ con (F K) (a n) ∷ con (F K) (K.inv (a n)) ∷ []) (times R[x] (- a) (con_inv K (a n) t.top)) (search quote depth 40 fits 9999) tt;
+      is = base_is a n t;
     };
     right = divides_zero K _;
     u = con (F K) (K.inv (a n));
@@ -68,9 +74,12 @@ module _ {A : Type 0} (K : Field A) where
     size = 1;
     u_low = below_con (F K) (K.inv (a n));
     v_low = low_zero K 1;
-    bezout = ring R[x] (a ∷ con (F K) (K.inv (a n)) ∷ []) (search quote depth 40 fits 9999) tt;
+    bezout = base_bezout a n;
     form = inr (n, monic_of K a n t);
   }
+
+  pub step_bezout : {a g : Px K} (b r q u v : Px K) → a ≡ q * b + r → g ≡ u * b + v * r → g ≡ v * a + (u - q * v) * b
+  step_bezout {a} {g} b r q u v e h = ring_from R[x] (a ∷ b ∷ r ∷ g ∷ q ∷ u ∷ v ∷ []) (plus R[x] (times R[x] 𝟙 h) (times R[x] (- v) e)) (search quote depth 40 fits 9999) tt
 
   -- the gcd of b and the remainder of a by b is that of a and b
   unfoldable pub gcd_step : {b r g : Px K} (a q : Px K) (k : ℕ) → q ≺ k → a ≡ q * b + r → IsGcd b r g → IsGcd a b g
@@ -82,7 +91,7 @@ module _ {A : Type 0} (K : Field A) where
     size = i.size +ₙ (k +ₙ i.size);
     u_low = low_up K i.v (omega arith) i.v_low;
     v_low = low_sub K i.u (q * i.v) _ (low_up K i.u (omega arith) i.u_low) (low_up K (q * i.v) (omega arith) (low_product K q i.v k i.size h i.v_low));
-    bezout = ring_from R[x] (a ∷ b ∷ r ∷ g ∷ q ∷ i.u ∷ i.v ∷ []) (plus R[x] (times R[x] 𝟙 i.bezout) (times R[x] (- i.v) e)) (search quote depth 40 fits 9999) tt;
+    bezout = step_bezout b r q i.u i.v e i.bezout;
     form = i.form;
   }
 
