@@ -32,7 +32,7 @@ pub mod giant_step {
     pub use call_giant_step::{GiantStepAnswer, giant_step};
 }
 
-pub mod ideal_at {
+pub mod at_distance {
     pub use call_ideal_at::{IdealAtAnswer, ideal_at};
 }
 

@@ -2,9 +2,9 @@
 // caller.
 #![tactic(auto)]
 
+pub mod at_distance;
 pub mod estimate;
 pub mod half;
-pub mod ideal_at;
 pub mod pairs;
 pub mod several;
 

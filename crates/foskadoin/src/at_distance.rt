@@ -5,7 +5,7 @@ ghost use Rattle.call_ideal_at.specs.IdealsAt.{IdealAtSays};
 ghost use Rattle.out_polynomials.specs.Lent.{ideal_at_in};
 
 use base_counters::Distance;
-use engine::ideal_at::ideal_at;
+use engine::at_distance::ideal_at;
 use out_polynomials::{IdealNumbers, put_ideal_at};
 
 // The last ideal of the endless walk at a distance of at most y.

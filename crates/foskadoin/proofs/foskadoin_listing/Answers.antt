@@ -1,0 +1,16 @@
+-- `foskadoin_listing` meets its contract: the numbers of the engine's outcome, T3 of them, and the list as
+-- the engine leaves it.
+use Rattle.std.proofs.Common.{sym, ◌∙◌}
+use Rattle.spec_demands.proofs.Numbered.{t1_numbers}
+use Rattle.out_numbers.specs.Numbers.{plain_same}
+use Rattle.out_numbers.specs.Least.{least_plain}
+use Rattle.foskadoin.proofs.foskadoin_listing.Goals as goal
+
+pub returns : goal.returns
+returns c =
+    record {
+      words = c.as_numbers.ensures.words ∙ c.listing-a.ensures.words;
+      says = plain_same c.listing-a.ensures.says c.as_numbers.ensures.says;
+      list = c.listing-a.ensures.list;
+      least = least_plain _ _ (t1_numbers.2 _ _ _ (sym c.listing-a.ensures.says)) c.as_numbers.ensures.says c.listing-a.ensures.least;
+    }

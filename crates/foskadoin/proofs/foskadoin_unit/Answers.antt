@@ -1,0 +1,16 @@
+-- `foskadoin_unit` meets its contract: the numbers of the engine's outcome, the lists as the engine leaves
+-- them, and T3 of both.
+use Rattle.std.proofs.Common.{sym, ◌∙◌}
+use Rattle.spec_demands.proofs.Numbered.{t1_numbers}
+use Rattle.out_numbers.specs.Numbers.{plain_same}
+use Rattle.out_numbers.specs.Least.{least_in_lists}
+use Rattle.foskadoin.proofs.foskadoin_unit.Goals as goal
+
+pub returns : goal.returns
+returns c =
+    record {
+      words = c.as_numbers.ensures.words ∙ c.unit-a.ensures.words;
+      says = plain_same c.unit-a.ensures.says c.as_numbers.ensures.says;
+      lists = c.unit-a.ensures.lists;
+      least = least_in_lists _ _ _ (t1_numbers.1 _ _ _ (sym c.unit-a.ensures.says)) c.as_numbers.ensures.says c.unit-a.ensures.least;
+    }
