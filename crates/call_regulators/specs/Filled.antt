@@ -1,87 +1,10 @@
 -- The places as they are filled: those before place i have the outcomes of the first i primes, those from there
 -- on the refusal 0.
-use Rattle.std.specs.Prelude.{ℕ, zero, suc, ◌+◌, ◌-◌, ◌≤◌, ◌<◌, ◌≡◌, refl, List, [], ◌∷◌, ◌++◌, length, get_or, set, replicate}
-use Rattle.std.proofs.Common.{arith, sym, ◌∙◌, subst, length-append, take_all, take-suc, length-take-le}
-use Rattle.std.proofs.Math.Numerals.{add-one}
-use Rattle.std.proofs.Math.Path.{ap}
+use Rattle.std.specs.Prelude.{ℕ, ◌≡◌, List}
 use Rattle.std.proofs.Math.ListN.{take}
-use Rattle.std.proofs.Math.Seq.{append_snoc, set-append_seam}
-use Rattle.spec_arithmetic.specs.Words.{value}
-use Rattle.spec_definitions.specs.Answers.{Outcome, refused, words_outcome}
-use Rattle.spec_several.specs.Several.{most_primes, degree_of, several_refusal, job_words, several_of, sixteen_places}
-use Rattle.spec_several.proofs.Laws.{several_refused, most_primes_lem, length_words, count_outcomes, outcome_at_lem}
-use Rattle.walk_outcome.specs.Outcome.{meaning}
-use Rattle.walk_outcome.specs.declared.Outcome as code
+use Rattle.spec_several.specs.Several.{several_of, sixteen_places}
 use Rattle.call_regulators.specs.declared.AtPrime.{AtPrime}
 use Rattle.call_regulators.specs.Regulators.{meanings}
 
 abbrev pub FilledPlaces : List ℕ → ℕ → List AtPrime → Type 0
 FilledPlaces w i places = meanings places ≡ sixteen_places (take i (several_of w))
-
-meanings_set : (l : List AtPrime) (i : ℕ) (x : code.Outcome) →
-    meanings (set l i (record { outcome = x })) ≡ set (meanings l) i (meaning x)
-meanings_set [] i x = refl
-meanings_set (p ∷ l) zero x = refl
-meanings_set (p ∷ l) (suc i) x = ap (λ (m : List Outcome). meaning p.outcome ∷ m) (meanings_set l i x)
-
--- an outcome in the first place that holds the refusal 0
-sixteen_more : (l : List Outcome) (x : Outcome) → length l < most_primes →
-    set (sixteen_places l) (length l) x ≡ sixteen_places (l ++ (x ∷ []))
-unfolding sixteen_places
-sixteen_more l x h =
-    let s : most_primes - length l ≡ suc (most_primes - length (l ++ (x ∷ []))) = omega (arith, length-append l (x ∷ [])) in
-    ap (λ (k : ℕ). set (l ++ replicate k (refused 0)) (length l) x) s
-    ∙ set-append_seam l (refused 0) _ x
-    ∙ sym (append_snoc l x _)
-
--- the same of what the places mean
-more_places : (places : List AtPrime) (x : code.Outcome) (l : List Outcome) → length l < most_primes →
-    meanings places ≡ sixteen_places l →
-    meanings (set places (length l) (record { outcome = x })) ≡ sixteen_places (l ++ (meaning x ∷ []))
-more_places places x l h e =
-    meanings_set places (length l) x
-    ∙ ap (λ (m : List Outcome). set m (length l) (meaning x)) e
-    ∙ sixteen_more l (meaning x) h
-
-pub filled_all : (w : List ℕ) (places : List AtPrime) (i : ℕ) → i ≡ length (several_of w) →
-    FilledPlaces w i places → meanings places ≡ sixteen_places (several_of w)
-filled_all w places i e f = f ∙ ap sixteen_places (take_all i (several_of w) (omega arith))
-
--- a refusal of the ticket is its only outcome
-pub refused_only : (w : List ℕ) (k : ℕ) → k ≡ several_refusal w → 0 < k → several_of w ≡ refused k ∷ []
-refused_only w zero e h = absurd (omega arith)
-refused_only w (suc j) e h = several_refused w j (sym e)
-
-module _ (w : List ℕ) (none : several_refusal w ≡ 0) where
-  pub count_most : length (several_of w) ≤ most_primes
-  count_most = omega (arith, count_outcomes w none, most_primes_lem w none)
-
-  pub words_are : length w ≡ value (get_or w 0 0) + 4 + length (several_of w)
-  unfolding degree_of
-  words_are = omega (arith, count_outcomes w none, length_words w none)
-
-  -- the outcome at q, and at the prime in word i after the budget
-  abbrev outcome_at : ℕ → Outcome
-  outcome_at q = words_outcome (job_words w q)
-
-  abbrev outcome_after : ℕ → Outcome
-  outcome_after i = outcome_at (value (get_or w (value (get_or w 0 0) + 3 + i) 0))
-
-  next_outcome : (i : ℕ) → i < length (several_of w) →
-      take (i + 1) (several_of w) ≡ take i (several_of w) ++ (outcome_after i ∷ [])
-  unfolding degree_of
-  next_outcome i h =
-      rw add-one
-      (take-suc (several_of w) i (refused 0) h
-      ∙ ap (λ (x : Outcome). take i (several_of w) ++ (x ∷ [])) (outcome_at_lem w none i (omega (arith, count_outcomes w none)) (refused 0)))
-
-  -- place i gets the outcome at the prime q in word i after the budget
-  pub filled_more : (places : List AtPrime) (x : code.Outcome) {n q : ℕ} (i : ℕ) → i < length (several_of w) →
-      n ≡ value (get_or w 0 0) → q ≡ value (get_or w (n + 3 + i) 0) → meaning x ≡ words_outcome (job_words w q) →
-      FilledPlaces w i places → FilledPlaces w (i + 1) (set places i (record { outcome = x }))
-  filled_more places x i h n_is q_is x_is f =
-      let e : meaning x ≡ outcome_after i = x_is ∙ ap outcome_at (q_is ∙ ap (λ (n : ℕ). value (get_or w (n + 3 + i) 0)) n_is) in
-      let k : length (take i (several_of w)) ≡ i = length-take-le i (several_of w) (omega arith) in
-      subst (λ (k : ℕ). meanings (set places k (record { outcome = x })) ≡ sixteen_places (take (i + 1) (several_of w))) k
-      (more_places places x (take i (several_of w)) (omega (arith, count_most)) f
-      ∙ ap sixteen_places (ap (λ (y : Outcome). take i (several_of w) ++ (y ∷ [])) e ∙ sym (next_outcome i h)))

@@ -25,7 +25,8 @@ use Rattle.walk_state.specs.State.{root_d}
 use Rattle.walk_state.specs.Start.{top_is}
 use Rattle.ideal_operand.specs.Operand.{held_pair, M, operand_q, operand_p, operand_ideal, operand_q_size, operand_p_size}
 use Rattle.ideal_descend.specs.Recurrence.{left}
-use Rattle.ideal_descend.specs.Stands.{Stands, Begun, root_length, left_less, padded_at, rest_reduced, ready, stands_next, q_held, difference_is}
+use Rattle.ideal_descend.specs.Stands.{Stands, Begun}
+use Rattle.ideal_descend.proofs.Stands.{root_length, left_less, padded_at, rest_reduced, ready, stands_next, q_held, difference_is}
 use Rattle.ideal_reduce.specs.Start.{Start, rest_is, stands_first}
 use Rattle.ideal_climb.specs.declared.Located.{Located}
 use Rattle.ideal_climb.specs.declared.Standing.{Standing}

@@ -1,4 +1,3 @@
-pub mod Difference
 pub mod Height
 pub mod Recurrence
 pub mod Stands

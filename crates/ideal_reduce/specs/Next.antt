@@ -31,7 +31,8 @@ use Rattle.walk_step.specs.Step.{step_quo, next_rem, next_q, Stepped}
 use Rattle.walk_state.specs.State.{pad_series}
 use Rattle.ideal_operand.specs.Operand.{K, M}
 use Rattle.ideal_descend.specs.Height.{Height}
-use Rattle.ideal_descend.specs.Turn.{At, Going, even_past, quotient_some, at_next}
+use Rattle.ideal_descend.specs.Turn.{At, Going}
+use Rattle.ideal_descend.proofs.Turn.{even_past, quotient_some, at_next}
 use Rattle.ideal_reduce.specs.Start.{Start, x, root, begun, p_less, cofactor_short, at_first}
 
 module _ {f : FieldName} {g : ℕ} {D : List ℕ} {l : ℕ} {d q : List ℕ} {m : ℕ} {p : List ℕ} {k : ℕ} (s : Start f g D l d q m p k) (above : suc (suc g) < m)

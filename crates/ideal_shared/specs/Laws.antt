@@ -1,8 +1,8 @@
 -- The definition's Q is (Q_1/S)·(Q_2/S), and its P is that with both signs turned.
 use Rattle.std.specs.Prelude.{◌+◌ as ◌+ₙ◌, ◌≡◌, List, [], ◌∷◌, length}
-use Rattle.std.proofs.Common.{arith, sym, ap, ap₂, ◌∙◌}
+use Rattle.std.proofs.Common.{arith, sym, ap, ◌∙◌}
 use Rattle.math_ring.specs.Ring.{CRing}
-use Rattle.math_ring.specs.Identity.{ring, ring_from, times, plus, quote}
+use Rattle.math_ring.specs.Identity.{ring_from, times, plus, quote}
 use Rattle.math_ring.specs.Series.{Series}
 use Rattle.math_algebra.specs.Field.{Field}
 use Rattle.math_algebra.specs.Polynomial.{F, Px, Deg, deg_mul, deg_path, monic_deg}
@@ -12,12 +12,12 @@ use Rattle.spec_arithmetic.specs.Polynomials.{add, sub, mul, quo, rem}
 use Rattle.spec_definitions.specs.Walk.{Ideal}
 use Rattle.spec_bridge.specs.Model.{Model, Inverts, series, series_nil}
 use Rattle.spec_bridge.specs.Trim.{below_length, series_ext}
-use Rattle.spec_bridge.specs.Arithmetic.{trim_add, oks_add, trim_sub, oks_sub, trim_mul, oks_mul, series_add, series_sub, series_mul}
+use Rattle.spec_bridge.specs.Arithmetic.{trim_mul, oks_mul, series_mul}
 use Rattle.spec_bridge.specs.Division.{series_quo_rem, trim_quo, oks_quo}
 use Rattle.spec_bridge.specs.Quotient.{quo_exact}
 use Rattle.spec_bridge.specs.Degree.{deg_size}
 use Rattle.spec_laws.specs.Pairs.{IsIdeal, cofactor_at}
-use Rattle.spec_laws.specs.Product.{common_of, product_q, unreduced_p, product_p, common, S_divides}
+use Rattle.spec_laws.specs.Product.{common_of, product_q, common, S_divides}
 
 module _ {A : Type 0} (o : Ops A) (D : List A) where
   -- U·(P_1 − P_2) − W·(D − P_1²)/Q_1
@@ -69,26 +69,3 @@ module _ {A B : Type 0} {o : Ops A} (K : Field B) (M : Model o (F K)) (I : Inver
   product_of_quotients =
       series_ext M _ _ (trim_mul M _ _) (trim_quo M _ _) (oks_mul M _ _) (oks_quo M _ _)
       (series_mul M first second ∙ sym (quo_exact M I (mul o x.q y.q) (mul o S S) (series M first * series M second) finite.size (let e = deg_size K M (mul o S S) square_deg in omega arith) finite.low both).0)
-
-  -- ---- P
-  module _ (u w : List A) where
-    abbrev P₁ : Px K
-    P₁ = series M x.p
-
-    abbrev P₂ : Px K
-    P₂ = series M y.p
-
-    abbrev C : Px K
-    C = series M (cofactor_at o D x)
-
-    left : series M (turned_p o D x y u w) ≡ P₁ - series M first * (series M u * (P₁ - P₂) - series M w * C)
-    left = series_sub M x.p _ ∙ ap (λ f. P₁ - f) (series_mul M first _ ∙ ap (λ f. series M first * f) (series_sub M _ _ ∙ ap₂ ◌-◌ (series_mul M u _ ∙ ap (λ f. series M u * f) (series_sub M x.p y.p)) (series_mul M w _)))
-
-    right : series M (unreduced_p o D x y u w) ≡ P₁ + series M first * (series M u * (P₂ - P₁) + series M w * C)
-    right = series_add M x.p _ ∙ ap (λ f. P₁ + f) (series_mul M first _ ∙ ap (λ f. series M first * f) (series_add M _ _ ∙ ap₂ ◌+◌ (series_mul M u _ ∙ ap (λ f. series M u * f) (series_sub M y.p x.p)) (series_mul M w _)))
-
-    signs : P₁ - series M first * (series M u * (P₁ - P₂) - series M w * C) ≡ P₁ + series M first * (series M u * (P₂ - P₁) + series M w * C)
-    signs = ring R[x] (P₁ ∷ P₂ ∷ series M first ∷ series M u ∷ series M w ∷ C ∷ []) (search quote depth 40 fits 9999) tt
-
-    pub turned : rem o (turned_p o D x y u w) (product_q o x y) ≡ product_p o D x y u w
-    turned = ap (λ (l : List A). rem o l (product_q o x y)) (series_ext M _ _ (trim_sub M _ _) (trim_add M _ _) (oks_sub M _ _) (oks_add M _ _) (left ∙ signs ∙ sym right))

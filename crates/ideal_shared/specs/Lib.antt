@@ -1,4 +1,1 @@
-pub mod Sizes
-pub mod Multipliers
 pub mod Laws
-pub mod Shared

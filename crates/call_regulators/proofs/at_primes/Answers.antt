@@ -2,7 +2,7 @@ use Rattle.std.proofs.Common.{ℕ, ◌<◌, arith, refl, sym, subst, rules}
 use Rattle.spec_arithmetic.specs.Words.{values}
 use Rattle.spec_several.specs.Several.{sixteen_places}
 use Rattle.spec_lists.specs.Words.{value_less}
-use Rattle.call_regulators.specs.Filled.{filled_all, count_most, words_are, filled_more}
+use Rattle.call_regulators.proofs.Filled.{filled_all, count_most, words_are, filled_more}
 use Rattle.call_regulators.proofs.at_primes.Goals as goal
 
 pub bounds-ticket-0 : goal.bounds-ticket-0

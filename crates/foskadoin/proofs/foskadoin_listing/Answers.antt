@@ -2,8 +2,8 @@
 -- the engine leaves it.
 use Rattle.std.proofs.Common.{sym, ◌∙◌}
 use Rattle.spec_demands.proofs.Numbered.{t1_numbers}
-use Rattle.out_numbers.specs.Numbers.{plain_same}
-use Rattle.out_numbers.specs.Least.{least_plain}
+use Rattle.out_numbers.proofs.Numbers.{plain_same}
+use Rattle.out_numbers.proofs.Least.{least_plain}
 use Rattle.foskadoin.proofs.foskadoin_listing.Goals as goal
 
 pub returns : goal.returns

@@ -1,7 +1,7 @@
 -- Where the steps end, the pair is the reduced one; else it is that of the next index.
 use Rattle.std.proofs.Common.{arith}
-use Rattle.ideal_descend.specs.Stands.{q_some}
-use Rattle.ideal_descend.specs.Turn.{rest_within, reduces, going_held, root_within, going_less, going_next}
+use Rattle.ideal_descend.proofs.Stands.{q_some}
+use Rattle.ideal_descend.proofs.Turn.{rest_within, reduces, going_held, root_within, going_less, going_next}
 use Rattle.ideal_descend.proofs.+descend.Goals as goal
 
 pub finish-requires : goal.finish-requires

@@ -1,7 +1,7 @@
 -- The arrays are those of an index; the quotient is not constant, and the sum stays small.
 use Rattle.std.proofs.Common.{suc, ◌-◌, ◌<◌, arith, refl}
-use Rattle.ideal_descend.specs.Stands.{q_some, q_reduced}
-use Rattle.ideal_descend.specs.Turn.{at_ready, even_past, quotient_some, at_next, sum_bound}
+use Rattle.ideal_descend.proofs.Stands.{q_some, q_reduced}
+use Rattle.ideal_descend.proofs.Turn.{at_ready, even_past, quotient_some, at_next, sum_bound}
 use Rattle.ideal_descend.proofs.stride.Goals as goal
 use Rattle.ideal_descend.proofs.stride.Goals.{Start}
 

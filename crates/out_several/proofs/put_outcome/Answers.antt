@@ -1,5 +1,5 @@
 -- `put_outcome` meets its contract: four stores, of the numbers that the outcome is as.
-use Rattle.out_several.specs.Places.{put_four}
+use Rattle.out_several.proofs.Places.{put_four}
 use Rattle.out_several.proofs.put_outcome.Goals as goal
 
 pub returns : goal.returns

@@ -2,7 +2,7 @@
 -- them.
 use Rattle.std.proofs.Common.{◌∙◌}
 use Rattle.call_regulators.specs.Regulators.{outcomes}
-use Rattle.out_several.specs.Least.{said_sixteen, plain_places_lem, least_places}
+use Rattle.out_several.proofs.Least.{said_sixteen, plain_places_lem, least_places}
 use Rattle.foskadoin.proofs.several.foskadoin_regulators.Goals as goal
 
 pub put_outcomes-requires : goal.put_outcomes-requires

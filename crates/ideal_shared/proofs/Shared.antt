@@ -19,7 +19,8 @@ use Rattle.base_polynomial.specs.Record.{poly, Held, Is}
 use Rattle.base_polynomial.specs.Result.{Result, result, result_quo, size_quo}
 use Rattle.ideal_operand.specs.Operand.{held_pair, Operand, K, M, I, operand_q, operand_q_size, operand_ideal, operand_degree}
 use Rattle.ideal_operand.specs.Product.{Multiplied}
-use Rattle.ideal_shared.specs.Laws.{turned_bracket, product_of_quotients, turned}
+use Rattle.ideal_shared.specs.Laws.{turned_bracket, product_of_quotients}
+use Rattle.ideal_shared.proofs.Laws.{turned}
 
 module _ {f : FieldName} {g : ℕ} {D : List ℕ} (h : Admitted f g D) {q1 : List ℕ} {m1 : ℕ} {p1 : List ℕ} {k1 : ℕ} (t : Operand f g D q1 m1 p1 k1) {q2 : List ℕ} {m2 : ℕ} {p2 : List ℕ} {k2 : ℕ} (t' : Operand f g D q2 m2 p2 k2) where
   abbrev x : Ideal ℕ

@@ -12,7 +12,7 @@ use Rattle.base_polynomial.specs.Held.{held_positive}
 use Rattle.base_polynomial.specs.Result.{Result, result_add}
 use Rattle.base_polynomial.specs.Bezout.{result_u, result_factor_gcd}
 use Rattle.ideal_operand.specs.Operand.{held_pair}
-use Rattle.ideal_shared.specs.Sizes.{size_add, size_u}
+use Rattle.ideal_shared.proofs.Sizes.{size_add, size_u}
 
 -- ---- from a polynomial h with a factor y, and t = P_1 + P_2
 module _ {f : FieldName} (p : Prime f.q) {h : List ℕ} {i : ℕ} (held_h : Held f h i) {p1 : List ℕ} {k1 : ℕ} (held_p1 : Held f p1 k1) {p2 : List ℕ} {k2 : ℕ} (held_p2 : Held f p2 k2)

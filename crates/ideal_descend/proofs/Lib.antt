@@ -1,0 +1,5 @@
+pub mod Difference
+pub mod Height
+pub mod Recurrence
+pub mod Stands
+pub mod Turn

@@ -1,0 +1,4 @@
+pub mod Laws
+pub mod Multipliers
+pub mod Shared
+pub mod Sizes
