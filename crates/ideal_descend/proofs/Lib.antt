@@ -1,5 +1,5 @@
-pub mod Difference
-pub mod Height
+pub mod DifferenceLaws
+pub mod HeightLaws
 pub mod Recurrence
 pub mod Stands
 pub mod Turn

@@ -29,7 +29,7 @@ use Rattle.ideal_operand.specs.Operand.{K, M, I}
 use Rattle.ideal_descend.specs.declared.Reduced.{Reduced}
 use Rattle.ideal_descend.specs.declared.Stage.{Stage}
 use Rattle.ideal_descend.specs.Height.{Height}
-use Rattle.ideal_descend.proofs.Height.{height_length}
+use Rattle.ideal_descend.proofs.HeightLaws.{height_length}
 use Rattle.ideal_descend.specs.Recurrence.{left}
 use Rattle.ideal_descend.proofs.Recurrence.{dividend, height_size}
 use Rattle.ideal_descend.specs.Stands.{Stands, Begun}

@@ -1,4 +1,4 @@
 pub mod Laws
-pub mod Multipliers
-pub mod Shared
+pub mod MultiplierLaws
+pub mod SharedLaws
 pub mod Sizes

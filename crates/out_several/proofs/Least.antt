@@ -8,7 +8,7 @@ use Rattle.spec_demands.specs.Numbered.{Numbered}
 use Rattle.spec_several.specs.Several.{most_primes, several_answer}
 use Rattle.spec_several.proofs.Regulators.{t1_several, several_numbered, places}
 use Rattle.call_regulators.specs.Regulators.{LeastEach}
-use Rattle.out_numbers.proofs.Numbers.{plain_same}
+use Rattle.out_numbers.proofs.NumberLaws.{plain_same}
 use Rattle.out_numbers.proofs.Least.{least_plain}
 use Rattle.out_several.specs.Places.{InPlaces, plain_places, LeastPlaces}
 use Rattle.out_several.proofs.Places.{in_places}

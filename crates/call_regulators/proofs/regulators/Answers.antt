@@ -2,7 +2,7 @@
 use Rattle.std.proofs.Common.{ap, map}
 use Rattle.spec_definitions.specs.Answers.{said}
 use Rattle.spec_several.specs.Several.{several_answer}
-use Rattle.call_regulators.proofs.Regulators.{least_each}
+use Rattle.call_regulators.proofs.OutcomeLaws.{least_each}
 use Rattle.call_regulators.proofs.regulators.Goals as goal
 
 pub returns-then-number-ne0 : goal.returns-then-number-ne0

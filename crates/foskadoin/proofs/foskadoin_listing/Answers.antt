@@ -2,7 +2,7 @@
 -- the engine leaves it.
 use Rattle.std.proofs.Common.{sym, ◌∙◌}
 use Rattle.spec_demands.proofs.Numbered.{t1_numbers}
-use Rattle.out_numbers.proofs.Numbers.{plain_same}
+use Rattle.out_numbers.proofs.NumberLaws.{plain_same}
 use Rattle.out_numbers.proofs.Least.{least_plain}
 use Rattle.foskadoin.proofs.foskadoin_listing.Goals as goal
 

@@ -1,7 +1,7 @@
 -- `foskadoin_regulator` meets its contract: the numbers of the engine's outcome, and T3 of them.
 use Rattle.std.proofs.Common.{sym, ◌∙◌}
 use Rattle.spec_demands.proofs.Numbered.{t1_numbers}
-use Rattle.out_numbers.proofs.Numbers.{plain_same}
+use Rattle.out_numbers.proofs.NumberLaws.{plain_same}
 use Rattle.out_numbers.proofs.Least.{least_plain}
 use Rattle.foskadoin.proofs.foskadoin_regulator.Goals as goal
 

@@ -2,7 +2,7 @@
 -- them, and T3 of both.
 use Rattle.std.proofs.Common.{sym, ◌∙◌}
 use Rattle.spec_demands.proofs.Numbered.{t1_numbers}
-use Rattle.out_numbers.proofs.Numbers.{plain_same}
+use Rattle.out_numbers.proofs.NumberLaws.{plain_same}
 use Rattle.out_numbers.proofs.Least.{least_in_lists}
 use Rattle.foskadoin.proofs.foskadoin_unit.Goals as goal
 

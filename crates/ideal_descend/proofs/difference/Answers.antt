@@ -1,6 +1,6 @@
 -- The places of the difference, with its size.
 use Rattle.spec_bridge.specs.Residues.{pos}
-use Rattle.ideal_descend.proofs.Difference.{difference_past, difference_is}
+use Rattle.ideal_descend.proofs.DifferenceLaws.{difference_past, difference_is}
 use Rattle.ideal_descend.proofs.difference.Goals as goal
 
 pub top-requires : goal.top-requires

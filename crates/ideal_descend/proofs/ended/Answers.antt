@@ -6,7 +6,7 @@ use Rattle.spec_bridge.specs.Residues.{pos}
 use Rattle.base_field.specs.Named.{name}
 use Rattle.base_polynomial.specs.Record.{poly}
 use Rattle.ideal_operand.specs.Difference.{is_path}
-use Rattle.ideal_descend.proofs.Difference.{difference_result}
+use Rattle.ideal_descend.proofs.DifferenceLaws.{difference_result}
 use Rattle.ideal_descend.proofs.ended.Goals as goal
 
 pub difference-k-requires : goal.difference-k-requires

@@ -1,5 +1,5 @@
 -- The sum is held, and both factors of U are short.
-use Rattle.ideal_shared.proofs.Multipliers.{sum_result, second_result, U_fits, S_is, U_is, W_is}
+use Rattle.ideal_shared.proofs.MultiplierLaws.{sum_result, second_result, U_fits, S_is, U_is, W_is}
 use Rattle.ideal_shared.proofs.multipliers.Goals as goal
 
 pub add-l-requires : goal.add-l-requires

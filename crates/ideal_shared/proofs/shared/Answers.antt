@@ -2,8 +2,8 @@
 use Rattle.std.proofs.Common.{arith}
 use Rattle.base_polynomial.specs.Held.{length_poly}
 use Rattle.ideal_operand.specs.Operand.{operand_q, operand_p, operand_q_size, operand_p_size, operand_q_some}
-use Rattle.ideal_shared.proofs.Multipliers.{gcd_result, first_result, first_size, common_is, bezout_u_is, bezout_w_is}
-use Rattle.ideal_shared.proofs.Shared.{S_result, S_bounds, first_held, first_bound, Q_result, Q_positive, U_result, U_bound, W_result, W_bound, cofactor_result, cofactor_bound, bracket_result, bracket_bound, multiplied}
+use Rattle.ideal_shared.proofs.MultiplierLaws.{gcd_result, first_result, first_size, common_is, bezout_u_is, bezout_w_is}
+use Rattle.ideal_shared.proofs.SharedLaws.{S_result, S_bounds, first_held, first_bound, Q_result, Q_positive, U_result, U_bound, W_result, W_bound, cofactor_result, cofactor_bound, bracket_result, bracket_bound, multiplied}
 use Rattle.ideal_shared.proofs.shared.Goals as goal
 
 pub multipliers-t-requires : goal.multipliers-t-requires

@@ -2,7 +2,7 @@
 use Rattle.std.proofs.Common.{refl, sym, ap}
 use Rattle.spec_half.specs.Half.{half_said}
 use Rattle.walk_half.specs.Outcome.{half_meaning}
-use Rattle.out_numbers.proofs.Numbers.{plain_same}
+use Rattle.out_numbers.proofs.NumberLaws.{plain_same}
 use Rattle.out_half.proofs.Numbers.{plain_half_found, plain_half_spent, plain_half_refused}
 use Rattle.out_half.proofs.half_numbers.Goals as goal
 

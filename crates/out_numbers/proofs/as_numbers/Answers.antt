@@ -2,7 +2,7 @@
 use Rattle.std.proofs.Common.{refl, sym, ap}
 use Rattle.spec_definitions.specs.Answers.{said}
 use Rattle.walk_outcome.specs.Outcome.{meaning}
-use Rattle.out_numbers.proofs.Numbers.{plain_found, plain_spent, plain_refused, plain_same}
+use Rattle.out_numbers.proofs.NumberLaws.{plain_found, plain_spent, plain_refused, plain_same}
 use Rattle.out_numbers.proofs.as_numbers.Goals as goal
 
 pub returns-in-Found : goal.returns-in-Found

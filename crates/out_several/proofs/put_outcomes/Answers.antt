@@ -4,7 +4,7 @@ use Rattle.spec_definitions.specs.Answers.{Outcome, refused, said}
 use Rattle.spec_lists.specs.Mapped.{get_d_map_within}
 use Rattle.walk_outcome.specs.Outcome.{meaning}
 use Rattle.call_regulators.specs.declared.AtPrime.{AtPrime}
-use Rattle.out_numbers.proofs.Numbers.{plain_same}
+use Rattle.out_numbers.proofs.NumberLaws.{plain_same}
 use Rattle.out_several.proofs.put_outcomes.Goals as goal
 
 pub loop-i-init : goal.loop-i-init

@@ -1,7 +1,7 @@
 -- `foskadoin_half` meets its contract: the numbers of the engine's outcome, and T3 of them.
 use Rattle.std.proofs.Common.{sym, ◌∙◌}
 use Rattle.spec_half.proofs.HalfWalk.{t1_half_numbers}
-use Rattle.out_numbers.proofs.Numbers.{plain_same}
+use Rattle.out_numbers.proofs.NumberLaws.{plain_same}
 use Rattle.out_half.proofs.Least.{least_half_plain}
 use Rattle.foskadoin.proofs.half.foskadoin_half.Goals as goal
 
