@@ -59,7 +59,7 @@ pub fn put_record(
     requires n_in_bounds { (at + (n + 4) ≤ length out.old) × (2 ≤ n) × (n ≤ 64) }
     requires index_lt_budgets { (index.0 < budgets) × (distance.0 < pairs) × (mirror.0 < pairs) }
     requires by_index { ((i : ℕ) → get_or q.now i 0 < values) × ((i : ℕ) → get_or p.now i 0 < values) }
-    ensures { (k : ℕ) → out.new ≡ stored out.old at (record_words (modulo k) n mirror.0 (record { index = index.0; distance = distance.0; ideal = record { q = q.entry.now; p = p.now } })) }
+    ensures { (k : ℕ) → out.new ≡ stored out.old at (record_words (modulo k) n mirror.0 (record { index = index.0; distance = distance.0; ideal = record { q = q.now; p = p.now } })) }
 {
     let h = n / 2;
     put_word(out, at, 5, index.0 as u32);
