@@ -1,6 +1,6 @@
 // The regulators of an integer polynomial D at many primes, and what follows from them.
 //
-//     rt staticlib foskadoin
+//     tools/build foskadoin
 //     cc -o target/regulators examples/regulators.c target/staticlib/libfoskadoin.a
 //     target/regulators "x^4 + 10x^2 - 96x - 71" 3-31
 //
