@@ -1,6 +1,6 @@
-/* The calls of the library libfoskadoin.a, for C and Rust on x86-64 Linux (x86-64-v2). `tools/build foskadoin` writes it
-   to target/staticlib. First the numbers, structs and calls; below them what the caller keeps to, the format of
-   tickets and listings, and the mathematics. */
+/* The calls of the library libfoskadoin.a, for C and Rust on x86-64 Linux (x86-64-v2). `tools/build foskadoin`
+   writes it to target/staticlib. First the numbers, structs and calls; below them what the caller keeps to, the
+   format of tickets and listings, and the mathematics. */
 #ifndef FOSKADOIN_H
 #define FOSKADOIN_H
 
