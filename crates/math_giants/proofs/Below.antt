@@ -10,7 +10,7 @@ use Rattle.math_surd.specs.Walk.{Walk, κ_first}
 use Rattle.math_surd.specs.Distance.{distance}
 use Rattle.math_surd.proofs.Distance.{distance_mono, index_lt}
 use Rattle.math_giants.specs.GiantStep.{GiantStep, drop}
-use Rattle.math_giants.specs.Exists.{walk_giant}
+use Rattle.math_giants.proofs.Exists.{walk_giant}
 use Rattle.math_giants.specs.Place.{Placed, GiantPlaced}
 use Rattle.math_giants.proofs.Place.{placed_walk, placed_giant, placed_next}
 use Rattle.math_giants.specs.Below as defs

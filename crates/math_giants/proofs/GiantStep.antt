@@ -7,7 +7,7 @@ use Rattle.math_ring.specs.Series.{Series}
 use Rattle.math_algebra.specs.Field.{Field}
 use Rattle.math_algebra.specs.Polynomial.{F, Px, Deg, deg_path, deg_mul, deg_unique, monic_deg}
 use Rattle.math_surd.specs.Root.{Root}
-use Rattle.math_ideals.specs.Steps.{degree_sum_lem}
+use Rattle.math_ideals.specs.Steps.{degree_sum_lem, shift_most}
 use Rattle.math_giants.specs.GiantStep as defs
 
 module _ {A : Type 0} (K : Field A) where
@@ -35,6 +35,10 @@ module _ {A : Type 0} (K : Field A) where
 
     abbrev drop : ℕ
     drop = defs.drop K G
+
+    -- f ≤ 0: nothing is cut off in the difference
+    pub drop_sum : drop +ₙ (G.steps.κ G.turns +ₙ degree_sum_lem K G.steps G.turns) ≡ G.steps.κ 0 +ₙ G.common.σ
+    drop_sum = let l = shift_most K G.steps G.turns G.above in omega arith
 
     -- the degree of Q₁ Q₂ is that of Q S²
     product_degree : {m n : ℕ} → Deg K Q₁ m → Deg K Q₂ n → G.steps.κ 0 +ₙ (G.common.σ +ₙ G.common.σ) ≡ m +ₙ n

@@ -11,8 +11,9 @@ use Rattle.math_surd.specs.Ideal.{SameIdeal}
 use Rattle.math_surd.proofs.Ideal.{same_refl, same_sym, same_trans}
 use Rattle.math_giants.specs.GiantStep.{drop}
 use Rattle.math_giants.proofs.GiantStep.{drop_most}
-use Rattle.math_giants.specs.Exists.{walk_giant}
-use Rattle.math_giants.specs.Lands.{Landed, lands}
+use Rattle.math_giants.proofs.Exists.{walk_giant}
+use Rattle.math_giants.specs.Lands.{Landed}
+use Rattle.math_giants.proofs.Lands.{lands}
 use Rattle.math_landings.specs.Landings.{Landings, Stocked}
 use Rattle.math_giants.specs.Jumps as defs
 
@@ -54,12 +55,13 @@ module _ {A : Type 0} (K : Field A) {g : ℕ} {D : Px K} {o : Root K g D} (w : W
 
   -- ---- every k, with the pairs of the walk
   module _ (k : ℕ) where
-    abbrev landed : (i : ℕ) → Landed K w (walk_giant K w i k) (distance K w i) (distance K w k)
-    landed = defs.landed K w k
+    landed : (i : ℕ) → Landed K w (walk_giant K w i k) (distance K w i) (distance K w k)
+    landed i = lands K w (walk_giant K w i k) i k (same_refl K (w.Q i) (w.P i)) (same_refl K (w.Q k) (w.P k))
 
-    abbrev place : ℕ → ℕ
-    place = defs.place K w k
+    place : ℕ → ℕ
+    place zero = k
+    place (suc j) = (landed (place j)).at
 
     pub jumps : Jumps k
-    unfolding defs.place
+    unfolding place
     jumps = record { Q = λ j. w.Q (place j); P = λ j. w.P (place j); start = same_refl K (w.Q k) (w.P k); giant = λ j. walk_giant K w (place j) k; next = λ j. same_sym K (landed (place j)).same }

@@ -12,7 +12,8 @@ use Rattle.math_surd.proofs.Ideal.{same_refl, same_trans, next_same}
 use Rattle.math_surd.proofs.Same.{walk_follows}
 use Rattle.math_giants.specs.GiantStep.{GiantStep}
 use Rattle.math_giants.proofs.GiantStep.{drop_most}
-use Rattle.math_giants.specs.Lands.{Landed, lands}
+use Rattle.math_giants.specs.Lands.{Landed}
+use Rattle.math_giants.proofs.Lands.{lands}
 use Rattle.math_giants.specs.Place as defs
 
 module _ {A : Type 0} (K : Field A) {g : ℕ} {D : Px K} {o : Root K g D} (w : Walk K o) where

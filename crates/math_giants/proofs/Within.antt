@@ -15,7 +15,8 @@ use Rattle.math_surd.specs.Same.{Same}
 use Rattle.math_symmetry.proofs.Period.{same_period, distance_period}
 use Rattle.math_symmetry.proofs.Distinct.{distinct}
 use Rattle.math_giants.specs.GiantStep.{GiantStep, giant_Q, giant_P}
-use Rattle.math_giants.specs.Lands.{Landed, lands}
+use Rattle.math_giants.specs.Lands.{Landed}
+use Rattle.math_giants.proofs.Lands.{lands}
 use Rattle.math_giants.specs.Within as defs
 
 module _ {A : Type 0} (K : Field A) {g : ℕ} {D : Px K} {o : Root K g D} (w : Walk K o) (m : ℕ) where

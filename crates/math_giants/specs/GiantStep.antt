@@ -14,7 +14,7 @@ use Rattle.math_surd.specs.Step.{State}
 use Rattle.math_algebra.specs.Finite.{Finite, finite_monic}
 use Rattle.math_ideals.specs.Product.{Common, Meets}
 use Rattle.math_ideals.proofs.Product.{meets_norm}
-use Rattle.math_ideals.specs.Steps.{Steps, Above, degree_sum_lem, shift_most}
+use Rattle.math_ideals.specs.Steps.{Steps, Above, degree_sum_lem}
 
 module _ {A : Type 0} (K : Field A) where
   open Series (F K) use {add as ◌+◌, mul as ◌*◌, neg as -◌, one as 𝟙}
@@ -69,10 +69,6 @@ module _ {A : Type 0} (K : Field A) where
 
     abbrev pub drop : ℕ
     drop = drop_at G.turns
-
-    -- f ≤ 0: nothing is cut off in the difference
-    pub drop_sum : drop +ₙ (G.steps.κ G.turns +ₙ degree_sum_lem K G.steps G.turns) ≡ G.steps.κ 0 +ₙ G.common.σ
-    drop_sum = let l = shift_most K G.steps G.turns G.above in omega arith
 
     pub start_state : State K D (G.steps.Q 0) (product_C (finite_monic K G.common.monic) G.meets) (G.steps.P 0)
     start_state = subst (λ (q : P[x]). State K D q (product_C (finite_monic K G.common.monic) G.meets) (G.steps.P 0)) (sym G.start) (product_state (finite_monic K G.common.monic) G.meets G.start_finite (G.steps.κ 0) (deg_path K _ G.start (G.steps.deg 0)))

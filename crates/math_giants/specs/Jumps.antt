@@ -2,17 +2,13 @@
 -- giant step of the one before with the first. They are `landings`, with the distances that are added up with
 -- f, and a landing is in the stock exactly if its pair and a stocked one have the same ideal. `jumps`: every
 -- k has such pairs.
-use Rattle.std.specs.Prelude.{ℕ, zero, suc}
+use Rattle.std.specs.Prelude.{ℕ, suc}
 use Rattle.math_algebra.specs.Field.{Field}
 use Rattle.math_algebra.specs.Polynomial.{Px}
 use Rattle.math_surd.specs.Root.{Root}
 use Rattle.math_surd.specs.Walk.{Walk}
-use Rattle.math_surd.specs.Distance.{distance}
 use Rattle.math_surd.specs.Ideal.{SameIdeal}
-use Rattle.math_surd.proofs.Ideal.{same_refl}
 use Rattle.math_giants.specs.GiantStep.{GiantStep, giant_Q, giant_P}
-use Rattle.math_giants.specs.Exists.{walk_giant}
-use Rattle.math_giants.specs.Lands.{Landed, lands}
 
 module _ {A : Type 0} (K : Field A) {g : ℕ} {D : Px K} {o : Root K g D} (w : Walk K o) where
   pub record Jumps (k : ℕ) : Type 0 where
@@ -27,12 +23,3 @@ module _ {A : Type 0} (K : Field A) {g : ℕ} {D : Px K} {o : Root K g D} (w : W
     pub record Index (j : ℕ) : Type 0 where
       pub at : ℕ
       pub same : SameIdeal K (s.Q j) (s.P j) (w.Q at) (w.P at)
-
-  -- ---- every k, with the pairs of the walk
-  module _ (k : ℕ) where
-    pub landed : (i : ℕ) → Landed K w (walk_giant K w i k) (distance K w i) (distance K w k)
-    landed i = lands K w (walk_giant K w i k) i k (same_refl K (w.Q i) (w.P i)) (same_refl K (w.Q k) (w.P k))
-
-    unfoldable pub place : ℕ → ℕ
-    place zero = k
-    place (suc j) = (landed (place j)).at

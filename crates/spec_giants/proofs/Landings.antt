@@ -13,7 +13,7 @@ use Rattle.math_surd.specs.Distance.{distance}
 use Rattle.math_giants.specs.GiantStep.{GiantStep, drop, giant_Q, giant_P}
 use Rattle.math_giants.proofs.GiantStep.{drop_most}
 use Rattle.math_giants.specs.Lands.{Landed}
-use Rattle.math_giants.specs.Lands as walks
+use Rattle.math_giants.proofs.Lands as walks
 use Rattle.spec_arithmetic.specs.Polynomials.{root}
 use Rattle.spec_definitions.specs.Ticket.{Ticket, genus}
 use Rattle.spec_definitions.specs.Walk.{Ideal, walk}
