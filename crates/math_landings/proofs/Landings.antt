@@ -17,7 +17,7 @@ use Rattle.math_surd.proofs.Ideal.{same_sym, same_trans}
 use Rattle.math_surd.specs.Same.{Same}
 use Rattle.math_symmetry.proofs.Period.{same_period, distance_period}
 use Rattle.math_symmetry.proofs.Distinct.{same_constant, none_twice}
-use Rattle.math_landings.specs.Landings.{reach, Stocked, ByStock, ByLanding, Found, Spent, Search}
+use Rattle.math_landings.specs.Landings.{Reaches, reach, Stocked, ByStock, ByLanding, Found, Spent, Search}
 use Rattle.math_landings.specs.Landings as defs
 
 module _ {A : Type 0} (K : Field A) {g : ℕ} {D : Px K} {o : Root K g D} (w : Walk K o) where
@@ -30,7 +30,7 @@ module _ {A : Type 0} (K : Field A) {g : ℕ} {D : Px K} {o : Root K g D} (w : W
   far zero h = absurd (omega arith)
   far (suc n) h = let a = distance_least K w n in omega arith
 
-  module _ {k : ℕ} (l : Landings k) (large : g < k) where
+  module _ {k : ℕ} (l : Landings k) (large : Reaches g k) where
     open l use {at, drop, start, jump, few}
 
     reach_start : (reach K w) l 0 ≡ distance K w k

@@ -15,6 +15,10 @@ use Rattle.math_surd.specs.QuasiPeriod.{QuasiPeriod, NoneConstant}
 use Rattle.math_surd.specs.LeastDegree.{Solution}
 use Rattle.math_surd.specs.Same.{Same}
 
+-- what is asked of the index k: the stock reaches past the index g
+abbrev pub Reaches : ℕ → ℕ → Type 0
+Reaches g k = g < k
+
 module _ {A : Type 0} (K : Field A) {g : ℕ} {D : Px K} {o : Root K g D} (w : Walk K o) where
   -- landing j is the ideal of index `at j`; a jump adds the distance of index k and f, which is minus `drop j`
   pub record Landings (k : ℕ) : Type 0 where
@@ -74,11 +78,3 @@ module _ {A : Type 0} (K : Field A) {g : ℕ} {D : Px K} {o : Root K g D} (w : W
       pub rises : (j : ℕ) → reach j < reach (suc j)
       pub short : (j : ℕ) → reach (suc j) ≤ reach j +ₙ distance K w k
       pub first_reach : reach 0 ≡ distance K w k
-
-  module _ {k : ℕ} (l : Landings k) (large : g < k) where
-    open l use {at, drop, start, jump, few}
-
-    -- ---- where the quasi-period is past the stock
-    module _ (m : ℕ) (first : QuasiPeriod K w m) (outside : k < m) where
-      abbrev R : ℕ
-      R = distance K w m
