@@ -8,7 +8,8 @@ use Rattle.spec_definitions.specs.Ticket.{ticket, ticket_of, refusal_of}
 use Rattle.spec_definitions.specs.Answers.{Outcome, refused, said, said_injective, outcome_of, words_outcome, regulator_of}
 use Rattle.base_field.specs.Named.{name}
 use Rattle.base_polynomial.specs.Over.{poly}
-use Rattle.spec_demands.specs.LeastDegree.{Least, t3}
+use Rattle.spec_demands.specs.LeastDegree.{Least}
+use Rattle.spec_demands.proofs.LeastDegree.{t3}
 use Rattle.ticket_read.specs.declared.Ticket as code
 use Rattle.ticket_read.specs.Read.{read_of, Stands}
 use Rattle.ticket_read.specs.Accepted.{Accepted}

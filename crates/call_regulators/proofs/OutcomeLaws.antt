@@ -2,7 +2,8 @@
 use Rattle.std.specs.Prelude.{ℕ, zero, suc, ◌≡◌, refl, List, [], ◌∷◌, map, get_or}
 use Rattle.std.proofs.Common.{sym, ap, ◌∙◌, subst}
 use Rattle.spec_definitions.specs.Answers.{Outcome, refused, words_outcome}
-use Rattle.spec_demands.specs.LeastDegree.{Least, t3}
+use Rattle.spec_demands.specs.LeastDegree.{Least}
+use Rattle.spec_demands.proofs.LeastDegree.{t3}
 use Rattle.spec_several.specs.Several.{primes_of, several_refusal, job_words, several_of}
 use Rattle.spec_several.proofs.Laws.{several_refused, several_primes, at_sixteen}
 use Rattle.call_regulators.specs.declared.SeveralAnswer.{SeveralAnswer}

@@ -6,7 +6,8 @@ use Rattle.spec_definitions.specs.Answers.{found, spent, refused, said, words_ou
 use Rattle.spec_definitions.specs.Units.{Lists, unit_answer}
 use Rattle.spec_definitions.specs.Listing.{listing_answer}
 use Rattle.spec_laws.specs.Cases.{refused_not_spent}
-use Rattle.spec_demands.specs.LeastDegree.{Least, t3}
+use Rattle.spec_demands.specs.LeastDegree.{Least}
+use Rattle.spec_demands.proofs.LeastDegree.{t3}
 use Rattle.spec_demands.proofs.Written.{t3_unit}
 use Rattle.spec_demands.proofs.Numbered.{unit_says, listing_says}
 use Rattle.spec_demands.specs.LeastAnswers.{T3Listing, T3Written}

@@ -1,6 +1,7 @@
 pub mod Continued
 pub mod Example
 pub mod LeastAnswers
+pub mod LeastDegree
 pub mod Listings
 pub mod MonicUnits
 pub mod Numbered

@@ -27,7 +27,8 @@ use Rattle.spec_laws.specs.Monic.{unit_p_monic, unit_s_monic}
 use Rattle.spec_laws.specs.QuasiPeriod.{Quasi, Says, quasi_says}
 use Rattle.spec_laws.specs.Admitted.{Admitted, is_field, surd_of, admitted}
 use Rattle.spec_sentences.specs.Sentences.{Same}
-use Rattle.spec_demands.specs.LeastDegree.{Solves, Multiple, LeastFound, least_found}
+use Rattle.spec_demands.specs.LeastDegree.{Solves, Multiple, LeastFound}
+use Rattle.spec_demands.proofs.LeastDegree.{least_found}
 use Rattle.spec_demands.specs.MonicUnits.{Itself, MonicFound, MonicIn, T3Monic}
 
 -- ---- the proof, for a D that is admitted

@@ -22,7 +22,8 @@ use Rattle.spec_laws.specs.Admitted.{Admitted, is_field, surd_of, admitted}
 use Rattle.spec_laws.specs.Cases.{spent_not_found, refused_not_found}
 use Rattle.spec_sentences.specs.Sentences.{Same}
 use Rattle.spec_sentences.proofs.Arithmetic.{same_series}
-use Rattle.spec_demands.specs.LeastDegree.{norm, Multiple, LeastFound, LeastIn, least_outcome}
+use Rattle.spec_demands.specs.LeastDegree.{norm, Multiple, LeastFound, LeastIn}
+use Rattle.spec_demands.proofs.LeastDegree.{least_outcome}
 use Rattle.spec_demands.specs.Written.{unit_in, T3-unit}
 
 -- ---- what T3 says depends on polynomials alone

@@ -6,4 +6,3 @@ pub mod LeastDegree
 pub mod MonicUnits
 pub mod Written
 pub mod LeastAnswers
-pub mod Example

@@ -30,7 +30,7 @@ use Rattle.spec_laws.specs.Cases as full
 use Rattle.spec_sentences.proofs.Arithmetic.{series_same, same_series}
 use Rattle.spec_demands.specs.Continued.{sum_to, Walks}
 use Rattle.spec_demands.proofs.Continued.{t2}
-use Rattle.spec_demands.specs.LeastDegree.{least_spent, least_found}
+use Rattle.spec_demands.proofs.LeastDegree.{least_spent, least_found}
 use Rattle.spec_expansion.specs.QuasiPeriod.{IsQuasiPeriod}
 use Rattle.spec_expansion.proofs.QuasiPeriod.{t2_exists, quasi_of}
 use Rattle.spec_answers.specs.Refusals.{First}

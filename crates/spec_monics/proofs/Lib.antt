@@ -1,1 +1,2 @@
+pub mod Monics
 pub mod SquareCount

@@ -22,7 +22,8 @@ use Rattle.math_counting.specs.HowMany.{HowMany}
 use Rattle.math_counting.proofs.HowMany.{equally_many, how_many_tested}
 use Rattle.math_counting.specs.SquareFactors.{Lifts}
 use Rattle.math_counting.proofs.SquareFactors.{square_factors}
-use Rattle.spec_monics.specs.Monics.{MonicList, monics, monic_many}
+use Rattle.spec_monics.specs.Monics.{MonicList, monics}
+use Rattle.spec_monics.proofs.Monics.{monic_many}
 use Rattle.spec_monics.specs.SquareCount.{SquareMany, SquareCount}
 
 -- ---- the proof

@@ -1,7 +1,8 @@
 -- The proofs of specs/Walks.
-use Rattle.std.specs.Prelude.{ℕ, ◌<◌}
+use Rattle.std.specs.Prelude.{ℕ, ◌*◌ as ◌*ₙ◌, ◌<◌}
+use Rattle.std.proofs.Common.{ap₂, ◌∙◌}
 use Rattle.math_ring.specs.Series.{Series}
-use Rattle.math_ring.specs.Residues.{Fq, to}
+use Rattle.math_ring.specs.Residues.{Fq, to, mul_f}
 use Rattle.math_algebra.specs.Field.{Field}
 use Rattle.math_algebra.specs.Polynomial.{F, Px}
 use Rattle.math_algebra.specs.Finite.{finite_monic}
@@ -11,7 +12,7 @@ use Rattle.math_algebra.specs.Prime.{Prime}
 use Rattle.math_algebra.specs.Squarefree.{square_gcd, gcd_square}
 use Rattle.math_surd.proofs.LeastDegree as least
 use Rattle.math_ideals.proofs.Product.{product_meets, meets_norm, meets_same}
-use Rattle.spec_bridge.specs.Residues.{pos, field}
+use Rattle.spec_bridge.specs.Residues.{pos, field, to_val, to_mul, to_back}
 use Rattle.math_quadratic.specs.Pairs.{Pair}
 use Rattle.math_quadratic.specs.Extension.{NonSquare}
 use Rattle.math_quadratic.proofs.Roots.{perfect_extension}
@@ -19,11 +20,11 @@ use Rattle.spec_quadratic.specs.Walks.{NonSquareModulo}
 use Rattle.spec_quadratic.specs.Walks as defs
 
 module _ (q : ℕ) (prime : Prime q) (more : 2 < q) (ν : ℕ) (n : NonSquareModulo q ν) where
-  abbrev non_square : NonSquare (field q prime more) (to q (pos q prime) ν)
-  non_square = defs.non_square q prime more ν n
+  pub non_square : NonSquare (field q prime more) (to q (pos q prime) ν)
+  non_square a e = n a.0 (to_val q (pos q prime) (a.0 *ₙ a.0) ν (to_mul q (pos q prime) a.0 a.0 ∙ ap₂ (mul_f q (pos q prime)) (to_back q prime a) (to_back q prime a) ∙ e))
 
   abbrev E : Field (Pair (Fq q))
-  E = defs.E q prime more ν n
+  E = defs.E q prime more ν non_square
 
   open Series (F E) use {add as ◌+◌, mul as ◌*◌, neg as -◌}
 
@@ -34,22 +35,22 @@ module _ (q : ℕ) (prime : Prime q) (more : 2 < q) (ν : ℕ) (n : NonSquareMod
   a - b = a + (- b)
 
   abbrev Spent : Type 0
-  Spent = defs.Spent q prime more ν n
+  Spent = defs.Spent q prime more ν non_square
 
   abbrev Found : Type 0
-  Found = defs.Found q prime more ν n
+  Found = defs.Found q prime more ν non_square
 
   abbrev Reached : Type 0
-  Reached = defs.Reached q prime more ν n
+  Reached = defs.Reached q prime more ν non_square
 
   abbrev ProductIdeal : Type 0
-  ProductIdeal = defs.ProductIdeal q prime more ν n
+  ProductIdeal = defs.ProductIdeal q prime more ν non_square
 
   abbrev ProductSame : Type 0
-  ProductSame = defs.ProductSame q prime more ν n
+  ProductSame = defs.ProductSame q prime more ν non_square
 
   abbrev SquareTest : Type 0
-  SquareTest = defs.SquareTest q prime more ν n
+  SquareTest = defs.SquareTest q prime more ν non_square
 
   -- ---- the proof
   -- the q-th root of c is c^q

@@ -3,9 +3,8 @@
 -- What a reader wants of it: the least degree read off the walk, the product of two ideals, the test for
 -- square factors. Each is an instance.
 use Rattle.std.specs.Prelude.{ℕ, suc, ◌*◌ as ◌*ₙ◌, ◌%◌, ◌≤◌, ◌<◌, ◌≡◌, ◌↔◌}
-use Rattle.std.proofs.Common.{ap₂, ◌∙◌}
 use Rattle.math_ring.specs.Series.{Series}
-use Rattle.math_ring.specs.Residues.{Fq, to, mul_f}
+use Rattle.math_ring.specs.Residues.{Fq, to}
 use Rattle.math_algebra.specs.Field.{Field}
 use Rattle.math_algebra.specs.Polynomial.{F, Px, Deg}
 use Rattle.math_algebra.specs.Divides.{Divides}
@@ -21,7 +20,7 @@ use Rattle.math_surd.specs.Distance.{distance}
 use Rattle.math_surd.specs.QuasiPeriod.{QuasiPeriod, NoneConstant}
 use Rattle.math_surd.specs.LeastDegree.{Solution}
 use Rattle.math_ideals.specs.Product.{Common, Multipliers, product_Q, product_P}
-use Rattle.spec_bridge.specs.Residues.{pos, field, to_val, to_mul, to_back}
+use Rattle.spec_bridge.specs.Residues.{pos, field}
 use Rattle.math_quadratic.specs.Pairs.{Pair}
 use Rattle.math_quadratic.specs.Extension.{NonSquare, extension}
 
@@ -29,13 +28,10 @@ use Rattle.math_quadratic.specs.Extension.{NonSquare, extension}
 abbrev pub NonSquareModulo : ℕ → ℕ → Type 0
 NonSquareModulo q ν = (a : ℕ) → (a *ₙ a) % q ≡ ν % q → ⊥
 
-module _ (q : ℕ) (prime : Prime q) (more : 2 < q) (ν : ℕ) (n : NonSquareModulo q ν) where
-  pub non_square : NonSquare (field q prime more) (to q (pos q prime) ν)
-  non_square a e = n a.0 (to_val q (pos q prime) (a.0 *ₙ a.0) ν (to_mul q (pos q prime) a.0 a.0 ∙ ap₂ (mul_f q (pos q prime)) (to_back q prime a) (to_back q prime a) ∙ e))
-
+module _ (q : ℕ) (prime : Prime q) (more : 2 < q) (ν : ℕ) (n : NonSquare (field q prime more) (to q (pos q prime) ν)) where
   -- the field of q² elements
   abbrev pub E : Field (Pair (Fq q))
-  E = extension (field q prime more) (to q (pos q prime) ν) non_square
+  E = extension (field q prime more) (to q (pos q prime) ν) n
 
   open Series (F E) use {add as ◌+◌, mul as ◌*◌, neg as -◌}
 

@@ -20,7 +20,8 @@ use Rattle.spec_sentences.proofs.Tests.{tests_eq, tests_none, tests_stable, none
 use Rattle.spec_sentences.proofs.Readings.{prime_allowed, tests_degree_of}
 use Rattle.spec_demands.specs.Continued.{Walks}
 use Rattle.spec_demands.proofs.Continued.{t2}
-use Rattle.spec_demands.specs.LeastDegree.{Least, t3}
+use Rattle.spec_demands.specs.LeastDegree.{Least}
+use Rattle.spec_demands.proofs.LeastDegree.{t3}
 use Rattle.spec_demands.specs.Numbered.{Numbered}
 use Rattle.spec_demands.proofs.Numbered.{numbered, t1_numbers}
 use Rattle.spec_answers.specs.Refusals.{First}
