@@ -1,18 +1,17 @@
 -- One turn of the recursion: from the arrays of quotient and remainder and of the factors of b and the
 -- remainder to the factors of a and b.
-use Rattle.std.specs.Prelude.{ℕ, ◌+◌, ◌-◌, ◌<◌, ◌≤◌, ◌≡◌, List, [], ◌∷◌, length}
+use Rattle.std.specs.Prelude.{ℕ, ◌+◌, ◌<◌, ◌≤◌, ◌≡◌, List, [], ◌∷◌, length}
 use Rattle.std.proofs.Common.{arith, sym, ap, ap₂, ◌∙◌, subst}
 use Rattle.spec_arithmetic.specs.Field.{modulo, prime}
-use Rattle.spec_arithmetic.specs.Polynomials.{trim, lead, monic, sub, mul, quo, rem, gcd, pad}
+use Rattle.spec_arithmetic.specs.Polynomials.{trim, lead, monic, sub, mul, quo, rem, gcd}
 use Rattle.spec_bridge.specs.Prime.{Prime}
 use Rattle.spec_bridge.specs.Residues.{model, inverts}
 use Rattle.base_places.specs.Record.{poly, Held, Is}
 use Rattle.base_places.specs.Held.{held_positive}
-use Rattle.base_polynomial.specs.Result.{Result, held_size, result_rem}
+use Rattle.base_polynomial.specs.Result.{Result, held_size, result_quo, size_quo, result_rem}
 use Rattle.base_polynomial.specs.Gcd.{gcd_none, gcd_some}
 use Rattle.base_polynomial.specs.Bezout.{factors, result_u, result_v, size_v, none_gcd, none_u, none_v, some_gcd, some_u, some_v}
 use Rattle.base_euclid.specs.Constant.{constant_gcd, constant_factor_gcd, constant_u, constant_v}
-use Rattle.base_division.specs.Divided.{quo_places, quo_factor}
 
 -- the last turn, where b is 0
 module _ (q : ℕ) (p : Prime q) {a : List ℕ} {m : ℕ} (held_a : Held (prime q) a m) {b : List ℕ} {n : ℕ} (held_b : Held (prime q) b n) (none : n ≡ 0) (c : List ℕ) (k : ℕ) where
@@ -79,16 +78,23 @@ module _ (q : ℕ) (p : Prime q) {a : List ℕ} {m : ℕ} (held_a : Held (prime 
       pub turn_u_held : Held (prime q) u u_size
       turn_u_held = held_u.held
 
-      pub turn_fits : (l : ℕ) → l ≡ m + 1 - n → l + u_size ≤ 130
-      turn_fits l e =
-          let x = size_v q p b n held_b r r_size turn_held u u_size some u_is in
-          let s = held_a.short in
-          let t = held_b.short in
-          omega arith
+      -- the quotient, in w
+      module _ {w : List ℕ} {w_size : ℕ} (w_is : Is (prime q) w w_size (quo (modulo q) (poly a m) (poly b n))) where
+        held_w : Result q w w_size (quo (modulo q) (poly a m) (poly b n))
+        held_w = result_quo q a m held_a b n held_b w w_size some w_is
 
-      pub turn_v : (w : List ℕ) (l : ℕ) → w ≡ pad (modulo q) 129 (quo (modulo q) (poly a m) (poly b n)) → l ≡ m + 1 - n → (c : List ℕ) (k : ℕ)
-          → Is (prime q) c k (sub (modulo q) (poly v v_size) (mul (modulo q) (poly w l) (poly u u_size))) → Is (prime q) c k (factors q a m b n).v
-      turn_v w l w_is l_is c k =
-          subst (λ (x : List ℕ). Is (prime q) c k x)
-          (ap₂ (sub (modulo q)) held_v.is (quo_factor q held_a held_b w (quo_places q held_a held_b w some w_is) l l_is (poly u u_size) ∙ ap (mul (modulo q) (quo (modulo q) (poly a m) (poly b n))) held_u.is)
-          ∙ sym (some_v q p a m held_a b n held_b some (poly r r_size) remainder.is))
+        pub turn_w_held : Held (prime q) w w_size
+        turn_w_held = held_w.held
+
+        pub turn_fits : w_size + u_size ≤ 130
+        turn_fits =
+            let x = size_v q p b n held_b r r_size turn_held u u_size some u_is in
+            let y = size_quo q a m held_a b n held_b w w_size w_is in
+            let s = held_a.short in
+            let t = held_b.short in
+            omega arith
+
+        pub turn_v : (c : List ℕ) (k : ℕ) → Is (prime q) c k (sub (modulo q) (poly v v_size) (mul (modulo q) (poly w w_size) (poly u u_size))) → Is (prime q) c k (factors q a m b n).v
+        turn_v c k =
+            subst (λ (x : List ℕ). Is (prime q) c k x)
+            (ap₂ (sub (modulo q)) held_v.is (ap₂ (mul (modulo q)) held_w.is held_u.is) ∙ sym (some_v q p a m held_a b n held_b some (poly r r_size) remainder.is))

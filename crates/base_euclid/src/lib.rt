@@ -1,4 +1,4 @@
-// Euclid's algorithm on arrays of 129 coefficients by reference: the greatest common divisor, Bezout's factors.
+// Euclid's algorithm on polynomials by reference: the greatest common divisor, Bezout's factors.
 #![tactic(auto)]
 
 pub mod bezout;

@@ -12,11 +12,15 @@ pub record Places (c : List ℕ) (g : ℕ → ℕ) : Type 0 where
   pub long : length c ≡ 129
   pub at : (i : ℕ) → get_or c i 0 ≡ g i
 
--- 129 places, with g k at each k before i, and zeros from i on
-pub record Filled (c : List ℕ) (g : ℕ → ℕ) (i : ℕ) : Type 0 where
+-- 129 places, with a value that P allows at each i below n, and zeros from there on
+pub record FilledBy (P : ℕ → ℕ → Type 0) (n : ℕ) (c : List ℕ) : Type 0 where
   pub long : length c ≡ 129
-  pub done : (k : ℕ) → k < i → get_or c k 0 ≡ g k
-  pub rest : (k : ℕ) → i ≤ k → get_or c k 0 ≡ 0
+  pub done : (i : ℕ) → i < n → P i (get_or c i 0)
+  pub rest : (i : ℕ) → n ≤ i → get_or c i 0 ≡ 0
+
+-- 129 places, with g k at each k before i, and zeros from i on
+abbrev pub Filled : List ℕ → (ℕ → ℕ) → ℕ → Type 0
+Filled c g i = FilledBy (λ k v. v ≡ g k) i c
 
 -- admissible coefficients, and zeros from n on
 pub record Within (f : FieldName) (c : List ℕ) (n : ℕ) : Type 0 where
@@ -38,9 +42,20 @@ length_zeros = length-replicate {A = ℕ} 129 0
 pub at_zeros : (k : ℕ) → get_or zeros k 0 ≡ 0
 at_zeros k = ⊎_elim (λ h. let e : length zeros ≡ 129 = length_zeros in get_or-eq_default zeros 0 {n = k} (omega arith)) (λ h. get_or-replicate 129 k 0 0 h) (le_or_lt 129 k)
 
+-- where what P allows at each place below n is what g says, and g says 0 from n on
+pub places_of : {P : ℕ → ℕ → Type 0} {n : ℕ} {c : List ℕ} {g : ℕ → ℕ} → FilledBy P n c → ((i v : ℕ) → i < n → P i v → v ≡ g i) → ((i : ℕ) → n ≤ i → g i ≡ 0) → Places c g
+places_of {P} {n} {c} {g} f value past =
+    record {
+      long = f.long;
+      at = λ i. ⊎_elim (λ h. f.rest i h ∙ sym (past i h)) (λ h. value i _ h (f.done i h)) (le_or_lt n i);
+    }
+
+pub filled_by_none : {P : ℕ → ℕ → Type 0} → FilledBy P 0 zeros
+filled_by_none = record { long = length_zeros; done = λ k h. absurd (omega arith); rest = λ k h. at_zeros k }
+
 module _ (g : ℕ → ℕ) where
   pub filled_none : Filled zeros g 0
-  filled_none = record { long = length_zeros; done = λ k h. absurd (omega arith); rest = λ k h. at_zeros k }
+  filled_none = filled_by_none
 
   pub filled_more : (c : List ℕ) (i v : ℕ) → Filled c g i → i < 129 → v ≡ g i → Filled (set c i v) g (i + 1)
   filled_more c i v f h e =
@@ -51,8 +66,4 @@ module _ (g : ℕ → ℕ) where
       }
 
   pub filled_all : (c : List ℕ) (n : ℕ) → Filled c g n → ((i : ℕ) → n ≤ i → g i ≡ 0) → Places c g
-  filled_all c n f z =
-      record {
-        long = f.long;
-        at = λ i. ⊎_elim (λ h. f.rest i h ∙ sym (z i h)) (λ h. f.done i h) (le_or_lt n i);
-      }
+  filled_all c n f z = places_of f (λ i v h e. e) z

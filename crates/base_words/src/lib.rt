@@ -4,9 +4,36 @@
 ghost use Rattle.std.specs.Prelude.{◌≡◌, ◌<◌};
 ghost use Rattle.spec_arithmetic.specs.Words.{values, kind as kind_of, value as value_of, word as word_of, high as high_of, low as low_of, joined as joined_of};
 ghost use Rattle.base_words.specs.Numbers.{kinds, pairs};
+ghost use Rattle.base_words.specs.WordKind.{number_of};
 
 // How many values a word has: 2²⁸.
 pub const VALUES: u32 = 268435456;
+
+// What a word stands for: its kind, a number of 4 bits.
+#[derive(Clone, Copy, Debug, PartialEq, Eq)]
+pub enum WordKind {
+    Prime = 1,
+    Degree = 2,
+    Coefficient = 3,
+    Budget = 4,
+    Index = 5,
+    DistanceHigh = 6,
+    DistanceLow = 7,
+    QCoefficient = 8,
+    PCoefficient = 9,
+    MirrorHigh = 10,
+    MirrorLow = 11,
+    Integer = 12,
+    End = 15,
+}
+
+impl From<WordKind> for u32 {
+    ghost from_gives = { λ k n. n ≡ number_of k };
+
+    fn from(k: WordKind) -> u32 {
+        k as u32
+    }
+}
 
 // The kind of a word.
 pub fn kind(word: u32) -> u32

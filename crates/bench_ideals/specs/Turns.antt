@@ -1,97 +1,89 @@
 -- What is kept of so many products or giant steps that are all the same: the size of the P of one of them.
-use Rattle.std.specs.Prelude.{ℕ, zero, suc, ◌+◌, ◌<◌, ◌≡◌, refl, true, false, List, length}
-use Rattle.std.proofs.Common.{arith, ap, ◌∙◌}
-use Rattle.std.proofs.Math.Path.{sym}
-use Rattle.spec_definitions.specs.Ticket.{Ticket, ticket_of, refusal_of}
-use Rattle.spec_definitions.specs.Walk.{Ideal}
-use Rattle.spec_definitions.specs.Answers.{ops_of}
-use Rattle.spec_definitions.specs.Products.{ProductAnswer, GiantStepAnswer, product_of, wrong_pair, wrong_distance, product_done, giant_done, product_refused, giant_refused, product_answer, giant_answer}
-use Rattle.call_product.specs.Products.{product_tested, product_passed, tested_wrong as wrong-product, tested_done, done_same}
-use Rattle.call_giant_step.specs.GiantSteps.{giant_tested, giant_passed, tested_wrong as wrong-giant, tested_near, near_same, near_done}
+use Rattle.std.specs.Prelude.{ℕ, zero, suc, ◌<◌, ◌≡◌, refl, List, [], Result, Ok, Err, IfErr, length}
+use Rattle.std.proofs.Common.{arith, sym, ap, ◌∙◌, subst}
+use Rattle.std.specs.Result.{IsErrAnd}
+use Rattle.spec_definitions.specs.Ticket.{ticket_of, refusal_of}
+use Rattle.spec_definitions.specs.Walk.{Ideal as Pair}
+use Rattle.spec_definitions.specs.Products.{product_answer, giant_answer, wrong_distance}
+use Rattle.base_refusals.specs.declared.Refusal.{Refusal}
+use Rattle.base_refusals.specs.Number.{number_of}
+use Rattle.base_polynomial.specs.declared.Poly.{Poly}
+use Rattle.base_surd.specs.declared.Surd.{Surd}
+use Rattle.base_surd.specs.Surd.{name, ticket_with}
+use Rattle.ideal_operand.specs.declared.Ideal.{Ideal}
+use Rattle.ideal_operand.specs.Ideal.{Multiplied}
+use Rattle.ideal_pair.specs.Pair.{pair_of, pair_refusal, Paired}
+use Rattle.ideal_giant.specs.declared.Shift.{Shift}
+use Rattle.ideal_giant.specs.Stepped.{Stepped}
+use Rattle.call_product.specs.Products as products
+use Rattle.call_giant_step.specs.GiantSteps as giants
+use Rattle.bench_ideals.specs.declared.Operands.{Operands}
 
 -- s after any turn, 0 before the first
 unfoldable pub made : ℕ → ℕ → ℕ
 made zero s = 0
 made (suc k) s = s
 
-unfoldable pub product_turns : List ℕ → Ideal ℕ → Ideal ℕ → ℕ → ℕ
+unfoldable pub product_turns : List ℕ → Pair ℕ → Pair ℕ → ℕ → ℕ
 product_turns w x y times = made times (length (product_answer w x y).p)
 
-unfoldable pub giant_turns : List ℕ → Ideal ℕ → Ideal ℕ → ℕ → ℕ
+unfoldable pub giant_turns : List ℕ → Pair ℕ → Pair ℕ → ℕ → ℕ
 giant_turns w x y times = made times (length (giant_answer w x 0 y 0).p)
 
--- the same for a ticket that is not refused
-unfoldable pub product_turns_of : Ticket → Ideal ℕ → Ideal ℕ → ℕ → ℕ
-product_turns_of t x y times = made times (length (product_tested t x y).p)
+-- what was read of a ticket's words and those of two pairs, none of which is refused
+pub record AreRead (w u v u' v' : List ℕ) (o : Operands) : Type 0 where
+  pub budget : ℕ
+  pub passes : 0 ≡ refusal_of w
+  pub is : ticket_of w ≡ ticket_with o.surd budget
+  pub first : Paired o.surd u v o.x
+  pub second : Paired o.surd u' v' o.y
 
-unfoldable pub giant_turns_of : Ticket → Ideal ℕ → Ideal ℕ → ℕ → ℕ
-giant_turns_of t x y times = made times (length (giant_tested t x 0 y 0).p)
+-- r is what refuses one of the three first
+pub record AreRefused (w u v u' v' : List ℕ) (r : Refusal) : Type 0 where
+  pub product : products.ResultSays (Err r) (product_answer w (pair_of u v) (pair_of u' v'))
+  pub giant_step : giants.ResultSays (Err r) (giant_answer w (pair_of u v) 0 (pair_of u' v') 0)
 
-pub made_none : (s : ℕ) → 0 ≡ made 0 s
+-- a refusal that is passed on
+pub passed_on : {w u v u' v' : List ℕ} (r : Result Operands Refusal) {e : Refusal} → IsErrAnd r (λ k. k ≡ e) → AreRefused w u v u' v' e → IfErr r (AreRefused w u v u' v')
+passed_on (Ok o) h t = absurd h
+passed_on {w} {u} {v} {u'} {v'} (Err k) h t = subst (AreRefused w u v u' v') (sym h) t
+
+module _ (w u v u' v' : List ℕ) where
+  pub ticket_refused : {r : Refusal} → number_of r ≡ refusal_of w → AreRefused w u v u' v' r
+  ticket_refused e = record { product = products.ticket_refused w (pair_of u v) (pair_of u' v') e; giant_step = giants.ticket_refused w (pair_of u v) 0 (pair_of u' v') 0 e }
+
+  module _ (s : Surd) {b : ℕ} (passes : 0 ≡ refusal_of w) (is : ticket_of w ≡ ticket_with s b) where
+    pub first_refused : {r : Refusal} → ((k : ℕ) → number_of r ≡ pair_refusal (ticket_with s k) (pair_of u v)) → AreRefused w u v u' v' r
+    first_refused e = record { product = products.first_refused w s passes is u v (pair_of u' v') e; giant_step = giants.first_refused w s passes is 0 0 u v (pair_of u' v') e }
+
+    pub second_refused : {x : Ideal} → Paired s u v x → {r : Refusal} → ((k : ℕ) → number_of r ≡ pair_refusal (ticket_with s k) (pair_of u' v')) → AreRefused w u v u' v' r
+    second_refused first e = record { product = products.second_refused w s passes is u v first u' v' e; giant_step = giants.second_refused w s passes is 0 0 u v first u' v' e }
+
+-- the size after so many turns, by what any turn leaves
+made_by : {n s : ℕ} (times : ℕ) → (times ≡ 0 → n ≡ 0) → (0 < times → n ≡ s) → n ≡ made times s
 unfolding made
-made_none s = refl
+made_by zero none some = none refl
+made_by (suc k) none some = some (omega arith)
 
-pub made_more : (k s : ℕ) → s ≡ made (k + 1) s
-unfolding made
-made_more k s = go (k + 1) (omega arith)
-  where
-    go : (m : ℕ) → 0 < m → s ≡ made m s
-    go zero h = absurd (omega arith)
-    go (suc m) h = refl
+made_zero : (times : ℕ) {l : List ℕ} → l ≡ [] → 0 ≡ made times (length l)
+made_zero times e = made_by times (λ z. refl) (λ h. sym (ap length e))
 
-pub made_to : (s : ℕ) {i k last : ℕ} → i ≡ k → last ≡ made i s → last ≡ made k s
-made_to s e h = h ∙ ap (λ (j : ℕ). made j s) e
+module _ {w u v u' v' : List ℕ} (times : ℕ) where
+  -- ---- a refusal's P is zero
+  module _ {r : Refusal} (t : AreRefused w u v u' v' r) where
+    pub product_none : 0 ≡ product_turns w (pair_of u v) (pair_of u' v') times
+    unfolding product_turns
+    product_none = made_zero times t.product.zeros.2
 
-made_zero : (k : ℕ) → made k 0 ≡ 0
-unfolding made
-made_zero zero = refl
-made_zero (suc k) = refl
+    pub giant_none : 0 ≡ giant_turns w (pair_of u v) (pair_of u' v') times
+    unfolding giant_turns
+    giant_none = made_zero times t.giant_step.zeros.1
 
-pub product_done_p : (t : Ticket) (x y : Ideal ℕ) → (product_done t x y).p ≡ (product_of (ops_of t) t.D x y).ideal.p
-unfolding product_done
-product_done_p t x y = refl
+  module _ {o : Operands} (t : AreRead w u v u' v' o) {n : ℕ} (none : times ≡ 0 → n ≡ 0) where
+    pub product_some : (0 < times → (common : Poly) × (z : Ideal) × Multiplied o.surd o.x o.y common z × (n ≡ z.p.size)) → n ≡ product_turns w (pair_of u v) (pair_of u' v') times
+    unfolding product_turns
+    product_some some = made_by times none (λ h. let e = some h in e.3 ∙ ((products.multiplied w o.surd t.passes t.is u v t.first u' v' t.second e.2).product_is.p_is (name o.surd)).size_is)
 
--- a refusal's P is zero
-refused_product : (k times : ℕ) {a : ProductAnswer} → a ≡ product_refused k → 0 ≡ made times (length a.p)
-unfolding product_refused
-refused_product k times e = sym (ap (λ (r : ProductAnswer). made times (length r.p)) e ∙ made_zero times)
-
-refused_giant : (k times : ℕ) {a : GiantStepAnswer} → a ≡ giant_refused k → 0 ≡ made times (length a.p)
-unfolding giant_refused
-refused_giant k times e = sym (ap (λ (r : GiantStepAnswer). made times (length r.p)) e ∙ made_zero times)
-
-module _ (w : List ℕ) (x y : Ideal ℕ) (times : ℕ) where
-  pub product_none : (k : ℕ) → product_answer w x y ≡ product_refused k → 0 ≡ product_turns w x y times
-  unfolding product_turns
-  product_none k e = refused_product k times e
-
-  pub giant_none : (k : ℕ) → giant_answer w x 0 y 0 ≡ giant_refused k → 0 ≡ giant_turns w x y times
-  unfolding giant_turns
-  giant_none k e = refused_giant k times e
-
-  module _ (t : Ticket) (r : refusal_of w ≡ 0) (is : ticket_of w ≡ t) where
-    pub product_turns_lem : {n : ℕ} → n ≡ product_turns_of t x y times → n ≡ product_turns w x y times
-    unfolding product_turns product_turns_of
-    product_turns_lem e = e ∙ sym (ap (λ (a : ProductAnswer). made times (length a.p)) (product_passed w x y t r is))
-
-    pub giant_turns_lem : {n : ℕ} → n ≡ giant_turns_of t x y times → n ≡ giant_turns w x y times
-    unfolding giant_turns giant_turns_of
-    giant_turns_lem e = e ∙ sym (ap (λ (a : GiantStepAnswer). made times (length a.p)) (giant_passed w x 0 y 0 t r is))
-
-module _ (t : Ticket) (x y : Ideal ℕ) (times : ℕ) where
-  pub product_wrong : wrong_pair t x y ≡ true → 0 ≡ product_turns_of t x y times
-  unfolding product_turns_of
-  product_wrong h = refused_product 9 times (wrong-product t x y h)
-
-  pub giant_wrong : wrong_pair t x y ≡ true → 0 ≡ giant_turns_of t x y times
-  unfolding giant_turns_of
-  giant_wrong h = refused_giant 9 times (wrong-giant t x 0 y 0 h)
-
-  module _ (h : wrong_pair t x y ≡ false) (x' y' : Ideal ℕ) (same : product_of (ops_of t) t.D x' y' ≡ product_of (ops_of t) t.D x y) where
-    pub product_right : {n : ℕ} → n ≡ made times (length (product_done t x' y').p) → n ≡ product_turns_of t x y times
-    unfolding product_turns_of
-    product_right e = e ∙ sym (ap (λ (a : ProductAnswer). made times (length a.p)) (tested_done t x y h ∙ sym (done_same t x' y' x y same)))
-
-    pub giant_right : {n : ℕ} → n ≡ made times (length (giant_done t x' 0 y' 0).p) → n ≡ giant_turns_of t x y times
-    unfolding giant_turns_of wrong_distance
-    giant_right e = e ∙ sym (ap (λ (a : GiantStepAnswer). made times (length a.p)) (tested_near t x 0 y 0 h ∙ sym (near_same t x' 0 y' 0 x y same) ∙ near_done t x' 0 y' 0 refl))
+    pub giant_some : (0 < times → (z : Ideal) × (to : Shift) × Stepped o.surd o.x 0 o.y 0 z to × (n ≡ z.p.size)) → n ≡ giant_turns w (pair_of u v) (pair_of u' v') times
+    unfolding giant_turns wrong_distance
+    giant_some some = made_by times none (λ h. let e = some h in e.3 ∙ ((giants.stepped w o.surd t.passes t.is 0 0 u v t.first u' v' t.second refl e.2 refl refl).giant_step_is.p_is (name o.surd)).size_is)

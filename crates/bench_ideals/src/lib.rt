@@ -4,73 +4,34 @@
 
 pub mod turns;
 
-ghost use Rattle.std.specs.Prelude.{◌≡◌, ℕ, ◌≤◌};
-ghost use Rattle.spec_definitions.specs.Ticket.{ticket, genus};
-ghost use Rattle.spec_laws.specs.Admitted.{Admitted};
-ghost use Rattle.base_field.specs.Named.{name, IsField};
-ghost use Rattle.base_polynomial.specs.Record.{poly, Held};
+ghost use Rattle.std.specs.Prelude.{◌≡◌, IfOk, IfErr};
 ghost use Rattle.ideal_pair.specs.Pair.{pair_of};
-ghost use Rattle.bench_ideals.specs.Turns.{product_turns, giant_turns, product_turns_of, giant_turns_of};
+ghost use Rattle.bench_ideals.specs.Turns.{product_turns, giant_turns, AreRead, AreRefused};
 
 use crate::turns::{giants, products};
-use base_field::Field;
-use ideal_pair::operand::{both, pair};
+use base_refusals::Refusal;
+use base_surd::Surd;
+use ideal_operand::Ideal;
+use ideal_pair::pair;
 use ticket_read::read_ticket;
 
-// The size of the product's P of two pairs, made `times` times over; 0 where a pair is refused. D is the radicand, of
-// degree n, with l places.
-fn products_of(
-    f: Field,
-    n: usize,
-    radicand: &[u32; 129],
-    l: usize,
-    q1: &[u32],
-    p1: &[u32],
-    q2: &[u32],
-    p2: &[u32],
-    times: u64,
-) -> u64
-    requires { IsField f × Admitted (name f) (genus n) (poly radicand.now l) × Held (name f) radicand.now l × (2 ≤ n) }
-    ensures { (b : ℕ) → result ≡ product_turns_of (ticket (name f) n (poly radicand.now l) b) (pair_of q1.now p1.now) (pair_of q2.now p2.now) times }
-{
-    let mut a = [0u32; 129];
-    let mut b = [0u32; 129];
-    let x = pair(f, n, radicand, l, q1, p1, &mut a, &mut b);
-    let mut c = [0u32; 129];
-    let mut e = [0u32; 129];
-    let y = pair(f, n, radicand, l, q2, p2, &mut c, &mut e);
-    if !both(x.ok, y.ok) {
-        return 0;
-    }
-    products(f, n, radicand, l, &a, x.q, &b, x.p, &c, y.q, &e, y.p, times)
+// √D, and two ideals of it.
+#[derive(Clone, Copy)]
+pub struct Operands {
+    pub surd: Surd,
+    pub x: Ideal,
+    pub y: Ideal,
 }
 
-// The size of the giant step's P of two pairs, made `times` times over; 0 where a pair is refused. D is the radicand, of
-// degree n, with l places.
-fn giants_of(
-    f: Field,
-    n: usize,
-    radicand: &[u32; 129],
-    l: usize,
-    q1: &[u32],
-    p1: &[u32],
-    q2: &[u32],
-    p2: &[u32],
-    times: u64,
-) -> u64
-    requires { IsField f × Admitted (name f) (genus n) (poly radicand.now l) × Held (name f) radicand.now l × (2 ≤ n) }
-    ensures { (b : ℕ) → result ≡ giant_turns_of (ticket (name f) n (poly radicand.now l) b) (pair_of q1.now p1.now) (pair_of q2.now p2.now) times }
+// √D of the ticket and the ideals of the two pairs.
+fn read(ticket: &[u32], q1: &[u32], p1: &[u32], q2: &[u32], p2: &[u32]) -> Result<Operands, Refusal>
+    ensures read { IfOk result (AreRead ticket.now q1.now p1.now q2.now p2.now) }
+    ensures refused { IfErr result (AreRefused ticket.now q1.now p1.now q2.now p2.now) }
 {
-    let mut a = [0u32; 129];
-    let mut b = [0u32; 129];
-    let x = pair(f, n, radicand, l, q1, p1, &mut a, &mut b);
-    let mut c = [0u32; 129];
-    let mut e = [0u32; 129];
-    let y = pair(f, n, radicand, l, q2, p2, &mut c, &mut e);
-    if !both(x.ok, y.ok) {
-        return 0;
-    }
-    giants(f, n, radicand, l, &a, x.q, &b, x.p, &c, y.q, &e, y.p, times)
+    let t = read_ticket(ticket)?;
+    let x = pair(&t.surd, q1, p1)?;
+    let y = pair(&t.surd, q2, p2)?;
+    Ok(Operands { surd: t.surd, x, y })
 }
 
 // The size of the product's P, made `times` times over; 0 where the ticket or a pair is refused and where `times`
@@ -86,21 +47,10 @@ pub extern "C" fn bench_product(
 ) -> u64
     ensures { result ≡ product_turns ticket.now (pair_of q1.now p1.now) (pair_of q2.now p2.now) times }
 {
-    let t = read_ticket(ticket);
-    if t.number != 0 {
-        return 0;
+    match read(ticket, q1, p1, q2, p2) {
+        Ok(o) => products(&o.surd, &o.x, &o.y, times),
+        Err(_) => 0,
     }
-    products_of(
-        t.field,
-        t.n,
-        &t.radicand.c,
-        t.radicand.size,
-        q1,
-        p1,
-        q2,
-        p2,
-        times,
-    )
 }
 
 // The size of the giant step's P, made `times` times over; 0 where the ticket or a pair is refused and where `times`
@@ -116,19 +66,8 @@ pub extern "C" fn bench_giant_step(
 ) -> u64
     ensures { result ≡ giant_turns ticket.now (pair_of q1.now p1.now) (pair_of q2.now p2.now) times }
 {
-    let t = read_ticket(ticket);
-    if t.number != 0 {
-        return 0;
+    match read(ticket, q1, p1, q2, p2) {
+        Ok(o) => giants(&o.surd, &o.x, &o.y, times),
+        Err(_) => 0,
     }
-    giants_of(
-        t.field,
-        t.n,
-        &t.radicand.c,
-        t.radicand.size,
-        q1,
-        p1,
-        q2,
-        p2,
-        times,
-    )
 }

@@ -1,5 +1,5 @@
 -- The answer of the call `estimate`, case by case; the powers of the fraction fit into 64 bits.
-use Rattle.std.specs.Prelude.{ℕ, zero, suc, ◌+◌, ◌-◌, ◌*◌, ◌/◌, ◌^◌, ◌≤◌, ◌<◌, ◌≡◌, List}
+use Rattle.std.specs.Prelude.{ℕ, zero, suc, ◌+◌, ◌-◌, ◌*◌, ◌/◌, ◌^◌, ◌≤◌, ◌<◌, ◌≡◌, List, Result, Ok, Err}
 use Rattle.std.proofs.Math.Nat.{one-le-pow}
 use Rattle.std.proofs.Common.{mul-one, one-mul, mul-le-mul_left, mul-le-mul_right, lt_of_le_of_lt, ap₂, ◌∙◌, subst}
 use native.Mathlib.Omega.{arith}
@@ -12,16 +12,21 @@ use Rattle.spec_estimate.specs.Bounds.{Fits}
 use Rattle.spec_estimate.proofs.Bounds.{bounds}
 use Rattle.spec_estimate.specs.Estimates.{AboveThese}
 use Rattle.spec_estimate.proofs.Estimates.{refused_answer, large_answer, done_answer, counts_most}
-use Rattle.estimate_fraction.specs.Powers.{range}
+use Rattle.base_refusals.specs.declared.Refusal.{Refusal}
+use Rattle.base_refusals.specs.declared.Refusal.TheVariants.{Size}
+use Rattle.base_refusals.specs.Number.{number_of}
 use Rattle.estimate_counts.specs.declared.Counts.{Counts}
-use Rattle.call_estimate.specs.declared.EstimateAnswer.{EstimateAnswer as Given}
+use Rattle.ticket_read.specs.Refusal.{number_some}
+use Rattle.call_estimate.specs.declared.Estimated.{Estimated}
+use Rattle.call_estimate.specs.declared.EstimateAnswer as code
 
--- r is the answer a
-pub record EstimateSays (r : Given) (a : EstimateAnswer) : Type 0 where
-  pub number_is : r.number ≡ a.number
-  pub numerator_is : r.numerator ≡ a.numerator
-  pub denominator_is : r.denominator ≡ a.denominator
-  pub nearest_is : r.nearest ≡ a.nearest
+-- what is said of an estimate, or of a refusal: its number, and zeros
+abbrev pub estimate_said : Result Estimated Refusal → EstimateAnswer
+estimate_said (Ok e) = record { number = 0; numerator = e.numerator; denominator = e.denominator; nearest = e.nearest }
+estimate_said (Err r) = record { number = number_of r; numerator = 0; denominator = 0; nearest = 0 }
+
+abbrev pub estimate_in : code.EstimateAnswer → EstimateAnswer
+estimate_in a = estimate_said a.result
 
 -- q and n are estimated, and each element counts once at most
 pub record Small (q n : ℕ) (c : Counts) : Type 0 where
@@ -58,41 +63,41 @@ module _ {q n : ℕ} {c : Counts} (s : Small q n c) where
   unfolding denominator_of
   denominator_is = refl
 
-  pub numerator_fits : q ^ (n / 2 + c.squares + c.non_squares) < range
+  pub numerator_fits : q ^ (n / 2 + c.squares + c.non_squares) < 2 ^ 64
   numerator_fits = let e = numerator_is in let h = fraction_fits.numerator in omega arith
 
-  pub denominator_fits : (q - 1) ^ (c.squares + 1) * (q + 1) ^ c.non_squares < range
+  pub denominator_fits : (q - 1) ^ (c.squares + 1) * (q + 1) ^ c.non_squares < 2 ^ 64
   denominator_fits = let e = denominator_is in let h = fraction_fits.denominator in omega arith
 
   -- each factor is at most the product
-  pub first_fits : (q - 1) ^ (c.squares + 1) < range
+  pub first_fits : (q - 1) ^ (c.squares + 1) < 2 ^ 64
   first_fits = let h = s.q_least in lt_of_le_of_lt (subst (λ (k : ℕ). k ≤ (q - 1) ^ (c.squares + 1) * (q + 1) ^ c.non_squares) (mul-one _) (mul-le-mul_left _ (one-le-pow c.non_squares (q + 1) (omega arith)))) denominator_fits
 
-  pub second_fits : (q + 1) ^ c.non_squares < range
+  pub second_fits : (q + 1) ^ c.non_squares < 2 ^ 64
   second_fits = let h = s.q_least in lt_of_le_of_lt (subst (λ (k : ℕ). k ≤ (q - 1) ^ (c.squares + 1) * (q + 1) ^ c.non_squares) (one-mul _) (mul-le-mul_right _ (one-le-pow (c.squares + 1) (q - 1) (omega arith)))) denominator_fits
 
+  pub fraction_said : {e : Estimated} → e.numerator ≡ numerator → e.denominator ≡ denominator → e.nearest ≡ nearest_of e.numerator e.denominator → estimate_said (Ok e) ≡ estimate_is numerator denominator
+  unfolding estimate_is
+  fraction_said n d w = λ i. record { number = 0; numerator = n i; denominator = d i; nearest = (w ∙ ap₂ nearest_of n d) i }
+
 -- ---- the answers
-pub says_path : {r : Given} {a b : EstimateAnswer} → a ≡ b → EstimateSays r b → EstimateSays r a
-says_path {r} e h = subst (EstimateSays r) (sym e) h
-
--- zeros in a refusal
-pub refused_zeros : {r : Given} {k : ℕ} → r.number ≡ k → r.numerator ≡ 0 → r.denominator ≡ 0 → r.nearest ≡ 0 → EstimateSays r (estimate_refused k)
-unfolding estimate_refused
-refused_zeros e n d w = record { number_is = e; numerator_is = n; denominator_is = d; nearest_is = w }
-
-pub fraction_says : {r : Given} {N M : ℕ} → r.number ≡ 0 → r.numerator ≡ N → r.denominator ≡ M → r.nearest ≡ nearest_of r.numerator r.denominator → EstimateSays r (estimate_is N M)
-unfolding estimate_is
-fraction_says e n d w = record { number_is = e; numerator_is = n; denominator_is = d; nearest_is = w ∙ ap₂ nearest_of n d }
-
 module _ (w : List ℕ) where
-  pub answer_refused : (k : ℕ) → k ≡ refusal_of w → (k ≡ 0 → ⊥) → estimate_answer w ≡ estimate_refused k
-  answer_refused zero z h = absurd (h refl)
-  answer_refused (suc k) z h = refused_answer w k (sym z)
+  pub answer_refused : (r : Refusal) → number_of r ≡ refusal_of w → estimate_said (Err r) ≡ estimate_answer w
+  unfolding estimate_refused
+  answer_refused r e = go (number_of r) refl
+    where
+      go : (k : ℕ) → number_of r ≡ k → estimate_said (Err r) ≡ estimate_answer w
+      go zero z = absurd (number_some r z)
+      go (suc k) z = ap estimate_refused z ∙ sym (refused_answer w k (sym e ∙ z))
 
-  pub answer_large : {t : Ticket} → refusal_of w ≡ 0 → ticket_of w ≡ t → AboveThese t → estimate_answer w ≡ estimate_refused 15
-  answer_large e t a = large_answer w e (subst AboveThese (sym t) a)
+  pub answer_large : {t : Ticket} → 0 ≡ refusal_of w → ticket_of w ≡ t → AboveThese t → estimate_said (Err Size) ≡ estimate_answer w
+  unfolding estimate_refused
+  answer_large e t a = sym (large_answer w (sym e) (subst AboveThese (sym t) a))
 
   -- past the refusals, with the counts of D's values
-  pub answer_done : {f : FieldName} {n : ℕ} {D : List ℕ} {b : ℕ} {c : Counts} → refusal_of w ≡ 0 → ticket_of w ≡ ticket f n D b → f.q ≤ 13 → n ≤ 8 → (c.squares ≡ squares_of f D) × (c.non_squares ≡ non_squares_of f D) → estimate_answer w ≡ estimate_is (numerator_of f.q (genus n) c.squares c.non_squares) (denominator_of f.q c.squares c.non_squares)
+  pub answer_done : {f : FieldName} {n : ℕ} {D : List ℕ} {b : ℕ} {c : Counts} → 0 ≡ refusal_of w → ticket_of w ≡ ticket f n D b → f.q ≤ 13 → n ≤ 8 → (c.squares ≡ squares_of f D) × (c.non_squares ≡ non_squares_of f D) → estimate_is (numerator_of f.q (genus n) c.squares c.non_squares) (denominator_of f.q c.squares c.non_squares) ≡ estimate_answer w
   unfolding estimate_done
-  answer_done {f} {n} e t few low c = done_answer w e (subst (λ (u : Ticket). u.field.q ≤ 13) (sym t) few) (subst (λ (u : Ticket). u.n ≤ 8) (sym t) low) ∙ ap estimate_done t ∙ sym (ap₂ (λ (a s : ℕ). estimate_is (numerator_of f.q (genus n) a s) (denominator_of f.q a s)) c.0 c.1)
+  answer_done {f} {n} e t few low c =
+      ap₂ (λ (a s : ℕ). estimate_is (numerator_of f.q (genus n) a s) (denominator_of f.q a s)) c.0 c.1
+      ∙ sym (ap estimate_done t)
+      ∙ sym (done_answer w (sym e) (subst (λ (u : Ticket). u.field.q ≤ 13) (sym t) few) (subst (λ (u : Ticket). u.n ≤ 8) (sym t) low))

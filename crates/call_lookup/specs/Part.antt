@@ -1,44 +1,43 @@
--- The part that a lookup finds: it lies within the list, and its place and its length are all that it is.
-use Rattle.std.specs.Prelude.{ℕ, ◌+◌, ◌*◌, ◌-◌, ◌≤◌, ◌≡◌, refl, Bool, true, false, List, length, take, drop}
-use Rattle.std.proofs.Math.Nat.{min-eq_left}
-use Rattle.std.proofs.Common.{arith, sym, ap, ap₂, ◌∙◌, subst, length-take, length-drop}
-use Rattle.spec_definitions.specs.Lookup.{wrong_listing, record_count, last_within, lookup_of, place_of}
-use Rattle.call_lookup.specs.Refusal.{refused_place, refused_words, found_place, found_words, listing_records}
-use Rattle.listing_distances.specs.Search.{last_fits}
+-- The part of the list that a lookup finds, or the empty part at its start where the list is refused.
+use Rattle.std.specs.Prelude.{ℕ, ◌+◌, ◌*◌, ◌-◌, ◌≤◌, ◌≡◌, true, false, List, [], length, take, drop, slice_range}
+use Rattle.std.proofs.Common.{arith, sym, ap, ◌∙◌, length-drop}
+use Rattle.std.proofs.Math.Seq.{length-take-le}
+use Rattle.spec_definitions.specs.Lookup.{wrong_listing, record_count, record_at, last_within, lookup_of, place_of}
+
+-- refusal 8: no word, and none before it
+pub record IsRefused (l : List ℕ) (n y : ℕ) : Type 0 where
+  pub wrong : wrong_listing l n ≡ true
+  pub place : place_of l n y ≡ 0
+  pub words : lookup_of l n y ≡ []
+
+-- the words of the record stand from `start` up to `end`
+pub record IsFound (l : List ℕ) (n y start end : ℕ) : Type 0 where
+  pub right : wrong_listing l n ≡ false
+  pub place : start ≡ place_of l n y
+  pub long : end ≡ start + length (lookup_of l n y)
+  pub within : end ≤ length l
+  pub words : slice_range l start end ≡ lookup_of l n y
 
 module _ (l : List ℕ) (n y : ℕ) where
-  pub refused_length : wrong_listing l n ≡ true → length (lookup_of l n y) ≡ 0
-  refused_length h = ap length (refused_words l n y 0 h)
+  pub refused : wrong_listing l n ≡ true → IsRefused l n y
+  unfolding place_of lookup_of
+  refused h = record { wrong = h; place = simp (place_of, h); words = simp (lookup_of, h) }
 
-  module _ (h : wrong_listing l n ≡ false) (at : ℕ) (e : at ≡ last_within l n y (record_count l n - 1) * (n + 4)) where
-    found_fits : at + (n + 4) ≤ length l
-    found_fits = subst (λ (k : ℕ). k + (n + 4) ≤ length l) (sym e) (last_fits l n y (listing_records l n h))
+  module _ (k : ℕ) (h : wrong_listing l n ≡ false) (e : k ≡ last_within l n y (record_count l n - 1)) (fits : k * (n + 4) + (n + 4) ≤ length l) where
+    record_words : take (n + 4) (drop (k * (n + 4)) l) ≡ lookup_of l n y
+    unfolding lookup_of record_at
+    record_words = simp (lookup_of, h, e)
 
-    pub found_length : length (lookup_of l n y) ≡ n + 4
-    found_length =
-        let f = found_fits in
-        ap length (sym (found_words l n y at h e (n + 4) refl)) ∙ length-take (n + 4) (drop at l) ∙ min-eq_left (let d : length (drop at l) ≡ length l - at = length-drop at l in omega arith)
-
-  within : (b : Bool) → wrong_listing l n ≡ b → place_of l n y + length (lookup_of l n y) ≤ length l
-  within true h =
-      let p : place_of l n y ≡ 0 = refused_place l n y 0 h in
-      let s : length (lookup_of l n y) ≡ 0 = refused_length h in
-      omega arith
-  within false h =
-      let at : ℕ = last_within l n y (record_count l n - 1) * (n + 4) in
-      let p : place_of l n y ≡ at = found_place l n y at h refl in
-      let s : length (lookup_of l n y) ≡ n + 4 = found_length h at refl in
-      let f : at + (n + 4) ≤ length l = found_fits h at refl in
-      omega arith
-
-  pub part_within : place_of l n y + length (lookup_of l n y) ≤ length l
-  part_within = within (wrong_listing l n) refl
-
-  words : (b : Bool) → wrong_listing l n ≡ b → take (length (lookup_of l n y)) (drop (place_of l n y) l) ≡ lookup_of l n y
-  words true h = ap (λ (k : ℕ). take k (drop (place_of l n y) l)) (refused_length h) ∙ sym (refused_words l n y 0 h)
-  words false h =
-      let at : ℕ = last_within l n y (record_count l n - 1) * (n + 4) in
-      ap (λ (i : ℕ). take (length (lookup_of l n y)) (drop i l)) (found_place l n y at h refl) ∙ found_words l n y at h refl (length (lookup_of l n y)) (found_length h at refl)
-
-  pub part_words : (at size : ℕ) → at ≡ place_of l n y → size ≡ length (lookup_of l n y) → take size (drop at l) ≡ lookup_of l n y
-  part_words at size e f = ap₂ (λ (i j : ℕ). take i (drop j l)) f e ∙ words (wrong_listing l n) refl
+    pub found : IsFound l n y (k * (n + 4)) (k * (n + 4) + (n + 4))
+    unfolding place_of
+    found =
+        let size : k * (n + 4) + (n + 4) - k * (n + 4) ≡ n + 4 = omega arith in
+        let some : length (take (n + 4) (drop (k * (n + 4)) l)) ≡ n + 4 = length-take-le (n + 4) (drop (k * (n + 4)) l) (let d = length-drop (k * (n + 4)) l in omega arith) in
+        let long : length (lookup_of l n y) ≡ n + 4 = ap length (sym record_words) ∙ some in
+        record {
+          right = h;
+          place = simp (place_of, h) (ap (λ (i : ℕ). i * (n + 4)) e);
+          long = omega arith;
+          within = fits;
+          words = ap (λ (i : ℕ). take i (drop (k * (n + 4)) l)) size ∙ record_words;
+        }

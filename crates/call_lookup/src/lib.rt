@@ -1,72 +1,48 @@
 // The call `lookup`: the record of a listing at a distance, as a part of the caller's own list.
 #![tactic(auto)]
 
-ghost use Rattle.std.specs.Prelude.{◌≡◌, not, ◌+◌, ◌*◌, length};
-ghost use Rattle.spec_definitions.specs.Lookup.{wrong_listing, lookup_of, place_of};
+ghost use Rattle.std.specs.Prelude.{◌≡◌, ◌+◌, ◌*◌, MatchOption};
+ghost use Rattle.spec_definitions.specs.Lookup.{lookup_of, place_of};
+ghost use Rattle.call_lookup.specs.Refusal.{right_records};
+ghost use Rattle.call_lookup.specs.Part.{IsRefused, IsFound};
 
 use base_counters::Distance;
-use listing_distances::{distance_at, last_within, rising};
+use listing_distances::{distance_of, last_within, rising};
 use listing_kinds::kinds_ok;
-use listing_whole::degree_ok;
+use listing_whole::Listing;
+use std::ops::Range;
 
-// Whether the list is one or more whole records of degree n, from distance 0 on and rising.
-fn listing_ok(list: &[u32], n: u64) -> bool
-    ensures { result ≡ not (wrong_listing list.now n) }
+// Whether the records have their kinds, and distances from 0 on that rise.
+#[tactic(auto, using(listing_distances::specs::Distances::distance_of_first))]
+fn records_ok(listing: Listing) -> bool
+    ensures { result ≡ right_records listing.entry.words.now listing.entry.n }
 {
-    if !degree_ok(n) {
-        return false;
-    }
-    let degree = n as usize;
-    if list.len() == 0 {
-        return false;
-    }
-    if list.len() % (degree + 4) != 0 {
-        return false;
-    }
-    if !kinds_ok(list, degree) {
-        return false;
-    }
-    let first = distance_at(list, 0);
-    if first.0 != 0 {
-        return false;
-    }
-    rising(list, degree)
+    let first = distance_of(&listing.words[..listing.n + 4]);
+    kinds_ok(listing) && first.0 == 0 && rising(listing)
 }
 
-// A part of a list: how many words stand before it, and how many it has.
-#[derive(Clone, Copy)]
-pub struct Part {
-    pub offset: usize,
-    pub length: usize,
-}
-
-// Where the record of the listing with the largest distance at most y stands. Refusal 8 is the empty part at
-// the list's start.
-pub fn place(list: &[u32], n: u64, y: Distance) -> Part
-    ensures offset { result.offset ≡ place_of list.now n y.0 }
-    ensures length { result.length ≡ length (lookup_of list.now n y.0) }
+// Where the record of the listing with the largest distance at most y stands; None is refusal 8.
+#[tactic(auto, using(crate::specs::Part::refused, crate::specs::Refusal::of_none))]
+pub fn place(list: &[u32], n: u64, y: Distance) -> Option<Range<usize>>
+    ensures { MatchOption result (IsRefused list.now n y.0) (λ part. IsFound list.now n y.0 part.start part.end) }
 {
-    if !listing_ok(list, n) {
-        return Part {
-            offset: 0,
-            length: 0,
-        };
+    let listing = Listing::new(list, n)?;
+    if !records_ok(listing) {
+        return None;
     }
-    let degree = n as usize;
-    let offset = last_within(list, degree, y);
-    let length = degree + 4;
-    Part { offset, length }
+    let start = last_within(listing, y) * (listing.n + 4);
+    Some(start..start + (listing.n + 4))
 }
 
-// The record itself, as a part of the caller's list; the list is the listing's words alone, with nothing
-// after them.
+// The record itself, as a part of the caller's list, or the empty part at its start; the list is the listing's words
+// alone, with nothing after them.
 pub fn lookup<'a>(list: &'a [u32], n: u64, y: Distance) -> &'a [u32]
     ensures content { result.now ≡ lookup_of list.now n y.0 }
     ensures block { result.ref_ptr.0 ≡ list.entry.ref_ptr.0 }
     ensures place { result.ref_ptr.1 ≡ list.entry.ref_ptr.1 + 4 * place_of list.now n y.0 }
 {
-    let part = place(list, n, y);
-    let at = part.offset;
-    let end = at + part.length;
-    &list[at..end]
+    match place(list, n, y) {
+        Some(part) => &list[part],
+        None => &list[..0],
+    }
 }

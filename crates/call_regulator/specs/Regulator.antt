@@ -1,31 +1,27 @@
--- A ticket that words are read as and its outcome; the outcome of words, by whether they are refused; what T3
--- says of an outcome that is said as the definitions say it.
+-- The outcome of words that are read as a ticket or refused; what T3 says of an outcome that is said as the
+-- definitions say it.
 use Prim.Native.Nat.{ℕ, zero, suc}
 use Rattle.std.proofs.Common.{arith, sym, ◌∙◌, subst}
 use Rattle.std.proofs.Math.Path.{◌≡◌, refl, ap}
-use Rattle.std.specs.Prelude.{List}
-use Rattle.spec_definitions.specs.Ticket.{ticket, ticket_of, refusal_of}
+use Rattle.std.specs.Prelude.{List, Result, Ok, Err, IfOk}
+use Rattle.spec_definitions.specs.Ticket.{ticket_of, refusal_of}
 use Rattle.spec_definitions.specs.Answers.{Outcome, refused, said, said_injective, outcome_of, words_outcome, regulator_of}
-use Rattle.base_field.specs.Named.{name}
-use Rattle.base_polynomial.specs.Over.{poly}
 use Rattle.spec_demands.specs.LeastDegree.{Least}
 use Rattle.spec_demands.proofs.LeastDegree.{t3}
+use Rattle.base_refusals.specs.declared.Refusal.{Refusal}
+use Rattle.base_refusals.specs.Number.{refused_by}
+use Rattle.base_surd.specs.Surd.{ticket_with}
 use Rattle.ticket_read.specs.declared.Ticket as code
-use Rattle.ticket_read.specs.Read.{read_of, Stands}
 use Rattle.ticket_read.specs.Accepted.{Accepted}
-use Rattle.walk_run.specs.Found.{Walkable}
 
--- t is what some words are read as
-abbrev pub IsRead : code.Ticket → Type 0
-IsRead t = (w : List ℕ) × Stands (read_of w) t
+-- the words w are read as r says
+pub record IsReadAs (w : List ℕ) (r : Result code.Ticket Refusal) : Type 0 where
+  pub refused : refused_by r ≡ refusal_of w
+  pub read : IfOk r (λ t. ticket_of w ≡ ticket_with t.surd t.budget)
 
--- x is the outcome of all words that are read as t
-abbrev pub OutcomeOf : code.Ticket → Outcome → Type 0
-OutcomeOf t x = (w : List ℕ) → Stands (read_of w) t → x ≡ words_outcome w
-
--- what a ticket that is not refused gives a run
-pub walkable : {w : List ℕ} {t : code.Ticket} → Accepted w t → Walkable t.field t.n t.radicand t.budget
-walkable a = record { is_field = a.is_field; admitted = a.radicand; held = a.held; even = a.half; budget = a.budget }
+-- x is the outcome of all words that are read as r says
+abbrev pub OutcomeOf : Result code.Ticket Refusal → Outcome → Type 0
+OutcomeOf r x = (w : List ℕ) → IsReadAs w r → x ≡ words_outcome w
 
 module _ (w : List ℕ) where
   pub refused_outcome : (k : ℕ) → k ≡ refusal_of w → (k ≡ 0 → ⊥) → refused k ≡ words_outcome w
@@ -36,7 +32,7 @@ module _ (w : List ℕ) where
       go zero z = absurd (h z)
       go (suc j) z = ap refused z
 
-  pub accepted_outcome : {t : code.Ticket} (x : Outcome) → Accepted w t → x ≡ outcome_of (ticket (name t.field) t.n (poly t.radicand) t.budget) → x ≡ words_outcome w
+  pub accepted_outcome : {t : code.Ticket} (x : Outcome) → Accepted w t → x ≡ outcome_of (ticket_with t.surd t.budget) → x ≡ words_outcome w
   unfolding words_outcome
   accepted_outcome x a e = e ∙ ap outcome_of (sym a.ticket_is) ∙ go (refusal_of w) a.passes
     where

@@ -4,12 +4,12 @@ use Rattle.spec_definitions.specs.Answers.{Outcome, refused}
 use Rattle.spec_demands.specs.LeastDegree.{Least}
 use Rattle.spec_several.specs.Several.{primes_of, job_words, several_of, sixteen_places}
 use Rattle.walk_outcome.specs.Outcome.{meaning}
-use Rattle.call_regulators.specs.declared.AtPrime.{AtPrime}
+use Rattle.walk_outcome.specs.declared.Outcome as code
 use Rattle.call_regulators.specs.declared.SeveralAnswer.{SeveralAnswer}
 
 -- what each place means
-abbrev pub meanings : List AtPrime → List Outcome
-meanings l = map (λ (p : AtPrime). meaning p.outcome) l
+abbrev pub meanings : List code.Outcome → List Outcome
+meanings l = map meaning l
 
 abbrev pub outcomes : SeveralAnswer → List Outcome
 outcomes a = meanings a.places

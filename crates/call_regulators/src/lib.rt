@@ -2,28 +2,20 @@
 #![tactic(auto)]
 
 ghost use Rattle.std.specs.Prelude.{◌≡◌, map, ◌<◌};
-ghost use Rattle.spec_arithmetic.specs.Words.{values};
-ghost use Rattle.spec_definitions.specs.Answers.{said, words_outcome};
-ghost use Rattle.spec_several.specs.Several.{several_refusal, job_words, several_answer};
-ghost use Rattle.walk_outcome.specs.Outcome.{meaning};
+ghost use Rattle.spec_definitions.specs.Answers.{said};
+ghost use Rattle.spec_several.specs.Several.{several_refusal, several_answer};
+ghost use Rattle.base_refusals.specs.Number.{number_of};
 ghost use Rattle.call_regulators.specs.Regulators.{outcomes, Answers, LeastEach};
 
+use base_refusals::Refusal;
 use base_words::value;
 use call_regulator::outcome_of;
 use ticket_several::job::read_job;
 use ticket_several::shape::several_refusal;
 use walk_outcome::Outcome;
 
-// The outcome at one prime: a struct around the enum, since the prover covers no array of enums in a struct.
-#[derive(Clone, Copy)]
-pub struct AtPrime {
-    pub outcome: Outcome,
-}
-
 // What a place past the last outcome holds: no outcome is refused by 0.
-const NO_OUTCOME: AtPrime = AtPrime {
-    outcome: Outcome::Refused(0),
-};
+const NO_OUTCOME: Outcome = Outcome::Refused(0);
 
 // What the call answers: the number of words handed in, how many outcomes there are, and sixteen places for
 // them; those past the count hold Refused(0).
@@ -31,19 +23,10 @@ const NO_OUTCOME: AtPrime = AtPrime {
 pub struct SeveralAnswer {
     pub words: u64,
     pub count: u64,
-    pub places: [AtPrime; 16],
+    pub places: [Outcome; 16],
 }
 
-// The single job's outcome at q.
-fn outcome_at(q: u32, ticket: &[u32]) -> Outcome
-    requires { (q < values) × (several_refusal ticket.now ≡ 0) }
-    ensures { meaning result ≡ words_outcome (job_words ticket.now q) }
-{
-    let t = read_job(q, ticket);
-    outcome_of(t)
-}
-
-// The outcomes at the ticket's primes, in its order.
+// The outcomes at the ticket's primes, in its order: each is that of the single job at the prime.
 fn at_primes(ticket: &[u32]) -> SeveralAnswer
     requires { several_refusal ticket.now ≡ 0 }
     ensures { Answers ticket.now result }
@@ -51,29 +34,24 @@ fn at_primes(ticket: &[u32]) -> SeveralAnswer
     let mut places = [NO_OUTCOME; 16];
     // before the primes are n, n + 1 coefficients and the budget, after them the end word
     let first = value(ticket[0]) as usize + 3;
-    let count = ticket.len() - 1 - first;
-    let mut i: usize = 0;
-    while i < count {
-        let x = outcome_at(value(ticket[first + i]), ticket);
-        places[i] = AtPrime { outcome: x };
-        i += 1;
+    let primes = &ticket[first..ticket.len() - 1];
+    for (i, prime) in primes.iter().enumerate() {
+        places[i] = outcome_of(read_job(value(*prime), ticket));
     }
     SeveralAnswer {
         words: ticket.len() as u64,
-        count: count as u64,
+        count: primes.len() as u64,
         places,
     }
 }
 
 // The only outcome of a refused ticket.
-fn refused_ticket(number: u32, ticket: &[u32]) -> SeveralAnswer
-    requires { (number ≡ several_refusal ticket.now) × (0 < number) }
+fn refused_ticket(refusal: Refusal, ticket: &[u32]) -> SeveralAnswer
+    requires { number_of refusal ≡ several_refusal ticket.now }
     ensures { Answers ticket.now result }
 {
     let mut places = [NO_OUTCOME; 16];
-    places[0] = AtPrime {
-        outcome: Outcome::Refused(number),
-    };
+    places[0] = Outcome::Refused(refusal.into());
     SeveralAnswer {
         words: ticket.len() as u64,
         count: 1,
@@ -88,9 +66,8 @@ pub fn regulators(ticket: &[u32]) -> SeveralAnswer
     ensures says { map said (outcomes result) ≡ (several_answer ticket.now).says }
     ensures least { LeastEach ticket.now (outcomes result) }
 {
-    let number = several_refusal(ticket);
-    if number != 0 {
-        return refused_ticket(number, ticket);
+    match several_refusal(ticket) {
+        Ok(()) => at_primes(ticket),
+        Err(refusal) => refused_ticket(refusal, ticket),
     }
-    at_primes(ticket)
 }

@@ -4,12 +4,13 @@
 
 pub use base_counters::{Distance, Index};
 pub use base_polynomial::Poly;
+pub use base_refusals::Refusal;
 pub use call_lookup::lookup;
 pub use call_regulator::{Answer, regulator};
 pub use walk_outcome::Outcome;
 
 pub mod regulators {
-    pub use call_regulators::{AtPrime, SeveralAnswer, regulators};
+    pub use call_regulators::{SeveralAnswer, regulators};
 }
 
 pub mod half {
@@ -25,17 +26,17 @@ pub mod listing {
 }
 
 pub mod product {
-    pub use call_product::{ProductAnswer, product};
+    pub use call_product::{IdealProduct, ProductAnswer, product};
 }
 
 pub mod giant_step {
-    pub use call_giant_step::{GiantStepAnswer, giant_step};
+    pub use call_giant_step::{GiantStep, GiantStepAnswer, giant_step};
 }
 
 pub mod at_distance {
-    pub use call_ideal_at::{IdealAtAnswer, ideal_at};
+    pub use call_ideal_at::{IdealAt, IdealAtAnswer, ideal_at};
 }
 
 pub mod estimate {
-    pub use call_estimate::{EstimateAnswer, estimate};
+    pub use call_estimate::{EstimateAnswer, Estimated, estimate};
 }

@@ -1,8 +1,7 @@
 // The call `ideal_at`: its polynomials go into lent arrays of 129 numbers, with their sizes in the answer.
 ghost use Rattle.std.specs.Prelude.{◌≡◌, length};
 ghost use Rattle.spec_ideal_at.specs.Halving.{ideal_at_answer};
-ghost use Rattle.call_ideal_at.specs.IdealsAt.{IdealAtSays};
-ghost use Rattle.out_polynomials.specs.Lent.{ideal_at_in};
+ghost use Rattle.out_polynomials.specs.IdealsAt.{IdealAtWritten};
 
 use base_counters::Distance;
 use engine::at_distance::ideal_at;
@@ -17,7 +16,7 @@ pub extern "C" fn foskadoin_ideal_at(
     p: &mut [u32; 129],
 ) -> IdealNumbers
     ensures words { result.words ≡ length ticket.now }
-    ensures says { IdealAtSays (ideal_at_in result q.new p.new) (ideal_at_answer ticket.now y) }
+    ensures says { IdealAtWritten result q.new p.new (ideal_at_answer ticket.now y) }
 {
     let a = ideal_at(ticket, Distance(y));
     put_ideal_at(a, q, p)

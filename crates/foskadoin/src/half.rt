@@ -15,6 +15,5 @@ pub extern "C" fn foskadoin_half(ticket: &[u32]) -> Numbers
     ensures says { Plain (half_answer ticket.now) result.number result.first result.second result.third }
     ensures least { LeastHalfPlain ticket.now result.number result.first result.second }
 {
-    let a = half(ticket);
-    half_numbers(a)
+    half_numbers(half(ticket))
 }

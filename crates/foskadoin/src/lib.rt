@@ -22,7 +22,7 @@ use call_lookup::place;
 use engine::listing::listing;
 use engine::regulator;
 use engine::unit::unit;
-use out_numbers::{Numbers, Part, as_numbers, as_part};
+use out_numbers::{Numbers, Part};
 
 // The regulator of a ticket.
 #[unsafe(no_mangle)]
@@ -31,8 +31,7 @@ pub extern "C" fn foskadoin_regulator(ticket: &[u32]) -> Numbers
     ensures says { Plain (regulator_of ticket.now) result.number result.first result.second result.third }
     ensures least { LeastPlain ticket.now result.number result.first result.second result.third }
 {
-    let a = regulator(ticket);
-    as_numbers(a)
+    regulator(ticket).into()
 }
 
 // The unit of a ticket, in four lent lists.
@@ -49,8 +48,7 @@ pub extern "C" fn foskadoin_unit(
     ensures lists { lists p.new s.new x.new y.new ≡ (unit_answer ticket.now (lists p.old s.old x.old y.old)).lists }
     ensures least { LeastInLists ticket.now (lists p.new s.new x.new y.new) result.number result.first result.second result.third }
 {
-    let a = unit(ticket, p, s, x, y);
-    as_numbers(a)
+    unit(ticket, p, s, x, y).into()
 }
 
 // The listing of a ticket, in a lent list.
@@ -61,8 +59,7 @@ pub extern "C" fn foskadoin_listing(ticket: &[u32], out: &mut [u32]) -> Numbers
     ensures list { out.new ≡ (listing_answer ticket.now out.old).list }
     ensures least { LeastPlain ticket.now result.number result.first result.second result.third }
 {
-    let a = listing(ticket, out);
-    as_numbers(a)
+    listing(ticket, out).into()
 }
 
 // Where in the list the record with the largest distance at most y stands: refusal 8 is the empty part at the
@@ -72,6 +69,5 @@ pub extern "C" fn foskadoin_lookup(list: &[u32], n: u64, y: u64) -> Part
     ensures offset { result.offset ≡ place_of list.now n y }
     ensures length { result.length ≡ length (lookup_of list.now n y) }
 {
-    let part = place(list, n, Distance(y));
-    as_part(part)
+    place(list, n, Distance(y)).into()
 }

@@ -2,9 +2,9 @@
 // sizes in the answer.
 ghost use Rattle.std.specs.Prelude.{◌≡◌, length};
 ghost use Rattle.spec_definitions.specs.Products.{product_answer, giant_answer};
-ghost use Rattle.call_product.specs.Products.{ProductSays, pair_of};
-ghost use Rattle.call_giant_step.specs.GiantSteps.{GiantStepSays};
-ghost use Rattle.out_polynomials.specs.Lent.{product_in, giant_step_in};
+ghost use Rattle.call_product.specs.Products.{pair_of};
+ghost use Rattle.out_polynomials.specs.GiantSteps.{GiantStepWritten};
+ghost use Rattle.out_polynomials.specs.Products.{ProductWritten};
 
 use base_counters::Distance;
 use engine::giant_step::giant_step;
@@ -24,7 +24,7 @@ pub extern "C" fn foskadoin_product(
     p: &mut [u32; 129],
 ) -> ProductNumbers
     ensures words { result.words ≡ length ticket.now }
-    ensures says { ProductSays (product_in result s.new q.new p.new) (product_answer ticket.now (pair_of q1.now p1.now) (pair_of q2.now p2.now)) }
+    ensures says { ProductWritten result s.new q.new p.new (product_answer ticket.now (pair_of q1.now p1.now) (pair_of q2.now p2.now)) }
 {
     let a = product(ticket, q1, p1, q2, p2);
     put_product(a, s, q, p)
@@ -44,7 +44,7 @@ pub extern "C" fn foskadoin_giant_step(
     p: &mut [u32; 129],
 ) -> GiantStepNumbers
     ensures words { result.words ≡ length ticket.now }
-    ensures says { GiantStepSays (giant_step_in result q.new p.new) (giant_answer ticket.now (pair_of q1.now p1.now) d1 (pair_of q2.now p2.now) d2) }
+    ensures says { GiantStepWritten result q.new p.new (giant_answer ticket.now (pair_of q1.now p1.now) d1 (pair_of q2.now p2.now) d2) }
 {
     let a = giant_step(ticket, q1, p1, Distance(d1), q2, p2, Distance(d2));
     put_giant_step(a, q, p)

@@ -14,6 +14,5 @@ pub extern "C" fn foskadoin_regulators(ticket: &[u32], out: &mut [u64; 64]) -> S
     ensures says { out.new ≡ plain_places (several_answer ticket.now).says }
     ensures least { LeastPlaces ticket.now result.count out.new }
 {
-    let a = regulators(ticket);
-    put_outcomes(a, out)
+    put_outcomes(&regulators(ticket), out)
 }

@@ -3,154 +3,71 @@
 // without recursion, so that the depth of the stack does not grow with y.
 #![tactic(auto)]
 
-ghost use Rattle.std.specs.Prelude.{◌≡◌, ◌/◌, ◌^◌, ◌≤◌};
-ghost use Rattle.spec_arithmetic.specs.Polynomials.{pad, add as add_of};
-ghost use Rattle.spec_definitions.specs.Ticket.{genus};
+ghost use Rattle.std.specs.Prelude.{◌≡◌, ◌/◌, ◌^◌, ◌≤◌, [], ◌∷◌};
 ghost use Rattle.spec_definitions.specs.Products.{farthest};
-ghost use Rattle.spec_laws.specs.Admitted.{Admitted};
-ghost use Rattle.base_field.specs.Named.{name, ops, IsField};
-ghost use Rattle.base_polynomial.specs.Record.{poly, Held};
-ghost use Rattle.walk_state.specs.State.{root_d};
+ghost use Rattle.base_polynomial.specs.Whole.{Holds};
 ghost use Rattle.ideal_climb.specs.Located.{IsLast};
 
 use base_counters::Distance;
-use base_field::Field;
-use base_polynomial::linear::add_places;
-use ideal_climb::{Located, climb};
+use base_polynomial::Poly;
+use base_surd::Surd;
+use ideal_climb::climb;
+use ideal_descend::root::Root;
 use ideal_giant::step::giant;
-use ideal_reduce::root_of;
+use ideal_operand::Ideal;
 
 // How many binary digits y has.
 fn digits(y: Distance) -> u32
     requires { y.0 ≤ farthest }
     ensures { (y.0 / 2 ^ result ≡ 0) × (result ≤ 41) }
 {
-    let mut k: u32 = 0;
-    while y.0 >> k != 0 {
-        k += 1;
-    }
-    k
+    64 - y.0.leading_zeros()
 }
 
-// q and p become the first ideal of the walk, Q = 1 and P = 0, at the distance 0. D is the radicand, of degree n, with
-// l places.
-fn first(
-    f: Field,
-    n: usize,
-    radicand: &[u32; 129],
-    l: usize,
-    q: &mut [u32; 129],
-    p: &mut [u32; 129],
-) -> Located
-    requires { IsField f × Admitted (name f) (genus n) (poly radicand.now l) }
-    ensures { IsLast (name f) n (poly radicand.now l) 0 q.new p.new result }
+// z becomes the first ideal of the walk, Q = 1 and P = 0.
+fn first(z: &mut Ideal)
+    ensures { Holds z.new.q (1 ∷ []) × Holds z.new.p [] }
 {
-    *q = [0u32; 129];
-    q[0] = 1;
-    *p = [0u32; 129];
-    Located {
-        q: 1,
-        p: 0,
-        distance: Distance(0),
-    }
+    z.q = Poly::zero();
+    z.q.c[0] = 1;
+    z.q.size = 1;
+    z.p = Poly::zero();
 }
 
-// q and p become the last ideal at a distance of at most y, from the last one for y div 2, which they hold: a giant step
-// with itself, then single steps. D is the radicand, of degree n, with l places, d its root, and `twice` is 2d.
-fn from_half(
-    f: Field,
-    n: usize,
-    radicand: &[u32; 129],
-    l: usize,
-    d: &[u32; 129],
-    twice: &[u32; 129],
-    q: &mut [u32; 129],
-    p: &mut [u32; 129],
-    at: Located,
-    y: Distance,
-) -> Located
-    requires field { IsField f × Admitted (name f) (genus n) (poly radicand.now l) × Held (name f) radicand.now l × (2 ≤ n) }
-    requires d_value { d.now ≡ pad (ops f) 129 (root_d (name f) (genus n) (poly radicand.now l)) }
-    requires twice_value { twice.now ≡ pad (ops f) 129 (add_of (ops f) (root_d (name f) (genus n) (poly radicand.now l)) (root_d (name f) (genus n) (poly radicand.now l))) }
-    requires last { IsLast (name f) n (poly radicand.now l) (y.0 / 2) q.old p.old at }
+// z becomes the last ideal at a distance of at most y, from the last one for y div 2, which it holds, at the distance
+// `at`: a giant step with itself, then single steps. The distance of z.
+fn from_half(r: &Root, z: &mut Ideal, at: Distance, y: Distance) -> Distance
+    requires last { IsLast r.now.surd (y.0 / 2) z.old at }
     requires y_le_farthest { y.0 ≤ farthest }
-    ensures { IsLast (name f) n (poly radicand.now l) y.0 q.new p.new result }
+    ensures { IsLast r.now.surd y.0 z.new result }
 {
-    let mut a = [0u32; 129];
-    let mut b = [0u32; 129];
-    let t = giant(
-        f,
-        n,
-        radicand,
-        l,
-        d,
-        q,
-        at.q,
-        p,
-        at.p,
-        at.distance,
-        q,
-        at.q,
-        p,
-        at.p,
-        at.distance,
-        &mut a,
-        &mut b,
-    );
-    let landed = Located {
-        q: t.q,
-        p: t.p,
-        distance: Distance(t.distance as u64),
+    let mut a = Ideal {
+        q: Poly::zero(),
+        p: Poly::zero(),
     };
-    climb(f, n, radicand, l, d, twice, &mut a, &b, landed, y, q, p)
+    let t = giant(r, z, at, z, at, &mut a);
+    climb(r, &mut a, Distance(t.distance as u64), y, z)
 }
 
-// q and p become the last ideal at a distance of at most y: the digits of y come one after the other, from the first
-// on, and with each the ideal for the number of the digits so far.
-fn halving(
-    f: Field,
-    n: usize,
-    radicand: &[u32; 129],
-    l: usize,
-    d: &[u32; 129],
-    twice: &[u32; 129],
-    y: Distance,
-    q: &mut [u32; 129],
-    p: &mut [u32; 129],
-) -> Located
-    requires field { IsField f × Admitted (name f) (genus n) (poly radicand.now l) × Held (name f) radicand.now l × (2 ≤ n) }
-    requires d_value { d.now ≡ pad (ops f) 129 (root_d (name f) (genus n) (poly radicand.now l)) }
-    requires twice_value { twice.now ≡ pad (ops f) 129 (add_of (ops f) (root_d (name f) (genus n) (poly radicand.now l)) (root_d (name f) (genus n) (poly radicand.now l))) }
-    requires y_le_farthest { y.0 ≤ farthest }
-    ensures { IsLast (name f) n (poly radicand.now l) y.0 q.new p.new result }
+// z becomes the last ideal at a distance of at most y: the digits of y come one after the other, from the first on, and
+// with each the ideal for the number of the digits so far. The distance of z.
+fn halving(r: &Root, y: Distance, z: &mut Ideal) -> Distance
+    requires { y.0 ≤ farthest }
+    ensures { IsLast r.now.surd y.0 z.new result }
 {
-    let mut at = first(f, n, radicand, l, q, p);
-    let mut k = digits(y);
-    while 0 < k {
-        k -= 1;
-        at = from_half(f, n, radicand, l, d, twice, q, p, at, Distance(y.0 >> k));
+    first(z);
+    let mut at = Distance(0);
+    for k in (0..digits(y)).rev() {
+        at = from_half(r, z, at, Distance(y.0 >> k));
     }
     at
 }
 
-// q and p become the last ideal of the endless walk at a distance of at most y, which is at most 2⁴⁰. D is the radicand,
-// of degree n, with l places.
-pub fn ideal_below(
-    f: Field,
-    n: usize,
-    radicand: &[u32; 129],
-    l: usize,
-    y: Distance,
-    q: &mut [u32; 129],
-    p: &mut [u32; 129],
-) -> Located
-    requires field { IsField f × Admitted (name f) (genus n) (poly radicand.now l) × Held (name f) radicand.now l × (2 ≤ n) }
-    requires y_le_farthest { y.0 ≤ farthest }
-    ensures { IsLast (name f) n (poly radicand.now l) y.0 q.new p.new result }
+// z becomes the last ideal of the endless walk at a distance of at most y, which is at most 2⁴⁰. The distance of z.
+pub fn ideal_below(s: &Surd, y: Distance, z: &mut Ideal) -> Distance
+    requires { y.0 ≤ farthest }
+    ensures { IsLast s.now y.0 z.new result }
 {
-    let mut d = [0u32; 129];
-    root_of(f, n, radicand, l, &mut d);
-    let mut twice = [0u32; 129];
-    add_places(f, &d, &d, n / 2 + 1, &mut twice);
-    halving(f, n, radicand, l, &d, &twice, y, q, p)
+    let r = Root::new(s);
+    halving(&r, y, z)
 }

@@ -23,7 +23,7 @@ use Rattle.spec_laws.specs.Reduction.{Q_size, Q_deg}
 use Rattle.spec_laws.specs.ReductionSizes.{Q_trim, Q_oks, Q_most, norm_most}
 use Rattle.base_polynomial.specs.Result.{Result, result}
 use Rattle.base_polynomial.specs.Pad.{at_pad}
-use Rattle.base_polynomial.specs.Places.{Within}
+use Rattle.base_places.specs.Places.{Within}
 use Rattle.walk_step.specs.Step.{step_quo, next_rem, next_q, Ready, Stepped}
 use Rattle.walk_state.specs.State.{root_d, pad_within, pad_series}
 use Rattle.ideal_operand.specs.Operand.{K, M, I}

@@ -1,5 +1,5 @@
 -- The proofs of specs/Turn.
-use Rattle.std.specs.Prelude.{ℕ, suc, ◌+◌, ◌-◌, ◌≤◌, ◌<◌, ◌≡◌, get_or}
+use Rattle.std.specs.Prelude.{ℕ, suc, ◌+◌, ◌-◌, ◌/◌, ◌≤◌, ◌<◌, ◌≡◌, get_or}
 use native.Mathlib.Omega.{arith}
 use Rattle.std.proofs.Common.{sym, ap₂, ◌∙◌, ⊎_elim}
 use Rattle.std.proofs.Math.Path.{ap, subst}
@@ -10,7 +10,7 @@ use Rattle.math_surd.specs.Step.{State}
 use Rattle.math_ideals.specs.Steps.{shift_most, height_more, degree_sum_lem}
 use Rattle.spec_arithmetic.specs.Field.{FieldName, ops}
 use Rattle.spec_arithmetic.specs.Polynomials.{trim, pad, size, deg, monic, add, sub, rem}
-use Rattle.spec_definitions.specs.Walk.{Ideal, steps}
+use Rattle.spec_definitions.specs.Walk.{Ideal as Pair, steps}
 use Rattle.spec_definitions.specs.Products.{turns_of, degree_sum}
 use Rattle.spec_bridge.specs.Model.{series}
 use Rattle.spec_bridge.specs.Arithmetic.{sub_cong}
@@ -21,29 +21,33 @@ use Rattle.spec_laws.specs.Pairs.{cofactor_at, ideal_state}
 use Rattle.spec_laws.specs.Walk.{d_length}
 use Rattle.spec_laws.specs.Reduction.{Q_size, degree_sum_is, sequence, size_falls, turns_unique}
 use Rattle.spec_laws.specs.ReductionSizes.{sum_most}
-use Rattle.base_polynomial.specs.Record.{poly, Held, Is}
-use Rattle.base_polynomial.specs.Places.{Within}
+use Rattle.base_places.specs.Places.{Within}
+use Rattle.base_polynomial.specs.declared.Poly.{Poly}
+use Rattle.base_polynomial.specs.Over.{poly, Held, Is}
 use Rattle.walk_step.specs.Step.{Ready, Stepped}
+use Rattle.walk_state.specs.Start.{half_degree}
 use Rattle.walk_state.specs.State.{root_d, pad_within}
+use Rattle.ideal_operand.specs.declared.Ideal.{Ideal}
 use Rattle.ideal_operand.specs.Operand.{K, M, I}
-use Rattle.ideal_descend.specs.declared.Reduced.{Reduced}
+use Rattle.ideal_descend.specs.declared.root.Root.{Root}
 use Rattle.ideal_descend.specs.declared.Stage.{Stage}
 use Rattle.ideal_descend.specs.Height.{Height}
 use Rattle.ideal_descend.proofs.HeightLaws.{height_length}
 use Rattle.ideal_descend.specs.Recurrence.{left}
 use Rattle.ideal_descend.proofs.Recurrence.{dividend, height_size}
+use Rattle.ideal_descend.specs.Root.{name, g, D, root, top}
 use Rattle.ideal_descend.specs.Stands.{Stands, Begun}
 use Rattle.ideal_descend.proofs.Stands.{start_q, start_p, q_same, left_less, padded_series, padded_at, twice_within, twice_series, q_some, left_short, rest_reduced, ready, stands_next, q_held, difference_is}
-use Rattle.ideal_descend.specs.Turn.{At, Going, Rooted, Taken, Reduces}
+use Rattle.ideal_descend.specs.Turn.{At, Going, Taken, Reduces}
 
-module _ {f : FieldName} {g : ℕ} {D : List ℕ} {h : Admitted f g D} {x : Ideal ℕ} (b : Begun h x) where
+module _ {f : FieldName} {g : ℕ} {D : List ℕ} {h : Admitted f g D} {x : Pair ℕ} (b : Begun h x) where
   abbrev d : List ℕ
   d = root_d f g D
 
   abbrev twice : List ℕ
   twice = add (ops f) d d
 
-  abbrev pair : ℕ → Ideal ℕ
+  abbrev pair : ℕ → Pair ℕ
   pair = steps (ops f) D d x
 
   abbrev l : ℕ → List ℕ
@@ -148,46 +152,64 @@ module _ {f : FieldName} {g : ℕ} {D : List ℕ} {h : Admitted f g D} {x : Idea
             rest_past = λ i p y. sym (e.past i p) ∙ (twice_within b twice_is (suc (suc g)) (omega arith) (let v = h.genus_most in omega arith)).past i y;
           }
 
-    -- ---- where the degree is at most g, with P_k = d − rest in a record
-    module _ (low : m ≤ suc g) where
-      turns_are : turns_of (ops f) D d g x ≡ j
-      turns_are = turns_unique (surd_of h) x st j (let w = q_same b j in let z = t.stands.size_is in omega arith) t.above
+-- d in its array
+pub root_within : (r : Root) (n : ℕ) → top r ≤ n → n ≤ 129 → Within (name r) r.d n
+root_within r n e w = subst (λ (c : List ℕ). Within (name r) c n) (sym r.d_is) (pad_within r.surd.field.q _ n (let a = d_length (surd_of r.surd.admitted) in omega arith) w (surd_of r.surd.admitted).reduced)
 
-      module _ {e : List ℕ} (root_is : e ≡ pad (ops f) 129 d) where
-        monic_length : length (monic (ops f) (pair j).q) ≡ m
-        monic_length = let w = length_monic (M h) (I h) (pair j).q in let v = q_same b j in let z = t.stands.size_is in omega arith
+-- ---- where the reduction stands
+module _ {r : Root} {before_poly current : Poly} {rest : List ℕ} {at : Stage} (t : Going r before_poly current rest at) where
+  abbrev f' : FieldName
+  f' = name r
 
-        pub reduces : {q p : List ℕ} {s : Reduced} → Is f q s.q (monic (ops f) (poly k m)) → Is f p s.p (rem (ops f) (sub (ops f) e r) (monic (ops f) (poly k m))) → s.sum ≡ sum → Reduces f g D x q p s
-        unfolding deg size
-        reduces {q} {p} {s} q_is p_is sum_is =
-            let size_is : s.q ≡ m = q_is.size_is ∙ ap (λ (v : List ℕ). length (monic (ops f) v)) (q_held b t.stands).is ∙ monic_length in
-            record {
-              q_is = subst (λ (n : ℕ). Is f q s.q (monic (ops f) (pair n).q)) (sym turns_are) (subst (Is f q s.q) (ap (monic (ops f)) (q_held b t.stands).is) q_is);
-              p_is = subst (λ (n : ℕ). Is f p s.p (rem (ops f) (pair n).p (monic (ops f) (pair n).q))) (sym turns_are) (subst (Is f p s.p) (ap₂ (rem (ops f)) (difference_is b t.stands root_is) (ap (monic (ops f)) (q_held b t.stands).is)) p_is);
-              sum_is = sum_is ∙ t.sum_is ∙ ap (degree_sum (ops f) D d g x) (sym turns_are);
-              degree_is = ap (λ (n : ℕ). length (trim (ops f) (pair n).q) - 1) turns_are ∙ (let w = q_same b j in let z = t.stands.size_is in omega arith);
-              some = let w = q_some b t.stands in omega arith;
-              most = let w = sum_at_most in omega arith;
-            }
+  abbrev h' : Admitted f' (g r) (D r)
+  h' = r.surd.admitted
 
--- ---- a step
-module _ {f : FieldName} {h : ℕ} {twice before_array current rest : List ℕ} {at : Stage} (t : Going f h twice before_array current rest at) where
-  pub going_held : Held f current at.size
+  abbrev j' : ℕ
+  j' = t.stands.index
+
+  abbrev half : r.surd.n / 2 ≡ suc (g r)
+  half = half_degree r.surd.n r.surd.degree_two
+
+  pub going_held : Held f' current
   going_held = (q_held t.begun t.stands.stands).held
 
-  pub root_within : {d : List ℕ} → Rooted t d → Within f d (h + 1)
-  root_within e = subst (λ (c : List ℕ). Within f c (h + 1)) (sym e) (pad_within f.q _ (h + 1) (let a = d_length (surd_of t.admitted) in let b = t.half in omega arith) (let a = t.admitted.genus_most in let b = t.half in omega arith) (surd_of t.admitted).reduced)
+  pub going_some : 0 < current.size
+  going_some = q_some t.begun t.stands.stands
 
-  module _ (high : h < at.size) {remains after : List ℕ} {to : Stage} (u : Taken f twice before_array current rest remains after at to) where
-    above : suc t.g < at.size
-    above = let e = t.half in omega arith
+  -- ---- the degree is at most g, with P_k = d − rest
+  module _ (low : current.size ≤ r.surd.n / 2) where
+    turns_are : turns_of (ops f') (D r) (root r) (g r) t.x ≡ j'
+    turns_are = turns_unique (surd_of h') t.x (st t.begun) j' (let w = q_same t.begun j' in let z = t.stands.stands.size_is in let e = half in omega arith) t.stands.above
 
-    pub going_less : to.size < at.size
-    going_less = size_less t.begun t.stands t.twice_is above u.stepped
+    monic_length : length (monic (ops f') (pair t.begun j').q) ≡ current.size
+    monic_length = let w = length_monic (M h') (I h') (pair t.begun j').q in let v = q_same t.begun j' in let z = t.stands.stands.size_is in omega arith
 
-    pub taken_next : At f t.g t.D t.x current after remains to.size to.top to.sum
-    taken_next = subst (λ (n : ℕ). At f t.g t.D t.x current after remains to.size to.top n) (sym u.sum_is) (at_next t.begun t.stands t.twice_is above u.stepped u.height)
+    pub reduces : {z : Ideal} → Is f' z.q (monic (ops f') (poly current)) → Is f' z.p (rem (ops f') (sub (ops f') r.d rest) (monic (ops f') (poly current))) → {sum : ℕ} → sum ≡ at.sum → Reduces r.surd t.x z sum
+    unfolding deg size
+    reduces {z} q_is p_is sum_is =
+        let is = (q_held t.begun t.stands.stands).is in
+        let size_is : z.q.size ≡ current.size = q_is.size_is ∙ ap (λ (v : List ℕ). length (monic (ops f') v)) is ∙ monic_length in
+        record {
+          q_is = subst (λ (n : ℕ). Is f' z.q (monic (ops f') (pair t.begun n).q)) (sym turns_are) (subst (Is f' z.q) (ap (monic (ops f')) is) q_is);
+          p_is = subst (λ (n : ℕ). Is f' z.p (rem (ops f') (pair t.begun n).p (monic (ops f') (pair t.begun n).q))) (sym turns_are) (subst (Is f' z.p) (ap₂ (rem (ops f')) (difference_is t.begun t.stands.stands r.d_is) (ap (monic (ops f')) is)) p_is);
+          sum_is = sum_is ∙ t.stands.sum_is ∙ ap (degree_sum (ops f') (D r) (root r) (g r) t.x) (sym turns_are);
+          degree_is = ap (λ (n : ℕ). length (trim (ops f') (pair t.begun n).q) - 1) turns_are ∙ (let w = q_same t.begun j' in let z = t.stands.stands.size_is in omega arith);
+          some = let w = going_some in omega arith;
+          most = let w = sum_at_most t.begun t.stands in omega arith;
+        }
 
-    -- the reduction of the same ideal, at the next index
-    unfoldable pub going_next : Going f h twice current after remains to
-    going_next = record { g = t.g; D = t.D; x = t.x; half = t.half; admitted = t.admitted; begun = t.begun; twice_is = t.twice_is; stands = taken_next }
+  -- ---- a step
+  module _ (high : r.surd.n / 2 < current.size) where
+    pub above : suc (g r) < current.size
+    above = let e = half in omega arith
+
+    module _ {remains : List ℕ} {after : Poly} {to : Stage} (u : Taken r before_poly current rest remains after at to) where
+      pub going_less : after.size < current.size
+      going_less = size_less t.begun t.stands r.twice_is above u.stepped
+
+      pub taken_next : At f' (g r) (D r) t.x current.c after.c remains after.size to.top to.sum
+      taken_next = subst (λ (n : ℕ). At f' (g r) (D r) t.x current.c after.c remains after.size to.top n) (sym u.sum_is) (at_next t.begun t.stands r.twice_is above u.stepped u.height)
+
+      -- the reduction of the same ideal, at the next index
+      unfoldable pub going_next : Going r current after remains to
+      going_next = record { x = t.x; begun = t.begun; stands = taken_next }

@@ -1,4 +1,5 @@
 pub mod Height
 pub mod Recurrence
+pub mod Root
 pub mod Stands
 pub mod Turn

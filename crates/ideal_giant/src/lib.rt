@@ -7,11 +7,9 @@ pub mod step;
 // The largest distance that a giant step takes: 2⁴⁰.
 pub const FARTHEST: u64 = 1099511627776;
 
-// The sizes of Q and P of the reduced ideal, f and the distance.
+// f, and the distance that the giant step comes to.
 #[derive(Clone, Copy)]
-pub struct Giant {
-    pub q: usize,
-    pub p: usize,
+pub struct Shift {
     pub f: i64,
     pub distance: i64,
 }

@@ -1,3 +1,4 @@
+pub mod Ideal
 pub mod Operand
 pub mod Product
 pub mod Difference

@@ -5,7 +5,7 @@ use Rattle.std.proofs.Math.Path.{ap}
 use Rattle.std.proofs.Math.Bool.{true, false}
 use Rattle.std.proofs.lemmas.Bool.{lt-leb}
 use Rattle.math_ring.specs.Order.{le_or_lt}
-use Rattle.base_polynomial.specs.Places.{Filled, zeros, length_zeros, at_zeros}
+use Rattle.base_places.specs.Places.{Filled, zeros, length_zeros, at_zeros}
 
 unfoldable pub upper : ℕ → (ℕ → ℕ) → ℕ → ℕ
 upper from g i = elim (leb from i) [ true ↦ g i | false ↦ 0 ]

@@ -1,19 +1,14 @@
-// What a product asks of each of its two ideals and what its result is; (D − P²)/Q of an ideal.
+// An ideal, as products take and give it, what a product asks of each of its two ideals, and (D − P²)/Q of an ideal.
 #![tactic(auto)]
 
 pub mod cofactor;
 
-// The sizes of Q and P.
-#[derive(Clone, Copy)]
-pub struct PairSizes {
-    pub q: usize,
-    pub p: usize,
-}
+use base_polynomial::Poly;
 
-// The sizes of S, Q and P.
+// An ideal (Q, P): Q, its norm, divides D − P².
+// Invariant (`Operand`): it stands for a pair that passes the test of refusal 9.
 #[derive(Clone, Copy)]
-pub struct ProductSizes {
-    pub s: usize,
-    pub q: usize,
-    pub p: usize,
+pub struct Ideal {
+    pub q: Poly,
+    pub p: Poly,
 }

@@ -7,7 +7,7 @@ use Rattle.math_ring.specs.Series.{Series}
 use Rattle.math_algebra.specs.Field.{Field}
 use Rattle.math_algebra.specs.Polynomial.{F, Px}
 use Rattle.spec_arithmetic.specs.Field.{Ops}
-use Rattle.spec_arithmetic.specs.Polynomials.{add, mul, quo, rem}
+use Rattle.spec_arithmetic.specs.Polynomials.{quo, rem}
 use Rattle.spec_definitions.specs.Walk.{Ideal}
 use Rattle.spec_bridge.specs.Model.{Model, Inverts, series}
 use Rattle.spec_bridge.specs.Trim.{series_ext}
@@ -15,7 +15,6 @@ use Rattle.spec_bridge.specs.Arithmetic.{trim_add, oks_add, trim_sub, oks_sub, s
 use Rattle.spec_laws.specs.Pairs.{IsIdeal, cofactor_at}
 use Rattle.spec_laws.specs.Product.{common_of, product_q, unreduced_p, product_p}
 use Rattle.ideal_shared.specs.Laws.{turned_p}
-use Rattle.ideal_shared.specs.Laws as defs
 
 module _ {A B : Type 0} {o : Ops A} (K : Field B) (M : Model o (F K)) (I : Inverts M) (D : List A) {x y : Ideal A} (hx : IsIdeal K M D x) (hy : IsIdeal K M D y) where
   open Series (F K) use {add as ◌+◌, mul as ◌*◌, neg as -◌, one as 𝟙}

@@ -1,5 +1,5 @@
 -- How long the results of calls on polynomials are: sums and Bezout's first factor.
-use Rattle.std.specs.Prelude.{ℕ, ◌≤◌, ◌<◌, List}
+use Rattle.std.specs.Prelude.{ℕ, ◌≤◌, ◌<◌}
 use Rattle.std.proofs.Common.{arith, ⊎_elim}
 use Rattle.math_ring.specs.Order.{le_or_lt}
 use Rattle.spec_arithmetic.specs.Field.{FieldName, ops}
@@ -9,20 +9,24 @@ use Rattle.spec_bridge.specs.Lengths.{length_add}
 use Rattle.spec_bridge.specs.BezoutLength.{bezout_u_length, bezout_u_constant}
 use Rattle.spec_bridge.specs.Prime.{Prime}
 use Rattle.spec_bridge.specs.Residues.{model, inverts}
-use Rattle.base_polynomial.specs.Record.{poly, Held, Is}
-use Rattle.base_polynomial.specs.Held.{held_positive}
-use Rattle.base_polynomial.specs.Result.{held_size}
+use Rattle.base_polynomial.specs.declared.Poly.{Poly}
+use Rattle.base_polynomial.specs.Over.{poly, Held, Is, held_positive, held_size}
 
-module _ {f : FieldName} {a : List ℕ} {m : ℕ} (ha : Held f a m) {b : List ℕ} {n : ℕ} (hb : Held f b n) where
+module _ {f : FieldName} (a b : Poly) (held_a : Held f a) (held_b : Held f b) (z : Poly) (k : ℕ) where
   pos : 0 < f.q
-  pos = held_positive f.q a m ha
+  pos = held_positive {a = a} held_a
 
-  pub size_add : {c : List ℕ} {size : ℕ} (k : ℕ) → m ≤ k → n ≤ k → Is f c size (add (ops f) (poly a m) (poly b n)) → size ≤ k
-  size_add k h l r = let x = held_size f.q a m ha in let y = held_size f.q b n hb in let e = r.size_is in let w = length_add (model f.q pos) (poly a m) (poly b n) k (omega arith) (omega arith) in omega arith
+  pub size_add : Is f z (add (ops f) (poly a) (poly b)) → a.size ≤ k → b.size ≤ k → z.size ≤ k
+  size_add r h l =
+      let x = held_size {a = a} held_a in
+      let y = held_size {a = b} held_b in
+      let e = r.size_is in
+      let w = length_add (model f.q pos) (poly a) (poly b) k (omega arith) (omega arith) in
+      omega arith
 
   -- the first factor is shorter than the second polynomial, or a constant
-  pub size_u : {c : List ℕ} {size : ℕ} → Prime f.q → (k : ℕ) → 1 ≤ k → n ≤ k → Is f c size (bezout (ops f) (poly a m) (poly b n)).u → size ≤ k
-  size_u p k h l r =
-      let y = held_size f.q b n hb in
+  pub size_u : Prime f.q → Is f z (bezout (ops f) (poly a) (poly b)).u → 1 ≤ k → b.size ≤ k → z.size ≤ k
+  size_u p r h l =
+      let y = held_size {a = b} held_b in
       let e = r.size_is in
-      ⊎_elim (λ w. let t = bezout_u_length (model f.q pos) (inverts f.q pos p) (poly a m) (poly b n) (omega arith) in omega arith) (λ w. let t = bezout_u_constant (model f.q pos) (inverts f.q pos p) (poly a m) (poly b n) (trim_nil (model f.q pos) (poly b n) (omega arith)) in omega arith) (le_or_lt 1 n)
+      ⊎_elim (λ w. let t = bezout_u_length (model f.q pos) (inverts f.q pos p) (poly a) (poly b) (omega arith) in omega arith) (λ w. let t = bezout_u_constant (model f.q pos) (inverts f.q pos p) (poly a) (poly b) (trim_nil (model f.q pos) (poly b) (omega arith)) in omega arith) (le_or_lt 1 b.size)

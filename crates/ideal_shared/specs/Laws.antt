@@ -8,7 +8,7 @@ use Rattle.math_algebra.specs.Field.{Field}
 use Rattle.math_algebra.specs.Polynomial.{F, Px, Deg, deg_mul, deg_path, monic_deg}
 use Rattle.math_algebra.specs.Finite.{Finite, finite_mul}
 use Rattle.spec_arithmetic.specs.Field.{Ops}
-use Rattle.spec_arithmetic.specs.Polynomials.{add, sub, mul, quo, rem}
+use Rattle.spec_arithmetic.specs.Polynomials.{sub, mul, quo, rem}
 use Rattle.spec_definitions.specs.Walk.{Ideal}
 use Rattle.spec_bridge.specs.Model.{Model, Inverts, series, series_nil}
 use Rattle.spec_bridge.specs.Trim.{below_length, series_ext}

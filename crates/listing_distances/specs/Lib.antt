@@ -1,2 +1,3 @@
-pub mod Rising
+pub mod Distances
+pub mod Back
 pub mod Search

@@ -1,52 +1,41 @@
 // The distances of a listing: that they rise, and the last one within a distance.
 #![tactic(auto)]
 
-ghost use Rattle.std.specs.Prelude.{◌≡◌, ◌+◌, ◌*◌, ◌-◌, ◌<◌, length};
+ghost use Rattle.std.specs.Prelude.{◌≡◌, ◌+◌, ◌*◌, ◌-◌, ◌<◌, ◌≤◌, length};
 ghost use Rattle.spec_definitions.specs.Lookup.{rising, last_within, record_count};
-ghost use Rattle.listing_whole.specs.Records.{Records};
-ghost use Rattle.listing_distances.specs.Rising.{distance_from};
+ghost use Rattle.listing_distances.specs.Distances.{distance_of};
 
 use base_counters::Distance;
 use base_words::{joined, value};
+use listing_whole::Listing;
 
-// The distance in the record that starts at at.
-pub fn distance_at(list: &[u32], at: usize) -> Distance
-    requires { at + 2 < length list.now }
-    ensures { result.0 ≡ distance_from list.now at }
+// The distance in the words of a record.
+#[tactic(auto, unfolding(crate::specs::Distances::distance_of))]
+pub fn distance_of(record: &[u32]) -> Distance
+    requires { 2 < length record.now }
+    ensures { result.0 ≡ distance_of record.now }
 {
-    Distance(joined(value(list[at + 1]), value(list[at + 2])))
+    Distance(joined(value(record[1]), value(record[2])))
 }
 
 // Whether each distance is above the one before it.
-pub fn rising(list: &[u32], n: usize) -> bool
-    requires { Records list.now n }
-    ensures { result ≡ rising list.now n (record_count list.now n - 1) }
+pub fn rising(listing: Listing) -> bool
+    ensures { result ≡ rising listing.entry.words.now listing.entry.n (record_count listing.entry.words.now listing.entry.n - 1) }
 {
-    let mut at: usize = 0;
-    while at + (n + 4) < list.len() {
-        let next = distance_at(list, at + (n + 4));
-        let here = distance_at(list, at);
-        if next.0 <= here.0 {
-            return false;
-        }
-        at += n + 4;
-    }
-    true
+    listing
+        .words
+        .chunks_exact(listing.n + 4)
+        .is_sorted_by(|here, next| distance_of(here).0 < distance_of(next).0)
 }
 
-// Where the last record with distance at most y starts, in words: from the end down, to the first record at
-// 0.
-pub fn last_within(list: &[u32], n: usize, y: Distance) -> usize
-    requires { Records list.now n }
-    ensures { result ≡ last_within list.now n y.0 (record_count list.now n - 1) * (n + 4) }
+// The last record with distance at most y, counted from 0; the first where there is none.
+pub fn last_within(listing: Listing, y: Distance) -> usize
+    ensures last { result ≡ last_within listing.entry.words.now listing.entry.n y.0 (record_count listing.entry.words.now listing.entry.n - 1) }
+    ensures fits { result * (listing.entry.n + 4) + (listing.entry.n + 4) ≤ length listing.entry.words.now }
 {
-    let mut at: usize = list.len() - (n + 4);
-    while 0 < at {
-        let here = distance_at(list, at);
-        if here.0 <= y.0 {
-            return at;
-        }
-        at -= n + 4;
-    }
-    0
+    listing
+        .words
+        .chunks_exact(listing.n + 4)
+        .rposition(|record| distance_of(record).0 <= y.0)
+        .unwrap_or(0)
 }

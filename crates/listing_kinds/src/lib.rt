@@ -1,57 +1,49 @@
 // The kinds of a listing's words, record by record.
 #![tactic(auto)]
 
-ghost use Rattle.std.specs.Prelude.{◌≡◌, false, ◌+◌, ◌<◌, ◌≤◌, eqb, length, get_or};
+ghost use Rattle.std.specs.Prelude.{◌≡◌, ◌+◌, ◌<◌, false, get_or, length};
 ghost use Rattle.spec_definitions.specs.Ticket.{wrong_degree};
 ghost use Rattle.spec_definitions.specs.Lookup.{record_kinds, right_kinds, record_count};
-ghost use Rattle.listing_whole.specs.Records.{Records};
-ghost use Rattle.listing_kinds.specs.Kinds.{kinds_ok};
+ghost use Rattle.base_words.specs.WordKind.{number_of};
+ghost use Rattle.listing_kinds.specs.Kinds.{has_kinds};
 
-use base_words::kind;
+use base_words::{WordKind, kind};
+use listing_whole::Listing;
 
-// Whether a record's word j has the kind k.
-fn kind_ok(n: usize, j: usize, k: u32) -> bool
+// The kind of a record's word j: the index, the distance, the mirror, n / 2 coefficients of Q and one less of P.
+#[tactic(auto, unfolding(spec_definitions::specs::Lookup::record_kinds))]
+fn record_kind(n: usize, j: usize) -> WordKind
     requires { (wrong_degree n ≡ false) × (j < n + 4) }
-    ensures { result ≡ eqb k (get_or (record_kinds n) j 0) }
+    ensures { number_of result ≡ get_or (record_kinds n) j 0 }
 {
-    if j < 3 {
-        return k == 5 + j as u32;
+    match j {
+        0 => WordKind::Index,
+        1 => WordKind::DistanceHigh,
+        2 => WordKind::DistanceLow,
+        3 => WordKind::MirrorHigh,
+        4 => WordKind::MirrorLow,
+        5.. if j < 5 + n / 2 => WordKind::QCoefficient,
+        5.. => WordKind::PCoefficient,
     }
-    if j < 5 {
-        return k == 7 + j as u32;
-    }
-    if j < 5 + n / 2 {
-        return k == 8;
-    }
-    k == 9
 }
 
-// Whether the n + 4 words from at on have the kinds of a record.
-fn record_kinds_ok(list: &[u32], at: usize, n: usize) -> bool
-    requires { (wrong_degree n ≡ false) × (at + (n + 4) ≤ length list.now) }
-    ensures { result ≡ kinds_ok list.now n at }
+// Whether the words of a record have its kinds.
+fn record_kinds_ok(record: &[u32], n: usize) -> bool
+    requires { (wrong_degree n ≡ false) × (length record.now ≡ n + 4) }
+    ensures { result ≡ has_kinds record.now n }
 {
-    let mut j: usize = 0;
-    while j < n + 4 {
-        if !kind_ok(n, j, kind(list[at + j])) {
-            return false;
-        }
-        j += 1;
-    }
-    true
+    record
+        .iter()
+        .enumerate()
+        .all(|(j, &word)| kind(word) == u32::from(record_kind(n, j)))
 }
 
 // Whether every record has its kinds.
-pub fn kinds_ok(list: &[u32], n: usize) -> bool
-    requires { Records list.now n }
-    ensures { result ≡ right_kinds list.now n (record_count list.now n) }
+pub fn kinds_ok(listing: Listing) -> bool
+    ensures { result ≡ right_kinds listing.entry.words.now listing.entry.n (record_count listing.entry.words.now listing.entry.n) }
 {
-    let mut at: usize = 0;
-    while at < list.len() {
-        if !record_kinds_ok(list, at, n) {
-            return false;
-        }
-        at += n + 4;
-    }
-    true
+    listing
+        .words
+        .chunks_exact(listing.n + 4)
+        .all(|record| record_kinds_ok(record, listing.n))
 }

@@ -1,46 +1,42 @@
-// One record of a listing: its ideal and its mirror, written at its place.
+// One record of a listing: its ideal and its mirror, written as the record's words.
 #![tactic(auto)]
 
 pub mod ideal;
 
-ghost use Rattle.std.specs.Prelude.{◌≡◌, ◌+◌, ◌/◌, ◌<◌, ◌≤◌, length};
+ghost use Rattle.std.specs.Prelude.{◌≡◌, ◌+◌, ◌<◌, ◌≤◌, length};
 ghost use Rattle.spec_definitions.specs.Ticket.{budgets, degrees};
-ghost use Rattle.base_field.specs.Named.{IsField, name};
-ghost use Rattle.base_polynomial.specs.Places.{Within};
-ghost use Rattle.base_polynomial.specs.Record.{Held};
+ghost use Rattle.base_places.specs.Places.{Within};
+ghost use Rattle.base_polynomial.specs.Whole.{Held};
+ghost use Rattle.walk_state.specs.Walk.{name, top};
 ghost use Rattle.listing_words.specs.Stored.{stored};
 ghost use Rattle.listing_record.specs.Entry.{record_from};
 
 use crate::ideal::ideal_of;
 use base_counters::{Distance, Index};
-use base_field::Field;
+use base_polynomial::Poly;
 use listing_words::put_record;
+use walk_state::Walk;
 
-// The record of Q, the first `size` places of `current`, and P = d − rest; r is the regulator. The mirror is r less the
-// distance plus deg Q, which is size − 1, as Q has no zero at its end.
+// The record of Q, which stands in `current`, and P = d − rest; r is the regulator. The mirror is r less the distance
+// plus deg Q, which is one less than the size, as Q has no zero at its end.
 pub fn write_record(
-    f: Field,
-    n: usize,
-    d: &[u32; 129],
+    w: &Walk,
     rest: &[u32; 129],
-    current: &[u32; 129],
-    size: usize,
+    current: &Poly,
     index: Index,
     distance: Distance,
     r: Distance,
     out: &mut [u32],
-    at: usize,
 )
-    requires field { IsField f }
-    requires le_n { (2 ≤ n) × (n ≤ 64) × (0 < size) }
-    requires within { Within (name f) d.now (n / 2 + 1) × Within (name f) rest.now (n / 2 + 1) }
-    requires held { Held (name f) current.now size }
-    requires n_in_bounds { (at + (n + 4) ≤ length out.old) × (index.0 < budgets) × (distance.0 ≤ r.0) × (r.0 ≤ degrees) }
-    ensures { out.new ≡ stored out.old at (record_from (name f) n r.0 index.0 distance.0 d.now rest.now current.now size) }
+    requires words { (w.now.surd.n ≤ 64) × (length out.old ≡ w.now.surd.n + 4) }
+    requires rest { Within (name w.now) rest.now (top w.now) }
+    requires current { Held w.now.surd.field current.now × (0 < current.now.size) }
+    requires counts { (index.0 < budgets) × (distance.0 ≤ r.0) × (r.0 ≤ degrees) }
+    ensures { out.new ≡ stored out.old 0 (record_from (name w.now) w.now.surd.n r.0 index.0 distance.0 w.now.d rest.now current.now.c current.now.size) }
 {
-    let mut q = [0u32; 129];
-    let mut p = [0u32; 129];
-    ideal_of(f, d, rest, n / 2 + 1, current, size, &mut q, &mut p);
-    let mirror = Distance(r.0 - distance.0 + (size as u64 - 1));
-    put_record(out, at, n, index, distance, mirror, &q, &p);
+    let mut q = Poly::zero();
+    let mut p = Poly::zero();
+    ideal_of(w.surd.field, &w.d, rest, w.top(), current, &mut q, &mut p);
+    let mirror = Distance(r.0 - distance.0 + (current.size as u64 - 1));
+    put_record(out, w.surd.n, index, distance, mirror, &q.c, &p.c);
 }

@@ -1,3 +1,4 @@
 pub mod Records
 pub mod Ideal
+pub mod Part
 pub mod Listed

@@ -8,6 +8,7 @@ ghost use Rattle.std.specs.Prelude.{◌≤◌, length, take};
 ghost use Rattle.std.specs.Io.KnownBytes.{Consumes};
 
 use out_program::output;
+use out_text::Text;
 use std::io::Read;
 
 // Reads until the bytes are full or the input ends, and returns how many there are. A read that fails is taken
@@ -16,15 +17,12 @@ fn read_full<R: Read>(input: &mut R, bytes: &mut [u8]) -> usize
     ensures within { result ≤ length bytes.new }
     ensures read { Consumes (R.remaining input.old) (R.remaining input.new) (take result bytes.new) }
 {
-    let mut done: usize = 0;
+    let mut done = 0;
     while done < bytes.len() {
-        let Ok(n) = input.read(&mut bytes[done..]) else {
-            return done;
-        };
-        if n == 0 {
-            return done;
+        match input.read(&mut bytes[done..]) {
+            Ok(0) | Err(_) => return done,
+            Ok(n) => done += n,
         }
-        done += n;
     }
     done
 }
@@ -32,8 +30,8 @@ fn read_full<R: Read>(input: &mut R, bytes: &mut [u8]) -> usize
 fn main(rt: HostRuntime) {
     let mut bytes = [0u8; 280];
     let count = read_full(&mut rt.reader(), &mut bytes);
-    let mut lines = [0u8; 98304];
-    let size = output(&bytes[..count], &mut lines);
+    let mut text = Text::new();
+    output(&bytes[..count], &mut text);
     // What standard output does not take is lost, and the status stays 0.
-    let _ = rt.write_all(&lines[..size]);
+    let _ = rt.write_all(text.as_bytes());
 }

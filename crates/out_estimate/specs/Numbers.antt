@@ -1,6 +1,6 @@
--- The answer that the numbers are of.
-use Rattle.call_estimate.specs.declared.EstimateAnswer.{EstimateAnswer}
+-- What the numbers say.
+use Rattle.spec_estimate.specs.Estimate.{EstimateAnswer}
 use Rattle.out_estimate.specs.declared.EstimateNumbers.{EstimateNumbers}
 
 abbrev pub estimate_in : EstimateNumbers → EstimateAnswer
-estimate_in r = record { words = r.words; number = r.number; numerator = r.numerator; denominator = r.denominator; nearest = r.nearest }
+estimate_in n = record { number = n.number; numerator = n.numerator; denominator = n.denominator; nearest = n.nearest }

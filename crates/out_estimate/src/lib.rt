@@ -1,12 +1,11 @@
 // An answer of the call `estimate` as plain numbers, laid out as C lays them out.
 #![tactic(auto)]
 
-ghost use Rattle.std.specs.Prelude.{◌≡◌};
-ghost use Rattle.out_estimate.specs.Numbers.{estimate_in};
+use base_refusals::Refusal;
+use call_estimate::{EstimateAnswer, Estimated};
 
-use call_estimate::EstimateAnswer;
-
-// The number of words handed in, the number of a refusal or 0, numerator, denominator and the nearest whole number.
+// The number of words handed in, the number of a refusal or 0, numerator, denominator and the nearest whole number:
+// zeros where it is refused.
 #[repr(C)]
 #[derive(Clone, Copy)]
 pub struct EstimateNumbers {
@@ -17,15 +16,31 @@ pub struct EstimateNumbers {
     pub nearest: u64,
 }
 
-// An answer as numbers.
-pub fn estimate_numbers(a: EstimateAnswer) -> EstimateNumbers
-    ensures { estimate_in result ≡ a }
-{
-    EstimateNumbers {
-        words: a.words,
-        number: a.number as u64,
-        numerator: a.numerator,
-        denominator: a.denominator,
-        nearest: a.nearest,
+impl From<EstimateAnswer> for EstimateNumbers {
+    ghost use Rattle.std.specs.Prelude.{◌≡◌};
+    ghost use Rattle.call_estimate.specs.Estimates.{estimate_in as said_in};
+    ghost use Rattle.out_estimate.specs.Numbers.{estimate_in};
+
+    ghost from_gives = { λ a n. (n.words ≡ a.words) × (estimate_in n ≡ said_in a) };
+
+    fn from(a: EstimateAnswer) -> EstimateNumbers {
+        let (number, e) = match a.result {
+            Ok(e) => (0, e),
+            Err(r) => (
+                u32::from(r) as u64,
+                Estimated {
+                    numerator: 0,
+                    denominator: 0,
+                    nearest: 0,
+                },
+            ),
+        };
+        EstimateNumbers {
+            words: a.words,
+            number,
+            numerator: e.numerator,
+            denominator: e.denominator,
+            nearest: e.nearest,
+        }
     }
 }

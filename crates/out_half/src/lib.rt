@@ -9,34 +9,22 @@ ghost use Rattle.out_numbers.specs.Numbers.{Plain};
 use call_half::{HalfAnswer, HalfOutcome};
 use out_numbers::Numbers;
 
-// An answer as numbers: found 0, R, m, 0; spent 11, b, e, 0; refused j, 0, 0, 0.
+// An answer as numbers: found 0, R, m, 0; spent 11, b, e, 0; refused j, 0, 0, 0. A function and no `From`, since
+// both types are of other crates.
 pub fn half_numbers(a: HalfAnswer) -> Numbers
     ensures words { result.words ≡ a.words }
     ensures says { Plain (half_said (half_meaning a.outcome)) result.number result.first result.second result.third }
 {
-    let words = a.words;
-    let outcome = a.outcome;
-    match outcome {
-        HalfOutcome::Found(r, m) => Numbers {
-            words,
-            number: 0,
-            first: r.0,
-            second: m.0,
-            third: 0,
-        },
-        HalfOutcome::Spent(k, e) => Numbers {
-            words,
-            number: 11,
-            first: k.0,
-            second: e.0,
-            third: 0,
-        },
-        HalfOutcome::Refused(j) => Numbers {
-            words,
-            number: j as u64,
-            first: 0,
-            second: 0,
-            third: 0,
-        },
+    let (number, first, second) = match a.outcome {
+        HalfOutcome::Found(r, m) => (0, r.0, m.0),
+        HalfOutcome::Spent(k, e) => (11, k.0, e.0),
+        HalfOutcome::Refused(j) => (j as u64, 0, 0),
+    };
+    Numbers {
+        words: a.words,
+        number,
+        first,
+        second,
+        third: 0,
     }
 }

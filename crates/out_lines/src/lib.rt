@@ -1,18 +1,16 @@
-// The lines of an answer, each at the start of a lent buffer. Each function returns the place after its last
-// byte.
+// The lines of an answer, each put at the end of a text.
 #![tactic(auto)]
 
-ghost use Rattle.std.specs.Prelude.{◌≡◌, [], ◌∷◌, ◌+◌, ◌*◌, ◌<◌, ◌≤◌, length};
-ghost use Rattle.spec_definitions.specs.Answers.{said, found, spent};
-ghost use Rattle.spec_definitions.specs.Text.{ascii, line};
-ghost use Rattle.spec_definitions.specs.Program.{first_line, record_line};
-ghost use Rattle.out_text.specs.Writing.{Put, Line};
+ghost use Rattle.std.specs.Prelude.{◌≡◌, ◌++◌, ◌+◌, ◌<◌, ◌≤◌, length};
+ghost use Rattle.spec_definitions.specs.Text.{line};
+ghost use Rattle.spec_definitions.specs.Program.{record_line};
 ghost use Rattle.out_lines.specs.Lines.{joined_at, head_bytes};
 
 use base_words::{joined, value};
-use out_text::{put_bytes, put_decimal, put_end, put_numbers, put_spaced, put_values};
+use out_text::{ROOM, Text};
 
 // The number in two words, high then low.
+#[tactic(auto, unfolding(crate::specs::Lines::joined_at))]
 fn joined_at(words: &[u32], at: usize) -> u64
     requires { at + 1 < length words.now }
     ensures { result ≡ joined_at words.now at }
@@ -21,56 +19,39 @@ fn joined_at(words: &[u32], at: usize) -> u64
 }
 
 // Index, distance and mirror of a record.
-fn put_head(out: &mut [u8], words: &[u32]) -> usize
-    requires { (5 ≤ length words.now) × (45 ≤ length out.old) }
-    ensures { Put out.old out.new 0 result (head_bytes words.now) }
+#[tactic(auto, unfolding(crate::specs::Lines::head_bytes))]
+fn push_head(text: &mut Text, words: &[u32])
+    requires long { 5 ≤ length words.now }
+    requires room { length text.old + length (head_bytes words.now) ≤ ROOM }
+    ensures { text.new ≡ text.old ++ head_bytes words.now }
 {
-    let index = put_decimal(out, 0, value(words[0]) as u64);
-    let distance = put_spaced(out, index, joined_at(words, 1));
-    put_spaced(out, distance, joined_at(words, 3))
+    text.push_decimal(value(words[0]) as u64);
+    text.push_number(joined_at(words, 1));
+    text.push_number(joined_at(words, 3));
 }
 
-// The line of a record of at most 68 words: index, distance, mirror, and the coefficients.
-pub fn record_line(out: &mut [u8], words: &[u32]) -> usize
-    requires { (5 ≤ length words.now) × (length words.now ≤ 68) × (1024 ≤ length out.old) }
-    ensures { Line out.old out.new result (record_line words.now) }
+// The line of a record: index, distance, mirror, and the coefficients.
+pub fn push_record(text: &mut Text, words: &[u32])
+    requires long { 5 ≤ length words.now }
+    requires room { length text.old + length (record_line words.now) ≤ ROOM }
+    ensures { text.new ≡ text.old ++ record_line words.now }
 {
-    let head = put_head(out, words);
-    let last = put_values(out, head, &words[5..]);
-    put_end(out, last)
+    push_head(text, words);
+    for &word in &words[5..] {
+        text.push_number(value(word) as u64);
+    }
+    text.end_line();
 }
 
 // A word, numbers after spaces, and the end of the line.
-fn put_line(out: &mut [u8], word: &[u8], numbers: &[u64]) -> usize
-    requires { length word.now + 21 * length numbers.now < length out.old }
-    ensures { Line out.old out.new result (line word.now numbers.now) }
+#[tactic(auto, unfolding(spec_definitions::specs::Text::line, spec_definitions::specs::Text::spaced))]
+pub fn push_line(text: &mut Text, word: &[u8], numbers: &[u64])
+    requires { length text.old + length (line word.now numbers.now) ≤ ROOM }
+    ensures { text.new ≡ text.old ++ line word.now numbers.now }
 {
-    let first = put_bytes(out, 0, word);
-    let last = put_numbers(out, first, numbers);
-    put_end(out, last)
-}
-
-// The first line of an answer that is found, spent or refused.
-pub fn found_line(out: &mut [u8], regulator: u64, period: u64, constant: u64) -> usize
-    requires { 1024 ≤ length out.old }
-    ensures { Line out.old out.new result (first_line (said (found regulator period constant))) }
-{
-    let numbers = [regulator, period, constant];
-    put_line(out, b"found", &numbers)
-}
-
-pub fn spent_line(out: &mut [u8], steps: u64, degree: u64) -> usize
-    requires { 1024 ≤ length out.old }
-    ensures { Line out.old out.new result (first_line (said (spent steps degree))) }
-{
-    let numbers = [steps, degree];
-    put_line(out, b"spent", &numbers)
-}
-
-pub fn refused_line(out: &mut [u8], number: u64) -> usize
-    requires { 1024 ≤ length out.old }
-    ensures { Line out.old out.new result (line (ascii "refused") (number ∷ [])) }
-{
-    let numbers = [number];
-    put_line(out, b"refused", &numbers)
+    text.push_bytes(word);
+    for &number in numbers {
+        text.push_number(number);
+    }
+    text.end_line();
 }

@@ -2,11 +2,10 @@
 // place of a part of a list.
 #![tactic(auto)]
 
-ghost use Rattle.std.specs.Prelude.{◌≡◌};
-ghost use Rattle.spec_definitions.specs.Answers.{said};
-ghost use Rattle.walk_outcome.specs.Outcome.{meaning};
-ghost use Rattle.out_numbers.specs.Numbers.{Plain};
+ghost use Rattle.std.specs.Prelude.{◌≡◌, ◌-◌, MatchOption};
+ghost use Rattle.out_numbers.specs.AsNumbers.{AsNumbers};
 
+use std::ops::Range;
 use walk_outcome::{Answer, Outcome};
 
 // The number of words handed in, the paper's number of the outcome and its values: found 0, R, m, c; spent
@@ -29,44 +28,34 @@ pub struct Part {
     pub length: u64,
 }
 
-// An answer as numbers.
-pub fn as_numbers(a: Answer) -> Numbers
-    ensures words { result.words ≡ a.words }
-    ensures says { Plain (said (meaning a.outcome)) result.number result.first result.second result.third }
-{
-    let words = a.words;
-    let outcome = a.outcome;
-    match outcome {
-        Outcome::Found(r, m, c) => Numbers {
-            words,
-            number: 0,
-            first: r.0,
-            second: m.0,
-            third: c as u64,
-        },
-        Outcome::Spent(k, e) => Numbers {
-            words,
-            number: 11,
-            first: k.0,
-            second: e.0,
-            third: 0,
-        },
-        Outcome::Refused(j) => Numbers {
-            words,
-            number: j as u64,
-            first: 0,
-            second: 0,
-            third: 0,
-        },
+impl From<Answer> for Numbers {
+    ghost from_gives = { AsNumbers };
+
+    fn from(a: Answer) -> Numbers {
+        let (number, first, second, third) = match a.outcome {
+            Outcome::Found(r, m, c) => (0, r.0, m.0, c as u64),
+            Outcome::Spent(k, e) => (11, k.0, e.0, 0),
+            Outcome::Refused(j) => (j as u64, 0, 0, 0),
+        };
+        Numbers {
+            words: a.words,
+            number,
+            first,
+            second,
+            third,
+        }
     }
 }
 
-// A place and a length as numbers.
-pub fn as_part(p: call_lookup::Part) -> Part
-    ensures { (result.offset ≡ p.offset) × (result.length ≡ p.length) }
-{
-    Part {
-        offset: p.offset as u64,
-        length: p.length as u64,
+// Where a part stands, as numbers; where there is none, the empty part at the start.
+impl From<Option<Range<usize>>> for Part {
+    ghost from_gives = { λ place part. MatchOption place ((part.offset ≡ 0) × (part.length ≡ 0)) (λ range. (part.offset ≡ range.start) × (part.length ≡ range.end - range.start)) };
+
+    fn from(place: Option<Range<usize>>) -> Part {
+        let range = place.unwrap_or(0..0);
+        Part {
+            offset: range.start as u64,
+            length: range.len() as u64,
+        }
     }
 }

@@ -1,1 +1,4 @@
+pub mod GiantSteps
+pub mod IdealsAt
 pub mod Lent
+pub mod Products

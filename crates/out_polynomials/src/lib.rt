@@ -2,8 +2,10 @@
 // numbers, laid out as C lays them out.
 #![tactic(auto)]
 
-ghost use Rattle.std.specs.Prelude.{◌≡◌};
-ghost use Rattle.out_polynomials.specs.Lent.{poly_in, product_in, giant_step_in, ideal_at_in};
+ghost use Rattle.std.specs.Prelude.{◌≡◌, [], IfOk, IfErr, pos};
+ghost use Rattle.base_refusals.specs.Number.{refused_by};
+ghost use Rattle.base_polynomial.specs.Whole.{Holds};
+ghost use Rattle.out_polynomials.specs.Lent.{poly_in};
 
 use base_polynomial::Poly;
 use call_giant_step::GiantStepAnswer;
@@ -55,61 +57,102 @@ fn put(r: Poly, places: &mut [u32; 129]) -> u64
     r.size as u64
 }
 
-// An answer of the call `product`.
+// An answer of the call `product`; zeros in a refusal.
 pub fn put_product(
     a: ProductAnswer,
     s: &mut [u32; 129],
     q: &mut [u32; 129],
     p: &mut [u32; 129],
 ) -> ProductNumbers
-    ensures { product_in result s.new q.new p.new ≡ a }
+    ensures words { result.words ≡ a.words }
+    ensures number { result.number ≡ refused_by a.result }
+    ensures product { IfOk a.result (λ t. (poly_in s.new result.s_size ≡ t.s) × (poly_in q.new result.q_size ≡ t.ideal.q) × (poly_in p.new result.p_size ≡ t.ideal.p)) }
+    ensures zeros { IfErr a.result (λ _. Holds (poly_in s.new result.s_size) [] × Holds (poly_in q.new result.q_size) [] × Holds (poly_in p.new result.p_size) []) }
 {
-    let x = a.s;
-    let y = a.q;
-    let z = a.p;
-    ProductNumbers {
-        words: a.words,
-        number: a.number as u64,
-        s_size: put(x, s),
-        q_size: put(y, q),
-        p_size: put(z, p),
+    let words = a.words;
+    match a.result {
+        Ok(t) => ProductNumbers {
+            words,
+            number: 0,
+            s_size: put(t.s, s),
+            q_size: put(t.ideal.q, q),
+            p_size: put(t.ideal.p, p),
+        },
+        Err(r) => {
+            let zero = Poly::zero();
+            ProductNumbers {
+                words,
+                number: u32::from(r) as u64,
+                s_size: put(zero, s),
+                q_size: put(zero, q),
+                p_size: put(zero, p),
+            }
+        }
     }
 }
 
-// An answer of the call `giant_step`.
+// An answer of the call `giant_step`; zeros in a refusal.
 pub fn put_giant_step(
     a: GiantStepAnswer,
     q: &mut [u32; 129],
     p: &mut [u32; 129],
 ) -> GiantStepNumbers
-    ensures { giant_step_in result q.new p.new ≡ a }
+    ensures words { result.words ≡ a.words }
+    ensures number { result.number ≡ refused_by a.result }
+    ensures giant_step { IfOk a.result (λ t. (poly_in q.new result.q_size ≡ t.ideal.q) × (poly_in p.new result.p_size ≡ t.ideal.p) × (result.f ≡ t.f) × (result.distance ≡ t.distance)) }
+    ensures zeros { IfErr a.result (λ _. Holds (poly_in q.new result.q_size) [] × Holds (poly_in p.new result.p_size) [] × (result.f ≡ pos 0) × (result.distance ≡ pos 0)) }
 {
-    let y = a.q;
-    let z = a.p;
-    GiantStepNumbers {
-        words: a.words,
-        number: a.number as u64,
-        q_size: put(y, q),
-        p_size: put(z, p),
-        f: a.f,
-        distance: a.distance,
+    let words = a.words;
+    match a.result {
+        Ok(t) => GiantStepNumbers {
+            words,
+            number: 0,
+            q_size: put(t.ideal.q, q),
+            p_size: put(t.ideal.p, p),
+            f: t.f,
+            distance: t.distance,
+        },
+        Err(r) => {
+            let zero = Poly::zero();
+            GiantStepNumbers {
+                words,
+                number: u32::from(r) as u64,
+                q_size: put(zero, q),
+                p_size: put(zero, p),
+                f: 0,
+                distance: 0,
+            }
+        }
     }
 }
 
-// An answer of the call `ideal_at`.
+// An answer of the call `ideal_at`; zeros in a refusal.
 pub fn put_ideal_at(a: IdealAtAnswer, q: &mut [u32; 129], p: &mut [u32; 129]) -> IdealNumbers
-    ensures { ideal_at_in result q.new p.new ≡ a }
+    ensures words { result.words ≡ a.words }
+    ensures number { result.number ≡ refused_by a.result }
+    ensures ideal_at { IfOk a.result (λ t. (poly_in q.new result.q_size ≡ t.ideal.q) × (poly_in p.new result.p_size ≡ t.ideal.p) × (result.distance ≡ t.distance.0) × (result.next ≡ t.next.0)) }
+    ensures zeros { IfErr a.result (λ _. Holds (poly_in q.new result.q_size) [] × Holds (poly_in p.new result.p_size) [] × (result.distance ≡ 0) × (result.next ≡ 0)) }
 {
-    let y = a.q;
-    let z = a.p;
-    let distance = a.distance;
-    let next = a.next;
-    IdealNumbers {
-        words: a.words,
-        number: a.number as u64,
-        q_size: put(y, q),
-        p_size: put(z, p),
-        distance: distance.0,
-        next: next.0,
+    let words = a.words;
+    match a.result {
+        Ok(t) => IdealNumbers {
+            words,
+            number: 0,
+            q_size: put(t.ideal.q, q),
+            p_size: put(t.ideal.p, p),
+            distance: t.distance.0,
+            next: t.next.0,
+        },
+        Err(r) => {
+            let zero = Poly::zero();
+            IdealNumbers {
+                words,
+                number: u32::from(r) as u64,
+                q_size: put(zero, q),
+                p_size: put(zero, p),
+                distance: 0,
+                next: 0,
+            }
+        }
     }
 }

@@ -1,9 +1,9 @@
 -- What the first line of the program's output says: it fixes the outcome, and whoever reads "found R m c" or
 -- "spent k e" there may rely on T3.
-use Rattle.std.specs.Prelude.{ℕ, refl, Bool, true, false, length, take, drop, replicate}
+use Rattle.std.specs.Prelude.{ℕ, refl, Bool, true, false, drop, replicate}
 use native.Mathlib.Omega.{arith}
 use Rattle.std.proofs.Math.Path.{◌≡◌, ap}
-use Rattle.std.proofs.Common.{sym, ◌∙◌, subst, take_at}
+use Rattle.std.proofs.Common.{sym, ◌∙◌, subst}
 use mathlib.Core.List.{List, [], ◌∷◌, ◌++◌, append_assoc, append-nil}
 use Rattle.std.proofs.Math.ListN.{get_or}
 use Rattle.spec_definitions.specs.Ticket.{Ticket, ticket_of}
@@ -17,7 +17,7 @@ use Rattle.spec_demands.proofs.Numbered.{numbered, numbered_found, numbered_spen
 use Rattle.spec_demands.proofs.LeastAnswers.{t3_listing}
 use Rattle.listing_found.specs.Answers.{room_cases}
 use Rattle.spec_digits.proofs.Digits.{spaced_fixes}
-use Rattle.out_answer.specs.Refused.{refused_first}
+use Rattle.out_answer.proofs.First.{refused_first}
 use Rattle.out_program.specs.Program.{program_cut, program_whole}
 
 -- the first line fixes the outcome with each of its numbers, and what stands after the line
@@ -139,8 +139,6 @@ t3_program input x rest e = go (cut_word (read_bytes input)) refl
     go true k = read_least w x (refused 1) rest [] (numbered 1 (λ z. omega arith) (λ z. omega arith)) tt (append-nil (first_line (said (refused 1))) ∙ program_cut input k ∙ e)
     go false k = answer_least w (replicate 8192 0) (ticket_of w).n x rest (program_whole input k w refl ∙ e)
 
--- the bytes printed are the first j of the buffer
-pub printed_least : (input before : List ℕ) {after : List ℕ} {j : ℕ} → (j ≡ length (program_of input)) × (after ≡ program_of input ++ drop j before) → LeastPrinted (words_of (read_bytes input)) (take j after)
-printed_least input before {after} {j} p =
-    let e : take j after ≡ program_of input = ap (take j) p.1 ∙ take_at (program_of input) (drop j before) j (sym p.0) in
-    λ x rest f. t3_program input x rest (sym e ∙ f)
+-- the bytes printed
+pub printed_least : (input : List ℕ) {bytes : List ℕ} → bytes ≡ program_of input → LeastPrinted (words_of (read_bytes input)) bytes
+printed_least input {bytes} p = λ x rest f. t3_program input x rest (sym p ∙ f)

@@ -1,4 +1,3 @@
 pub mod Program
-pub mod Words
 pub mod Found
 pub mod FirstLine

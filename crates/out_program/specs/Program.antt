@@ -1,6 +1,6 @@
 -- The lines of an answer and of the program, case by case.
-use Rattle.std.specs.Prelude.{ℕ, ◌+◌, ◌≤◌, ◌≡◌, Bool, eqb, length, get_or, drop, replicate}
-use Rattle.std.proofs.Common.{arith, sym, ◌∙◌, length-append, ne_eqb}
+use Rattle.std.specs.Prelude.{ℕ, ◌≡◌, Bool, eqb, get_or, replicate}
+use Rattle.std.proofs.Common.{sym, ◌∙◌, ne_eqb}
 use Rattle.std.proofs.Math.Path.{refl, ap}
 use Rattle.std.proofs.Math.Bool.{true, false}
 use mathlib.Core.List.{List, [], ◌++◌, append-nil}
@@ -50,7 +50,3 @@ module _ (input : List ℕ) where
   pub program_whole : cut_word (read_bytes input) ≡ false → (w : List ℕ) → w ≡ words_of (read_bytes input) → answer_lines (ticket_of w).n (listing_answer w (replicate 8192 0)) ≡ program_of input
   unfolding program_of
   program_whole e w f = ap (λ (v : List ℕ). answer_lines (ticket_of v).n (listing_answer v (replicate 8192 0))) f ∙ ap printed (sym e)
-
--- what the program prints lies within the buffer
-pub program_within : (input a : List ℕ) {b : List ℕ} {j : ℕ} → j ≡ length (program_of input) → b ≡ program_of input ++ drop j a → j ≤ length b
-program_within input a {b} {j} e f = let g : length b ≡ length (program_of input ++ drop j a) = ap length f in let h : length (program_of input ++ drop j a) ≡ length (program_of input) + length (drop j a) = length-append (program_of input) (drop j a) in omega arith

@@ -1,59 +1,32 @@
 // Words out of bytes, low byte first.
 #![tactic(auto)]
 
-ghost use Rattle.std.specs.Prelude.{◌≡◌, ◌+◌, ◌<◌, length};
-ghost use Rattle.spec_definitions.specs.Program.{read_bytes};
-ghost use Rattle.out_reading.specs.Reading.{word_from, Read};
+ghost use Rattle.std.specs.Prelude.{◌≡◌};
+ghost use Rattle.spec_definitions.specs.Program.{words_of, read_bytes, cut_word};
 
-// The whole words among the first 280 bytes, the number of them, and whether a word is cut.
-#[derive(Clone, Copy)]
-pub struct Words {
-    pub cut: bool,
-    pub count: usize,
-    pub words: [u32; 70],
+// The bytes that count: the first 280.
+fn read_bytes(bytes: &[u8]) -> &[u8]
+    ensures { result.now ≡ read_bytes bytes.now }
+{
+    &bytes[..bytes.len().min(280)]
 }
 
-// A byte as a word.
-fn wide(x: u8) -> u32
-    ensures { (result ≡ x) × (result < 256) }
+// Whether the bytes that count end within a word.
+#[tactic(auto, unfolding(spec_definitions::specs::Program::cut_word))]
+pub fn has_cut_word(bytes: &[u8]) -> bool
+    ensures { result ≡ cut_word (read_bytes bytes.now) }
 {
-    x as u32
+    read_bytes(bytes).len() % 4 != 0
 }
 
-// The word whose low byte stands at at.
-fn word_at(bytes: &[u8], at: usize) -> u32
-    requires { at + 3 < length bytes.now }
-    ensures { result ≡ word_from bytes.now at }
+// The whole words of the bytes that count, at the front of a lent array.
+#[tactic(auto, using(crate::proofs::Words::length_read_most, crate::proofs::Words::words_whole))]
+pub fn words_of<'a>(bytes: &[u8], words: &'a mut [u32; 70]) -> &'a [u32]
+    ensures { result.now ≡ words_of (read_bytes bytes.now) }
 {
-    let a = wide(bytes[at]);
-    let b = wide(bytes[at + 1]);
-    let c = wide(bytes[at + 2]);
-    let d = wide(bytes[at + 3]);
-    a + 256 * b + 65536 * c + 16777216 * d
-}
-
-// How many bytes count: at most 280.
-fn bytes_read(bytes: &[u8]) -> usize
-    ensures { result ≡ length (read_bytes bytes.now) }
-{
-    if bytes.len() < 280 {
-        return bytes.len();
+    let (chunks, _) = read_bytes(bytes).as_chunks::<4>();
+    for (i, &chunk) in chunks.iter().enumerate() {
+        words[i] = u32::from_le_bytes(chunk);
     }
-    280
-}
-
-// The words of some bytes. Bytes after the first 280 are not read.
-pub fn words_of(bytes: &[u8]) -> Words
-    ensures { Read (read_bytes bytes.now) result.cut result.count result.words }
-{
-    let read = bytes_read(bytes);
-    let count = read / 4;
-    let cut = read % 4 != 0;
-    let mut words = [0u32; 70];
-    let mut i: usize = 0;
-    while i < count {
-        words[i] = word_at(bytes, 4 * i);
-        i += 1;
-    }
-    Words { cut, count, words }
+    &words[..chunks.len()]
 }

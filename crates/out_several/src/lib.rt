@@ -8,7 +8,7 @@ ghost use Rattle.call_regulators.specs.Regulators.{outcomes};
 ghost use Rattle.out_several.specs.Places.{Put, InPlaces};
 
 use call_regulators::SeveralAnswer;
-use out_numbers::as_numbers;
+use out_numbers::Numbers;
 use walk_outcome::{Answer, Outcome};
 
 // The number of words handed in, and how many outcomes there are.
@@ -25,7 +25,7 @@ fn put_outcome(outcome: Outcome, i: usize, out: &mut [u64; 64])
     ensures { Put out.old i (meaning outcome) out.new }
 {
     // the word count of this answer is not used
-    let x = as_numbers(Answer { words: 0, outcome });
+    let x = Numbers::from(Answer { words: 0, outcome });
     let at = 4 * i;
     out[at] = x.number;
     out[at + 1] = x.first;
@@ -34,20 +34,15 @@ fn put_outcome(outcome: Outcome, i: usize, out: &mut [u64; 64])
 }
 
 // The numbers of every place into the array.
-pub fn put_outcomes(a: SeveralAnswer, out: &mut [u64; 64]) -> SeveralNumbers
-    requires { length (outcomes a) ≡ most_primes }
-    ensures words_value { (result.words ≡ a.words) × (result.count ≡ a.count) }
-    ensures out_len { (length out.new ≡ 4 * most_primes) × InPlaces (outcomes a) out.new }
+pub fn put_outcomes(a: &SeveralAnswer, out: &mut [u64; 64]) -> SeveralNumbers
+    requires { length (outcomes a.now) ≡ most_primes }
+    ensures words_value { (result.words ≡ a.now.words) × (result.count ≡ a.now.count) }
+    ensures out_len { (length out.new ≡ 4 * most_primes) × InPlaces (outcomes a.now) out.new }
 {
     // Written whole, so that its length is known.
     *out = [0u64; 64];
-    let places = a.places;
-    let mut i: usize = 0;
-    while i < 16 {
-        let p = places[i];
-        let outcome = p.outcome;
-        put_outcome(outcome, i, out);
-        i += 1;
+    for i in 0..16 {
+        put_outcome(a.places[i], i, out);
     }
     SeveralNumbers {
         words: a.words,

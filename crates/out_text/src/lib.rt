@@ -1,85 +1,93 @@
-// Text as bytes in a lent buffer: digits, numbers after spaces, the end of a line. Each function writes from a
-// place on and returns the place after its last byte.
+// Text as bytes in an array of fixed size: digits, and numbers after spaces.
 #![tactic(auto)]
 
-ghost use Rattle.std.specs.Prelude.{[], ◌∷◌, map, ◌+◌, ◌*◌, ◌<◌, ◌≤◌, length};
-ghost use Rattle.spec_arithmetic.specs.Words.{value as value_of};
-ghost use Rattle.spec_definitions.specs.Text.{decimal, spaced};
-ghost use Rattle.out_text.specs.Writing.{Put};
+ghost use Rattle.std.specs.Prelude.{◌≡◌, List, ℕ, [], ◌∷◌, ◌++◌, ◌+◌, ◌<◌, ◌≤◌, length, take};
+ghost use Rattle.spec_definitions.specs.Text.{decimal};
+ghost use Rattle.out_text.specs.declared.TheConstants.{ROOM};
 
-use base_words::value;
+use std::marker::Model;
 
-// The digits of x: those of its tenth part, and then the last one.
-pub fn put_decimal(out: &mut [u8], at: usize, x: u64) -> usize
-    requires { at + length (decimal x) ≤ length out.old }
-    ensures { Put out.old out.new at result (decimal x) }
-{
-    if x < 10 {
-        out[at] = 48 + x as u8;
-        return at + 1;
+// The most bytes of a text: 8,192 words of a listing at most ten bytes each, and more than a first line.
+pub const ROOM: usize = 98304;
+
+// The bytes written so far.
+#[derive(Drop)]
+pub struct Text {
+    bytes: [u8; ROOM],
+    len: usize,
+}
+
+impl Model for Text {
+    ghost Value = { List ℕ };
+
+    ghost view = { λ t. take t.len t.bytes };
+
+    ghost invariant = { λ t. t.len ≤ ROOM };
+}
+
+impl Text {
+    pub fn new() -> Self
+        ensures { result ≡ [] }
+    {
+        Text {
+            bytes: [0; ROOM],
+            len: 0,
+        }
     }
-    let last = put_decimal(out, at, x / 10);
-    out[last] = 48 + (x % 10) as u8;
-    last + 1
-}
 
-// A space and a number.
-pub fn put_spaced(out: &mut [u8], at: usize, x: u64) -> usize
-    requires { at + 1 + length (decimal x) ≤ length out.old }
-    ensures { Put out.old out.new at result (32 ∷ decimal x) }
-{
-    out[at] = 32;
-    put_decimal(out, at + 1, x)
-}
-
-// Each number after a space.
-pub fn put_numbers(out: &mut [u8], at: usize, numbers: &[u64]) -> usize
-    requires { at + 21 * length numbers.now ≤ length out.old }
-    ensures put { Put out.old out.new at result (spaced numbers.now) }
-    ensures upper_bound { result ≤ at + 21 * length numbers.now }
-{
-    let mut next = at;
-    let mut i: usize = 0;
-    while i < numbers.len() {
-        next = put_spaced(out, next, numbers[i]);
-        i += 1;
+    pub fn as_bytes(&self) -> &[u8]
+        ensures { result.now ≡ self.now }
+    {
+        &self.bytes[..self.len]
     }
-    next
-}
 
-// The value of each word after a space.
-pub fn put_values(out: &mut [u8], at: usize, words: &[u32]) -> usize
-    requires { at + 10 * length words.now ≤ length out.old }
-    ensures put { Put out.old out.new at result (spaced (map value_of words.now)) }
-    ensures upper_bound { result ≤ at + 10 * length words.now }
-{
-    let mut next = at;
-    let mut i: usize = 0;
-    while i < words.len() {
-        next = put_spaced(out, next, value(words[i]) as u64);
-        i += 1;
+    pub fn clear(&mut self)
+        ensures { self.new ≡ [] }
+    {
+        self.len = 0;
     }
-    next
-}
 
-// Some bytes as they are.
-pub fn put_bytes(out: &mut [u8], at: usize, bytes: &[u8]) -> usize
-    requires { at + length bytes.now ≤ length out.old }
-    ensures { Put out.old out.new at result bytes.now }
-{
-    let mut i: usize = 0;
-    while i < bytes.len() {
-        out[at + i] = bytes[i];
-        i += 1;
+    fn push(&mut self, byte: u8)
+        requires { length self.old < ROOM }
+        ensures { self.new ≡ self.old ++ byte ∷ [] }
+    {
+        self.bytes[self.len] = byte;
+        self.len += 1;
     }
-    at + i
-}
 
-// The end of a line.
-pub fn put_end(out: &mut [u8], at: usize) -> usize
-    requires { at < length out.old }
-    ensures { Put out.old out.new at result (10 ∷ []) }
-{
-    out[at] = 10;
-    at + 1
+    pub fn push_bytes(&mut self, bytes: &[u8])
+        requires { length self.old + length bytes.now ≤ ROOM }
+        ensures { self.new ≡ self.old ++ bytes.now }
+    {
+        let start = self.len;
+        self.len += bytes.len();
+        self.bytes[start..self.len].copy_from_slice(bytes);
+    }
+
+    // The digits of x: those of its tenth part, and then the last one.
+    pub fn push_decimal(&mut self, x: u64)
+        requires { length self.old + length (decimal x) ≤ ROOM }
+        ensures { self.new ≡ self.old ++ decimal x }
+    {
+        if x >= 10 {
+            self.push_decimal(x / 10);
+        }
+        self.push(b'0' + (x % 10) as u8);
+    }
+
+    // A space and the digits of x.
+    pub fn push_number(&mut self, x: u64)
+        requires { length self.old + length (decimal x) < ROOM }
+        ensures { self.new ≡ self.old ++ 32 ∷ decimal x }
+    {
+        self.push(b' ');
+        self.push_decimal(x);
+    }
+
+    pub fn end_line(&mut self)
+        requires { length self.old < ROOM }
+        ensures { self.new ≡ self.old ++ 10 ∷ [] }
+    {
+        self.push(b'\n');
+    }
 }

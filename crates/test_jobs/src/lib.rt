@@ -3,49 +3,26 @@
 // differs and a last line with the counts.
 #![tactic(auto)]
 
-ghost use Rattle.std.specs.Prelude.{◌≤◌, length, IfOk};
+ghost use Rattle.std.specs.Prelude.{◌≡◌, ◌≤◌, length, IfOk, OnOk};
 
-use std::io;
 use std::io::Read;
+use std::{fmt, io};
 use walk_outcome::Outcome;
 
 // What no call writes: a place that keeps it was not written.
 pub const MARK: u32 = 4294967295;
 
-fn word(bytes: &[u8]) -> u32
-    requires { 4 ≤ length bytes.now }
-{
-    let a = bytes[0] as u32;
-    let b = bytes[1] as u32;
-    let c = bytes[2] as u32;
-    let d = bytes[3] as u32;
-    a | (b << 8) | (c << 16) | (d << 24)
-}
-
-// Reads until the bytes are full or the input ends: those that it does not reach stay as they are.
-fn read_full<R: Read>(input: &mut R, bytes: &mut [u8]) -> io::Result<()> {
-    let mut done: usize = 0;
-    while done < bytes.len() {
-        let n = input.read(&mut bytes[done..])?;
-        if n == 0 {
-            return Ok(());
-        }
-        done += n;
-    }
-    Ok(())
-}
-
 // Past the end of the input every byte is 0.
 pub fn read_word<R: Read>(input: &mut R) -> io::Result<u32> {
     let mut bytes = [0u8; 4];
-    read_full(input, &mut bytes)?;
-    Ok(word(&bytes))
+    input.chain(io::repeat(0)).read_exact(&mut bytes)?;
+    Ok(u32::from_le_bytes(bytes))
 }
 
 // 64 bits, the high word first.
 pub fn read_wide<R: Read>(input: &mut R) -> io::Result<u64> {
-    let high = read_word(input)? as u64;
-    let low = read_word(input)? as u64;
+    let high = u64::from(read_word(input)?);
+    let low = u64::from(read_word(input)?);
     Ok((high << 32) | low)
 }
 
@@ -53,8 +30,8 @@ pub fn read_wide<R: Read>(input: &mut R) -> io::Result<u64> {
 pub fn read_count<R: Read>(input: &mut R, most: usize) -> io::Result<usize>
     ensures { IfOk result (λ n. n ≤ most) }
 {
-    let n = read_word(input)? as usize;
-    if n < most { Ok(n) } else { Ok(most) }
+    let count = read_word(input)? as usize;
+    Ok(count.min(most))
 }
 
 pub fn read_words<R: Read>(input: &mut R, words: &mut [u32]) -> io::Result<()> {
@@ -64,51 +41,18 @@ pub fn read_words<R: Read>(input: &mut R, words: &mut [u32]) -> io::Result<()> {
     Ok(())
 }
 
-// Reads the first words of a list.
-pub fn read_first<R: Read>(input: &mut R, words: &mut [u32], count: usize) -> io::Result<()>
-    requires { count ≤ length words.old }
+// A list with its length before it, read into the room that is lent: its words, cut to the room.
+pub fn read_list<'a, R: Read>(input: &mut R, room: &'a mut [u32]) -> io::Result<&'a [u32]>
+    ensures { IfOk result (λ list. length list.now ≤ length room.old) }
 {
-    read_words(input, &mut words[..count])
-}
-
-pub fn fill(list: &mut [u32], v: u32) {
-    for place in list.iter_mut() {
-        *place = v;
-    }
-}
-
-pub fn same(a: &[u32], b: &[u32]) -> bool {
-    a == b
-}
-
-// Whether every place of the list is v.
-pub fn keeps(list: &[u32], v: u32) -> bool {
-    for place in list {
-        if *place != v {
-            return false;
-        }
-    }
-    true
-}
-
-// Whether the part is in the list from the place on.
-pub fn same_part(part: &[u32], list: &[u32], place: usize) -> bool {
-    if list.len() < place {
-        return false;
-    }
-    if list.len() - place < part.len() {
-        return false;
-    }
-    for (i, w) in part.iter().enumerate() {
-        if *w != list[place + i] {
-            return false;
-        }
-    }
-    true
+    let count = read_count(input, room.len())?;
+    let list = &mut room[..count];
+    read_words(input, list)?;
+    Ok(list)
 }
 
 // An answer's number and its values, zeros where it has fewer than three.
-#[derive(Clone, Copy)]
+#[derive(Clone, Copy, Debug, Default, PartialEq, Eq)]
 pub struct Numbers {
     pub number: u64,
     pub first: u64,
@@ -116,38 +60,56 @@ pub struct Numbers {
     pub third: u64,
 }
 
-pub fn numbers_of(o: Outcome) -> Numbers {
-    match o {
-        Outcome::Found(r, m, c) => Numbers {
-            number: 0,
-            first: r.0,
-            second: m.0,
-            third: c as u64,
-        },
-        Outcome::Spent(k, e) => Numbers {
-            number: 11,
-            first: k.0,
-            second: e.0,
-            third: 0,
-        },
-        Outcome::Refused(j) => refused(j),
+impl Numbers {
+    // Those of an answer that is a number alone.
+    pub fn refused(number: u32) -> Numbers
+        ensures { result ≡ record { number = number; first = 0; second = 0; third = 0 } }
+    {
+        Numbers {
+            number: u64::from(number),
+            ..Numbers::default()
+        }
     }
 }
 
-pub fn refused(j: u32) -> Numbers {
-    Numbers {
-        number: j as u64,
-        first: 0,
-        second: 0,
-        third: 0,
+impl From<Outcome> for Numbers {
+    ghost use Rattle.test_jobs.specs.Numbers.{numbers_of};
+
+    ghost from_gives = { λ outcome n. n ≡ numbers_of outcome };
+
+    fn from(outcome: Outcome) -> Numbers {
+        match outcome {
+            Outcome::Found(r, m, c) => Numbers {
+                number: 0,
+                first: r.0,
+                second: m.0,
+                third: u64::from(c),
+            },
+            Outcome::Spent(k, e) => Numbers {
+                number: 11,
+                first: k.0,
+                second: e.0,
+                third: 0,
+            },
+            Outcome::Refused(number) => Numbers::refused(number),
+        }
+    }
+}
+
+impl fmt::Display for Numbers {
+    fn fmt<W: fmt::Write>(&self, f: &mut fmt::Formatter<W>) -> fmt::Result {
+        write!(
+            f,
+            "{} {} {} {}",
+            self.number, self.first, self.second, self.third
+        )
     }
 }
 
 pub fn read_numbers<R: Read>(input: &mut R) -> io::Result<Numbers> {
-    let number = read_word(input)? as u64;
-    let first = read_word(input)? as u64;
-    let second = read_word(input)? as u64;
-    let third = read_word(input)? as u64;
+    let mut words = [0u32; 4];
+    read_words(input, &mut words)?;
+    let [number, first, second, third] = words.map(u64::from);
     Ok(Numbers {
         number,
         first,
@@ -156,44 +118,49 @@ pub fn read_numbers<R: Read>(input: &mut R) -> io::Result<Numbers> {
     })
 }
 
-pub fn same_numbers(a: Numbers, b: Numbers) -> bool {
-    if a.number != b.number {
-        return false;
-    }
-    if a.first != b.first {
-        return false;
-    }
-    if a.second != b.second {
-        return false;
-    }
-    a.third == b.third
+// A job: its number, counted from 1, the words of its ticket, and where its lines are printed.
+#[derive(Drop)]
+pub struct Job<'a, P: Print> {
+    rt: &'a P,
+    number: u32,
+    pub ticket: &'a [u32],
 }
 
-fn show(rt: &impl Print, n: u64) -> io::Result<()> {
-    print!(rt; "{n} ")
+impl<'a, P: Print> Job<'a, P> {
+    // Passes on whether what a call said, and what it wrote, is what is stored. Prints a line where it is not: the
+    // job's number and what the call said.
+    pub fn report(&self, said: Numbers, agrees: bool) -> io::Result<bool>
+        ensures { OnOk result (result ≡ Ok agrees) }
+    {
+        if !agrees {
+            println!(self.rt; "{} {said} ", self.number)?;
+        }
+        Ok(agrees)
+    }
 }
 
-// The line of a job that differs: its number, and what the call said.
-pub fn show_difference(rt: &impl Print, job: u32, said: Numbers) -> io::Result<()> {
-    show(rt, job as u64)?;
-    show(rt, said.number)?;
-    show(rt, said.first)?;
-    show(rt, said.second)?;
-    show(rt, said.third)?;
-    println!(rt; "")
-}
-
-// 0 where the job agrees; where it differs 1, and its line.
-pub fn differs(rt: &impl Print, agrees: bool, job: u32, said: Numbers) -> io::Result<u32>
-    ensures { IfOk result (λ n. n ≤ 1) }
+// Runs the jobs of the input and prints their number and how many of them differ. The input is the number of jobs,
+// then of each job its ticket and what `run` reads, which says whether the job agrees with what is stored.
+pub fn run_jobs<P, R, F>(rt: &P, input: &mut R, mut run: F) -> io::Result<()>
+where
+    P: Print,
+    R: Read,
+    F: FnMut(&Job<'_, P>, &mut R) -> io::Result<bool>,
+    requires { F.IsAlwaysCallable run }
 {
-    if agrees {
-        return Ok(0);
+    let mut room = [0u32; 140];
+    let jobs = read_word(input)?;
+    let mut differ: u32 = 0;
+    for i in 0..jobs {
+        let ticket = read_list(input, &mut room)?;
+        let job = Job {
+            rt,
+            number: i + 1,
+            ticket,
+        };
+        if !run(&job, input)? {
+            differ += 1;
+        }
     }
-    show_difference(rt, job, said)?;
-    Ok(1)
-}
-
-pub fn show_counts(rt: &impl Print, jobs: u32, differ: u32) -> io::Result<()> {
     println!(rt; "{jobs} jobs, {differ} differ")
 }

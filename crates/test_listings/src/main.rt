@@ -7,156 +7,75 @@
 // Prints a line for each job that differs, then the counts.
 #![tactic(auto)]
 
-ghost use Rattle.std.specs.Prelude.{◌≤◌, length, IfOk};
+ghost use Rattle.std.specs.Prelude.{◌≤◌};
 
 use base_counters::Distance;
+use base_refusals::Refusal;
 use call_lookup::lookup;
 use engine::listing::listing;
 use std::io;
 use std::io::Read;
 use test_jobs::{
-    MARK, Numbers, differs, fill, keeps, numbers_of, read_count, read_first, read_numbers,
-    read_wide, read_word, refused, same, same_numbers, same_part, show_counts,
+    Job, MARK, Numbers, read_count, read_list, read_numbers, read_wide, read_word, run_jobs,
 };
 
-fn list(ticket: &[u32], out: &mut [u32]) -> Numbers {
-    let answer = listing(ticket, out);
-    let outcome = answer.outcome;
-    numbers_of(outcome)
-}
+// The list of a call.
+type List = [u32; 512];
 
-fn list_first(ticket: &[u32], out: &mut [u32], count: usize) -> Numbers
-    requires { count ≤ length out.old }
+// A list in which nothing is written.
+const KEPT: List = [MARK; 512];
+
+// Whether the call says these numbers and leaves this list, where so many words of it are lent.
+fn leaves<P: Print>(job: &Job<'_, P>, lent: usize, want: Numbers, list: &List) -> io::Result<bool>
+    requires { lent ≤ 512 }
 {
-    list(ticket, &mut out[..count])
+    let mut room = KEPT;
+    let answer = listing(job.ticket, &mut room[..lent]);
+    let said = Numbers::from(answer.outcome);
+    job.report(said, said == want && room == *list)
 }
 
-// Whether the answer and the whole lent list are the stored ones.
-fn lists(
-    rt: &impl Print,
-    job: u32,
-    ticket: &[u32],
-    want: Numbers,
-    stored: &[u32],
-    out: &mut [u32],
-) -> io::Result<u32>
-    ensures { IfOk result (λ n. n ≤ 1) }
-{
-    fill(out, MARK);
-    let said = list(ticket, out);
-    let mut agrees = false;
-    if same_numbers(said, want) {
-        agrees = same(out, stored);
-    }
-    differs(rt, agrees, job, said)
-}
-
-// Whether a list one word short of size is refused and kept.
-fn refuses(
-    rt: &impl Print,
-    job: u32,
-    ticket: &[u32],
-    size: usize,
-    out: &mut [u32],
-) -> io::Result<u32>
-    requires { size ≤ length out.old }
-    ensures { IfOk result (λ n. n ≤ 1) }
+// Whether the call is refused and keeps the list where it is a word short; no list is short of no words.
+fn refuses<P: Print>(job: &Job<'_, P>, size: usize) -> io::Result<bool>
+    requires { size ≤ 512 }
 {
     if size == 0 {
-        return Ok(0);
+        return Ok(true);
     }
-    fill(out, MARK);
-    let said = list_first(ticket, out, size - 1);
-    let mut agrees = false;
-    if same_numbers(said, refused(13)) {
-        agrees = keeps(out, MARK);
-    }
-    differs(rt, agrees, job, said)
+    let refused = Numbers::refused(u32::from(Refusal::ListingRoom));
+    leaves(job, size - 1, refused, &KEPT)
 }
 
-// Whether the part of the list that comes next in the input is the one at the distance that comes next.
+// Whether the record at the distance that comes next in the input is the part of the list that comes after it.
 fn finds<R: Read>(input: &mut R, list: &[u32]) -> io::Result<bool> {
-    let n = read_word(input)? as u64;
-    let y = read_wide(input)?;
+    let count = read_count(input, list.len())?;
+    let lent = &list[..count];
+    let n = u64::from(read_word(input)?);
+    let distance = Distance(read_wide(input)?);
     let place = read_word(input)? as usize;
     let size = read_word(input)? as usize;
-    let part = lookup(list, n, Distance(y));
-    if part.len() != size {
-        return Ok(false);
-    }
-    Ok(same_part(part, list, place))
-}
-
-fn finds_first<R: Read>(input: &mut R, list: &[u32], count: usize) -> io::Result<bool>
-    requires { count ≤ length list.now }
-{
-    finds(input, &list[..count])
+    Ok(lent.get(place..place + size) == Some(lookup(lent, n, distance)))
 }
 
 // Every lookup of a job. The line of one that differs has the number 8.
-fn looks_up<R: Read>(rt: &impl Print, input: &mut R, job: u32, list: &[u32]) -> io::Result<u32>
-    ensures { IfOk result (λ n. n ≤ 1) }
-{
-    let lookups = read_word(input)?;
-    let mut wrong: u32 = 0;
-    for _ in 0..lookups {
-        let count = read_count(input, list.len())?;
-        if !finds_first(input, list, count)? {
-            wrong = 1;
-        }
+fn looks_up<P: Print, R: Read>(job: &Job<'_, P>, input: &mut R, list: &[u32]) -> io::Result<bool> {
+    let mut agrees = true;
+    for _ in 0..read_word(input)? {
+        agrees &= finds(input, list)?;
     }
-    differs(rt, wrong == 0, job, refused(8))
+    job.report(Numbers::refused(8), agrees)
 }
 
 // A job after its ticket.
-fn compare<R: Read>(
-    rt: &impl Print,
-    input: &mut R,
-    job: u32,
-    ticket: &[u32],
-    stored: &mut [u32],
-    out: &mut [u32],
-) -> io::Result<u32>
-    requires { length stored.old ≤ length out.old }
-    ensures { IfOk result (λ n. n ≤ 1) }
-{
+fn compare<P: Print, R: Read>(job: &Job<'_, P>, input: &mut R) -> io::Result<bool> {
     let want = read_numbers(input)?;
-    fill(stored, MARK);
-    let size = read_count(input, stored.len())?;
-    read_first(input, stored, size)?;
-    let a = lists(rt, job, ticket, want, stored, out)?;
-    let b = refuses(rt, job, ticket, size, out)?;
-    let c = looks_up(rt, input, job, stored)?;
-    if a + b + c > 0 { Ok(1) } else { Ok(0) }
-}
-
-fn compare_first<R: Read>(
-    rt: &impl Print,
-    input: &mut R,
-    job: u32,
-    words: &[u32],
-    count: usize,
-    stored: &mut [u32],
-    out: &mut [u32],
-) -> io::Result<u32>
-    requires count_in_bounds { count ≤ length words.now }
-    requires stored_in_bounds { length stored.old ≤ length out.old }
-    ensures { IfOk result (λ n. n ≤ 1) }
-{
-    compare(rt, input, job, &words[..count], stored, out)
+    let mut list = KEPT;
+    let size = read_list(input, &mut list)?.len();
+    let written = leaves(job, 512, want, &list)?;
+    let refused = refuses(job, size)?;
+    Ok(looks_up(job, input, &list)? && written && refused)
 }
 
 fn main(rt: HostRuntime) -> io::Result<()> {
-    let mut input = rt.reader();
-    let jobs = read_word(&mut input)?;
-    let mut words = [0u32; 140];
-    let mut stored = [0u32; 512];
-    let mut out = [0u32; 512];
-    let mut differ: u32 = 0;
-    for i in 0..jobs {
-        let count = read_count(&mut input, 140)?;
-        read_first(&mut input, &mut words, count)?;
-        differ += compare_first(&rt, &mut input, i + 1, &words, count, &mut stored, &mut out)?;
-    }
-    show_counts(&rt, jobs, differ)
+    run_jobs(&rt, &mut rt.reader(), |job, input| compare(job, input))
 }

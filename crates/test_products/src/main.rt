@@ -4,228 +4,112 @@
 // differs, then the counts.
 #![tactic(auto)]
 
-ghost use Rattle.std.specs.Prelude.{◌≤◌, length, IfOk};
-ghost use Rattle.ideal_giant.specs.Signed.{two_distances};
-
 use base_counters::Distance;
 use base_polynomial::Poly;
-use engine::giant_step::{GiantStepAnswer, giant_step};
-use engine::product::{ProductAnswer, product};
+use engine::giant_step::giant_step;
+use engine::product::product;
 use std::io;
 use std::io::Read;
-use test_jobs::{
-    differs, read_count, read_first, read_wide, read_word, refused, same, show_counts,
-};
+use test_jobs::{Job, Numbers, read_list, read_wide, read_word, run_jobs};
 
 // The largest distance of an answer: 2⁴¹.
 const MOST: u64 = 2199023255552;
 
-// An ideal of a job: the lists of Q and P with the number of their words, and its distance.
+// An ideal of a job: the words of Q and P, and its distance.
 #[derive(Clone, Copy)]
-struct Operand {
-    q: [u32; 64],
-    qsize: usize,
-    p: [u32; 64],
-    psize: usize,
-    distance: u64,
+struct Operand<'a> {
+    q: &'a [u32],
+    p: &'a [u32],
+    distance: Distance,
 }
 
-fn read_operand<R: Read>(input: &mut R) -> io::Result<Operand>
-    ensures { IfOk result (λ o. (o.qsize ≤ length o.q) × (o.psize ≤ length o.p)) }
-{
-    let mut q = [0u32; 64];
-    let mut p = [0u32; 64];
-    let qsize = read_count(input, 64)?;
-    read_first(input, &mut q, qsize)?;
-    let psize = read_count(input, 64)?;
-    read_first(input, &mut p, psize)?;
-    let distance = read_wide(input)?;
-    Ok(Operand {
-        q,
-        qsize,
-        p,
-        psize,
-        distance,
-    })
+// The ideal that comes next in the input, read into the room that is lent.
+fn read_operand<'a, R: Read>(
+    input: &mut R,
+    q: &'a mut [u32],
+    p: &'a mut [u32],
+) -> io::Result<Operand<'a>> {
+    let q = read_list(input, q)?;
+    let p = read_list(input, p)?;
+    let distance = Distance(read_wide(input)?);
+    Ok(Operand { q, p, distance })
 }
 
 // Whether the polynomial that comes next in the input is this one, with zeros above its degree.
-fn next_is<R: Read>(input: &mut R, f: Poly) -> io::Result<bool> {
+fn next_is<R: Read>(input: &mut R, f: &Poly) -> io::Result<bool> {
     let mut want = [0u32; 129];
-    let size = read_count(input, 129)?;
-    read_first(input, &mut want, size)?;
-    if f.size != size {
-        return Ok(false);
-    }
-    let c = f.c;
-    Ok(same(&c, &want))
+    let size = read_list(input, &mut want)?.len();
+    Ok(f.size == size && f.c == want)
 }
 
-// Whether the product that comes next in the input is this one.
-fn same_product<R: Read>(input: &mut R, a: ProductAnswer) -> io::Result<bool> {
-    let number = read_word(input)?;
-    let s = next_is(input, a.s)?;
-    let q = next_is(input, a.q)?;
-    let p = next_is(input, a.p)?;
-    if a.number != number {
-        return Ok(false);
+// Whether the polynomials that come next in the input are these.
+fn next_are<R: Read>(input: &mut R, polynomials: &[Poly]) -> io::Result<bool> {
+    let mut agree = true;
+    for f in polynomials {
+        agree &= next_is(input, f)?;
     }
-    if !s {
-        return Ok(false);
-    }
-    if !q {
-        return Ok(false);
-    }
-    Ok(p)
+    Ok(agree)
 }
 
-// total − lower.
-fn signed(total: u64, lower: u64) -> i64
-    requires { (total ≤ two_distances) × (lower ≤ two_distances) }
-{
-    total as i64 - lower as i64
+// The number that comes next in the input, cut to the largest distance of an answer: its sign, 1 where it is
+// negative, and its size.
+fn read_signed<R: Read>(input: &mut R) -> io::Result<i64> {
+    let negative = read_word(input)? == 1;
+    let size = read_wide(input)?.min(MOST) as i64;
+    Ok(if negative { -size } else { size })
 }
 
-// A number, cut to the largest distance of an answer.
-fn cut(size: u64) -> u64
-    ensures { result ≤ two_distances }
-{
-    if size < MOST { size } else { MOST }
-}
-
-// The number that comes next in the input, negative where its sign is 1.
-fn read_signed<R: Read>(input: &mut R, negative: u32) -> io::Result<i64> {
-    let size = cut(read_wide(input)?);
-    if negative == 1 {
-        return Ok(signed(0, size));
-    }
-    Ok(signed(size, 0))
-}
-
-// Whether the giant step that comes next in the input is this one.
-fn same_giant_step<R: Read>(input: &mut R, a: GiantStepAnswer) -> io::Result<bool> {
-    let number = read_word(input)?;
-    let q = next_is(input, a.q)?;
-    let p = next_is(input, a.p)?;
-    let f = signed(0, read_word(input)? as u64);
-    let negative = read_word(input)?;
-    let distance = read_signed(input, negative)?;
-    if a.number != number {
-        return Ok(false);
-    }
-    if a.f != f {
-        return Ok(false);
-    }
-    if a.distance != distance {
-        return Ok(false);
-    }
-    if !q {
-        return Ok(false);
-    }
-    Ok(p)
-}
-
-fn multiply(ticket: &[u32], x: Operand, y: Operand) -> ProductAnswer
-    requires { (x.qsize ≤ length x.q) × (x.psize ≤ length x.p) × (y.qsize ≤ length y.q) × (y.psize ≤ length y.p) }
-{
-    let q1 = x.q;
-    let p1 = x.p;
-    let q2 = y.q;
-    let p2 = y.p;
-    product(
-        ticket,
-        &q1[..x.qsize],
-        &p1[..x.psize],
-        &q2[..y.qsize],
-        &p2[..y.psize],
-    )
-}
-
-fn step(ticket: &[u32], x: Operand, y: Operand) -> GiantStepAnswer
-    requires { (x.qsize ≤ length x.q) × (x.psize ≤ length x.p) × (y.qsize ≤ length y.q) × (y.psize ≤ length y.p) }
-{
-    let q1 = x.q;
-    let p1 = x.p;
-    let q2 = y.q;
-    let p2 = y.p;
-    giant_step(
-        ticket,
-        &q1[..x.qsize],
-        &p1[..x.psize],
-        Distance(x.distance),
-        &q2[..y.qsize],
-        &p2[..y.psize],
-        Distance(y.distance),
-    )
-}
-
-// The line of a product, or of a giant step, that differs has the number that it said.
-fn compare_product<R: Read>(
-    rt: &impl Print,
+// Whether the product that comes next in the input is that of the two ideals; in a refusal every polynomial is 0. The
+// line of one that differs has the number that it said.
+fn multiplies<P: Print, R: Read>(
+    job: &Job<'_, P>,
     input: &mut R,
-    job: u32,
-    ticket: &[u32],
-    x: Operand,
-    y: Operand,
-) -> io::Result<u32>
-    requires { (x.qsize ≤ length x.q) × (x.psize ≤ length x.p) × (y.qsize ≤ length y.q) × (y.psize ≤ length y.p) }
-    ensures { IfOk result (λ n. n ≤ 1) }
-{
-    let a = multiply(ticket, x, y);
-    let agrees = same_product(input, a)?;
-    differs(rt, agrees, job, refused(a.number))
+    x: Operand<'_>,
+    y: Operand<'_>,
+) -> io::Result<bool> {
+    let answer = product(job.ticket, x.q, x.p, y.q, y.p);
+    let (number, polynomials) = match answer.result {
+        Ok(product) => (0, [product.s, product.ideal.q, product.ideal.p]),
+        Err(refusal) => (u32::from(refusal), [Poly::zero(); 3]),
+    };
+    let stored = read_word(input)?;
+    let agree = next_are(input, &polynomials)?;
+    job.report(Numbers::refused(number), number == stored && agree)
 }
 
-fn compare_step<R: Read>(
-    rt: &impl Print,
+// The same of the giant step, with f and the distance, which are 0 in a refusal.
+fn steps<P: Print, R: Read>(
+    job: &Job<'_, P>,
     input: &mut R,
-    job: u32,
-    ticket: &[u32],
-    x: Operand,
-    y: Operand,
-) -> io::Result<u32>
-    requires { (x.qsize ≤ length x.q) × (x.psize ≤ length x.p) × (y.qsize ≤ length y.q) × (y.psize ≤ length y.p) }
-    ensures { IfOk result (λ n. n ≤ 1) }
-{
-    let a = step(ticket, x, y);
-    let agrees = same_giant_step(input, a)?;
-    differs(rt, agrees, job, refused(a.number))
+    x: Operand<'_>,
+    y: Operand<'_>,
+) -> io::Result<bool> {
+    let answer = giant_step(job.ticket, x.q, x.p, x.distance, y.q, y.p, y.distance);
+    let (number, ideal, f, distance) = match answer.result {
+        Ok(step) => (0, [step.ideal.q, step.ideal.p], step.f, step.distance),
+        Err(refusal) => (u32::from(refusal), [Poly::zero(); 2], 0, 0),
+    };
+    let stored = read_word(input)?;
+    let agree = next_are(input, &ideal)?;
+    let f_stored = -i64::from(read_word(input)?);
+    let distance_stored = read_signed(input)?;
+    let numbers = (number, f, distance) == (stored, f_stored, distance_stored);
+    job.report(Numbers::refused(number), numbers && agree)
 }
 
 // A job after its ticket.
-fn compare<R: Read>(rt: &impl Print, input: &mut R, job: u32, ticket: &[u32]) -> io::Result<u32>
-    ensures { IfOk result (λ n. n ≤ 1) }
-{
-    let x = read_operand(input)?;
-    let y = read_operand(input)?;
-    let a = compare_product(rt, input, job, ticket, x, y)?;
-    let b = compare_step(rt, input, job, ticket, x, y)?;
-    if a + b > 0 { Ok(1) } else { Ok(0) }
-}
-
-// The same, of the first words of the list.
-fn compare_first<R: Read>(
-    rt: &impl Print,
-    input: &mut R,
-    job: u32,
-    words: &[u32],
-    count: usize,
-) -> io::Result<u32>
-    requires { count ≤ length words.now }
-    ensures { IfOk result (λ n. n ≤ 1) }
-{
-    compare(rt, input, job, &words[..count])
+fn compare<P: Print, R: Read>(job: &Job<'_, P>, input: &mut R) -> io::Result<bool> {
+    let mut q1 = [0u32; 64];
+    let mut p1 = [0u32; 64];
+    let mut q2 = [0u32; 64];
+    let mut p2 = [0u32; 64];
+    let x = read_operand(input, &mut q1, &mut p1)?;
+    let y = read_operand(input, &mut q2, &mut p2)?;
+    let product = multiplies(job, input, x, y)?;
+    let step = steps(job, input, x, y)?;
+    Ok(product && step)
 }
 
 fn main(rt: HostRuntime) -> io::Result<()> {
-    let mut input = rt.reader();
-    let jobs = read_word(&mut input)?;
-    let mut words = [0u32; 140];
-    let mut differ: u32 = 0;
-    for i in 0..jobs {
-        let count = read_count(&mut input, 140)?;
-        read_first(&mut input, &mut words, count)?;
-        differ += compare_first(&rt, &mut input, i + 1, &words, count)?;
-    }
-    show_counts(&rt, jobs, differ)
+    run_jobs(&rt, &mut rt.reader(), |job, input| compare(job, input))
 }

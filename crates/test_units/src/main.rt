@@ -5,194 +5,88 @@
 // differs, then the counts.
 #![tactic(auto)]
 
-ghost use Rattle.std.specs.Prelude.{◌<◌, ◌≤◌, length, IfOk};
+ghost use Rattle.std.specs.Prelude.{◌<◌, ◌≤◌, All};
 
+use base_refusals::Refusal;
 use engine::unit::unit;
 use std::io;
 use std::io::Read;
-use test_jobs::{
-    MARK, Numbers, differs, keeps, numbers_of, read_count, read_first, read_numbers, read_word,
-    refused, same, same_numbers, show_counts,
+use test_jobs::{Job, MARK, Numbers, read_numbers, read_words, run_jobs};
+
+// The four lists of a call.
+#[derive(Clone, Copy, PartialEq, Eq)]
+struct Lists {
+    p: [u32; 64],
+    s: [u32; 64],
+    x: [u32; 64],
+    y: [u32; 64],
+}
+
+// Lists in which nothing is written.
+const KEPT: Lists = Lists {
+    p: [MARK; 64],
+    s: [MARK; 64],
+    x: [MARK; 64],
+    y: [MARK; 64],
 };
 
-fn kept(p: &[u32], s: &[u32], x: &[u32], y: &[u32]) -> bool {
-    if !keeps(p, MARK) {
-        return false;
-    }
-    if !keeps(s, MARK) {
-        return false;
-    }
-    if !keeps(x, MARK) {
-        return false;
-    }
-    keeps(y, MARK)
-}
-
-// Whether the list has zeros in its first places and the mark in the others.
-fn cleared(list: &[u32], places: usize) -> bool {
-    for (i, w) in list.iter().enumerate() {
-        let want = if i < places { 0 } else { MARK };
-        if *w != want {
-            return false;
-        }
-    }
-    true
-}
-
-fn write(ticket: &[u32], p: &mut [u32], s: &mut [u32], x: &mut [u32], y: &mut [u32]) -> Numbers {
-    let answer = unit(ticket, p, s, x, y);
-    let outcome = answer.outcome;
-    numbers_of(outcome)
-}
-
-// How many places of list i are lent where list k is to be short.
-fn lent(places: usize, i: u32, k: u32) -> usize
-    requires { 0 < places }
-    ensures { result ≤ places }
-{
-    if i == k { places - 1 } else { places }
-}
-
-// The first places of each list lent, of list k one less.
-fn write_short(
-    ticket: &[u32],
-    p: &mut [u32],
-    s: &mut [u32],
-    x: &mut [u32],
-    y: &mut [u32],
-    places: usize,
-    k: u32,
-) -> Numbers
-    requires places_nonzero { 0 < places }
-    requires places_in_bounds { (places ≤ length p.old) × (places ≤ length s.old) × (places ≤ length x.old) × (places ≤ length y.old) }
-{
-    let a = lent(places, 0, k);
-    let b = lent(places, 1, k);
-    let c = lent(places, 2, k);
-    let d = lent(places, 3, k);
-    write(ticket, &mut p[..a], &mut s[..b], &mut x[..c], &mut y[..d])
-}
-
-// Whether four lists of which list k is short are refused and kept.
-fn refuses(rt: &impl Print, job: u32, ticket: &[u32], places: usize, k: u32) -> io::Result<u32>
-    requires { (0 < places) × (places ≤ 64) }
-    ensures { IfOk result (λ n. n ≤ 1) }
-{
-    let mut p = [MARK; 64];
-    let mut s = [MARK; 64];
-    let mut x = [MARK; 64];
-    let mut y = [MARK; 64];
-    let said = write_short(ticket, &mut p, &mut s, &mut x, &mut y, places, k);
-    let mut agrees = false;
-    if same_numbers(said, refused(12)) {
-        agrees = kept(&p, &s, &x, &y);
-    }
-    differs(rt, agrees, job, said)
-}
-
-// Whether the four lists hold the stored unit.
-fn holds(
-    unit: &[u32],
-    root: &[u32],
-    p: &[u32],
-    s: &[u32],
-    x: &[u32],
-    y: &[u32],
-    places: usize,
-) -> bool {
-    if !same(p, unit) {
-        return false;
-    }
-    if !same(s, root) {
-        return false;
-    }
-    if !cleared(x, places) {
-        return false;
-    }
-    cleared(y, places)
-}
-
-// Whether the answer and the four lists are the stored ones.
-fn writes(
-    rt: &impl Print,
-    job: u32,
-    ticket: &[u32],
+// Whether the call says these numbers and leaves these lists, where so many places of each list are lent.
+fn leaves<P: Print>(
+    job: &Job<'_, P>,
+    lent: [usize; 4],
     want: Numbers,
-    unit: &[u32],
-    root: &[u32],
-    places: usize,
-) -> io::Result<u32>
-    ensures { IfOk result (λ n. n ≤ 1) }
+    lists: &Lists,
+) -> io::Result<bool>
+    requires { All (λ places. places ≤ 64) lent }
 {
-    let mut p = [MARK; 64];
-    let mut s = [MARK; 64];
-    let mut x = [MARK; 64];
-    let mut y = [MARK; 64];
-    let said = write(ticket, &mut p, &mut s, &mut x, &mut y);
-    let mut agrees = false;
-    if same_numbers(said, want) {
-        agrees = holds(unit, root, &p, &s, &x, &y, places);
-    }
-    differs(rt, agrees, job, said)
+    let mut room = KEPT;
+    let [p, s, x, y] = lent;
+    let answer = unit(
+        job.ticket,
+        &mut room.p[..p],
+        &mut room.s[..s],
+        &mut room.x[..x],
+        &mut room.y[..y],
+    );
+    let said = Numbers::from(answer.outcome);
+    job.report(said, said == want && room == *lists)
 }
 
-// The four refusals of a job, one for each list.
-fn refuses_each(rt: &impl Print, job: u32, ticket: &[u32], places: usize) -> io::Result<u32>
+// The lists that a job has stored, with so many places written.
+fn read_lists<R: Read>(input: &mut R, places: usize) -> io::Result<Lists>
+    requires { places ≤ 64 }
+{
+    let mut lists = KEPT;
+    read_words(input, &mut lists.p[..places])?;
+    read_words(input, &mut lists.s[..places])?;
+    lists.x[..places].fill(0);
+    lists.y[..places].fill(0);
+    Ok(lists)
+}
+
+// Whether the call is refused and keeps the lists where any one of them is a place short.
+fn refuses<P: Print>(job: &Job<'_, P>, places: usize) -> io::Result<bool>
     requires { (0 < places) × (places ≤ 64) }
-    ensures { IfOk result (λ n. n ≤ 4) }
 {
-    let a = refuses(rt, job, ticket, places, 0)?;
-    let b = refuses(rt, job, ticket, places, 1)?;
-    let c = refuses(rt, job, ticket, places, 2)?;
-    let d = refuses(rt, job, ticket, places, 3)?;
-    Ok(a + b + c + d)
+    let refused = Numbers::refused(u32::from(Refusal::UnitRoom));
+    let mut agrees = true;
+    for short in 0..4 {
+        let mut lent = [places; 4];
+        lent[short] -= 1;
+        agrees &= leaves(job, lent, refused, &KEPT)?;
+    }
+    Ok(agrees)
 }
 
-// R + 1, cut to the 64 places of a list.
-fn places_of(r: u64) -> usize
-    ensures { (0 < result) × (result ≤ 64) }
-{
-    if r < 64 { r as usize + 1 } else { 64 }
-}
-
-// A job after its ticket.
-fn compare<R: Read>(rt: &impl Print, input: &mut R, job: u32, ticket: &[u32]) -> io::Result<u32>
-    ensures { IfOk result (λ n. n ≤ 1) }
-{
+// A job after its ticket: R + 1 places are written, of the 64 that a list has.
+fn compare<P: Print, R: Read>(job: &Job<'_, P>, input: &mut R) -> io::Result<bool> {
     let want = read_numbers(input)?;
-    let places = places_of(want.first);
-    let mut unit = [MARK; 64];
-    let mut root = [MARK; 64];
-    read_first(input, &mut unit, places)?;
-    read_first(input, &mut root, places)?;
-    let a = writes(rt, job, ticket, want, &unit, &root, places)?;
-    let b = refuses_each(rt, job, ticket, places)?;
-    if a + b > 0 { Ok(1) } else { Ok(0) }
-}
-
-// The same, of the first words of the list.
-fn compare_first<R: Read>(
-    rt: &impl Print,
-    input: &mut R,
-    job: u32,
-    words: &[u32],
-    count: usize,
-) -> io::Result<u32>
-    requires { count ≤ length words.now }
-    ensures { IfOk result (λ n. n ≤ 1) }
-{
-    compare(rt, input, job, &words[..count])
+    let places = want.first.min(63) as usize + 1;
+    let lists = read_lists(input, places)?;
+    let written = leaves(job, [64; 4], want, &lists)?;
+    Ok(refuses(job, places)? && written)
 }
 
 fn main(rt: HostRuntime) -> io::Result<()> {
-    let mut input = rt.reader();
-    let jobs = read_word(&mut input)?;
-    let mut words = [0u32; 140];
-    let mut differ: u32 = 0;
-    for i in 0..jobs {
-        let count = read_count(&mut input, 140)?;
-        read_first(&mut input, &mut words, count)?;
-        differ += compare_first(&rt, &mut input, i + 1, &words, count)?;
-    }
-    show_counts(&rt, jobs, differ)
+    run_jobs(&rt, &mut rt.reader(), |job, input| compare(job, input))
 }

@@ -1,3 +1,2 @@
-pub mod Any
-pub mod Layout
+pub mod Kinds
 pub mod Refusal

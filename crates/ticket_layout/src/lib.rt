@@ -2,5 +2,6 @@
 #![tactic(auto)]
 
 pub mod head;
+pub mod kinds;
 pub mod layout;
 pub mod order;

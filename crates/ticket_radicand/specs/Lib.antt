@@ -1,3 +1,2 @@
 pub mod Radicand
-pub mod Refusal
 pub mod Squarefree

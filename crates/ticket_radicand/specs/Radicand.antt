@@ -1,20 +1,24 @@
 -- The coefficients of D in the words, and the record that they are read into.
 use Prim.Native.Nat.{ℕ, zero, suc, ◌+◌, ◌%◌, ◌<◌, ◌≤◌}
-use Rattle.std.proofs.Common.{mod-eq_of_lt, arith, sym, ◌∙◌, subst, length-drop, length-take-le, get_or-take, ne_eqb}
-use Rattle.std.specs.Prelude.{◌≡◌, Bool, false, length, take, drop}
+use Rattle.std.proofs.Common.{mod-eq_of_lt, arith, sym, ◌∙◌, subst, length-drop, length-take-le, get_or-take, ne_eqb, MatchBool}
+use Rattle.std.specs.Prelude.{◌≡◌, Bool, true, false, length, take, drop}
+use Rattle.std.specs.List.{HoldsAt, AllWithin}
 use Rattle.std.proofs.Math.Path.{ap}
 use mathlib.Core.List.{List, [], ◌∷◌, map}
-use Rattle.std.proofs.Math.ListN.{get_or, get_or-map}
+use Rattle.std.proofs.Math.ListN.{get_or, get_or-map, get_or-eq_default}
 use Rattle.std.proofs.lemmas.List.{length-map}
 use Rattle.std.proofs.Math.Seq.{get_or-drop}
-use Rattle.spec_arithmetic.specs.Field.{Ops, FieldName, ops}
+use Rattle.spec_arithmetic.specs.Field.{Ops, FieldName, ops, fits}
 use Rattle.spec_arithmetic.specs.Polynomials.{at, keep, cons, trim}
-use Rattle.spec_arithmetic.specs.Words.{value}
+use Rattle.spec_arithmetic.specs.Words.{value, some_not}
 use Rattle.spec_definitions.specs.Ticket.{wrong_coefficient, wrong_lead}
-use Rattle.spec_fields.specs.Named.{IsField, ok_zero}
+use Rattle.spec_fields.specs.Named.{IsField, Ok, ok_zero}
 use Rattle.spec_laws.specs.Admitted.{below_of, lead_of}
+use Rattle.spec_laws.specs.Coefficients.{some_none, take_at}
+use Rattle.base_places.specs.Places.{FilledBy, places_of}
 use Rattle.base_polynomial.specs.declared.Poly.{Poly}
-use Rattle.base_polynomial.specs.Over.{poly, Held, Is, result, is_poly}
+use Rattle.base_polynomial.specs.Held.{is_of}
+use Rattle.base_polynomial.specs.Over.{poly, Held, Holds, Is, result, is_poly}
 
 -- the values of the n + 1 words after the first two
 abbrev pub coefficients : ℕ → List ℕ → List ℕ
@@ -27,6 +31,21 @@ module _ (n : ℕ) (w : List ℕ) where
   pub at_coefficients : (i : ℕ) → i < n + 1 → get_or (coefficients n w) i 0 ≡ value (get_or w (i + 2) 0)
   unfolding value
   at_coefficients i h = get_or-map value (take (n + 1) (drop 2 w)) i 0 ∙ ap value (get_or-take (n + 1) (drop 2 w) i 0 h ∙ get_or-drop 2 w i 0 ∙ ap (λ (k : ℕ). get_or w k 0) (omega arith))
+
+-- a record whose places are filled with what P says is that of l, where P says what l has
+pub filled_holds : {P : ℕ → ℕ → Type 0} {n : ℕ} {a : Poly} {l : List ℕ} → FilledBy P n a.c → n ≤ 129 → a.size ≡ length l → length l ≡ n → ((i v : ℕ) → i < n → P i v → v ≡ get_or l i 0) → Holds a l
+filled_holds {a = a} {l = l} p s e k says f =
+    let places = places_of p says (λ i h. get_or-eq_default l 0 {n = i} (omega arith)) in
+    is_of f.q a.c a.size l places.long e (omega arith) places.at
+
+-- a test of the first n places of an array, each against q, is that of their list
+module _ (f : FieldName) (z : Ok f 0) (c : List ℕ) (n : ℕ) (long : n ≤ length c) where
+  pub any_coefficient : (r : Bool) → MatchBool r ((i : ℕ) × (i < length (take n c)) × HoldsAt (λ x. f.q ≤ x) (take n c) i) (AllWithin (λ x. x < f.q) (take n c) 0 (length (take n c))) → r ≡ some_not (fits f) (take n c)
+  any_coefficient true (i, h, bad) =
+      let e = length-take-le n c long in
+      let low : i < n = omega arith in
+      sym (take_at f c n long z i low (λ ok. (let b : f.q ≤ get_or (take n c) i 0 = bad 0 in let k = get_or-take n c i 0 low in omega arith)))
+  any_coefficient false all = sym (some_none f (take n c) (λ i h. all i 0 (omega arith) h))
 
 -- a list whose last coefficient is not 0 has no zero at its end
 module _ {A : Type 0} (o : Ops A) where

@@ -1,90 +1,87 @@
-// The polynomial D: its coefficients read from the words, and the tests on them.
+// The polynomial D: its coefficients, and the tests on them.
 #![tactic(auto)]
 
-ghost use Rattle.std.specs.Prelude.{◌≡◌, ◌+◌, ◌<◌, ◌≤◌, length};
+ghost use Rattle.std.specs.Prelude.{ℕ, ◌≡◌, ◌+◌, ◌<◌, ◌≤◌, length};
 ghost use Rattle.spec_definitions.specs.Ticket.{wrong_coefficient, wrong_lead, not_squarefree, first_of};
-ghost use Rattle.base_field.specs.Named.{name, IsField};
-ghost use Rattle.base_polynomial.specs.Whole.{poly, Held, Is, Holds};
-ghost use Rattle.ticket_radicand.specs.Radicand.{coefficients};
 ghost use Rattle.spec_laws.specs.FirstTest.{radicand_tests};
+ghost use Rattle.base_field.specs.Named.{name};
+ghost use Rattle.base_places.specs.Places.{FilledBy};
+ghost use Rattle.base_polynomial.specs.Whole.{poly, Held, Is, Holds};
+ghost use Rattle.base_refusals.specs.Number.{refused_by};
+ghost use Rattle.ticket_radicand.specs.Radicand.{coefficients};
 
 use base_euclid::gcd::gcd;
 use base_field::Field;
-use base_places::linear::{derivative_places, top};
+use base_places::linear::{derivative_places, fill_places, top};
 use base_polynomial::Poly;
+use base_refusals::Refusal;
 use base_words::value;
+
+// The n + 1 coefficients that `coefficient` says.
+pub fn filled<F: Fn(usize) -> u32>(n: usize, coefficient: F) -> Poly
+    requires n_bound { n ≤ 64 }
+    requires called { (i : ℕ) → i < n + 1 → F.pre coefficient i }
+    ensures size { result.size ≡ n + 1 }
+    ensures places { FilledBy (F.post coefficient) (n + 1) result.c }
+{
+    let mut radicand = Poly::zero();
+    fill_places(n + 1, coefficient, &mut radicand.c);
+    radicand.size = n + 1;
+    radicand
+}
 
 // The values of the n + 1 words after the first two.
 pub fn radicand_of(n: usize, words: &[u32]) -> Poly
     requires { (n ≤ 64) × (n + 3 ≤ length words.now) }
     ensures { Holds result (coefficients n words.now) }
 {
-    let mut c = [0u32; 129];
-    let mut i: usize = 0;
-    while i < n + 1 {
-        c[i] = value(words[i + 2]);
-        i += 1;
-    }
-    Poly { c: c, size: n + 1 }
+    filled(n, |i| value(words[i + 2]))
 }
 
 // A coefficient is q or more.
-fn wrong_coefficient(f: Field, radicand: Poly) -> bool
-    requires { IsField f × (radicand.size ≤ 129) }
-    ensures { result ≡ wrong_coefficient (name f) (poly radicand) }
+fn wrong_coefficient(f: Field, radicand: &Poly) -> bool
+    requires { radicand.now.size ≤ 129 }
+    ensures { result ≡ wrong_coefficient (name f) (poly radicand.now) }
 {
-    let c = radicand.c;
-    let size = radicand.size;
-    let mut i: usize = 0;
-    while i < size {
-        if f.q <= c[i] {
-            return true;
-        }
-        i += 1;
-    }
-    false
+    radicand.c[..radicand.size].iter().any(|&c| f.q <= c)
 }
 
 // The coefficient of x^n isn't 1.
-fn wrong_lead(n: usize, radicand: Poly) -> bool
-    requires { (n ≤ 64) × (n < radicand.size) }
-    ensures { result ≡ wrong_lead n (poly radicand) }
+fn wrong_lead(n: usize, radicand: &Poly) -> bool
+    requires { (n ≤ 64) × (n < radicand.now.size) }
+    ensures { result ≡ wrong_lead n (poly radicand.now) }
 {
-    let c = radicand.c;
-    c[n] != 1
+    radicand.c[n] != 1
 }
 
 // The square of some polynomial of degree 1 or more divides D: gcd(D, D') is not constant.
-fn not_squarefree(f: Field, radicand: Poly) -> bool
-    requires field { IsField f }
-    requires held { Held f radicand }
-    ensures { result ≡ not_squarefree (name f) (poly radicand) }
+fn not_squarefree(f: Field, radicand: &Poly) -> bool
+    requires { Held f radicand.now }
+    ensures { result ≡ not_squarefree (name f) (poly radicand.now) }
 {
-    let n = radicand.size;
-    let mut a = radicand.c;
-    let mut b = [0u32; 129];
-    derivative_places(f, &a, n, &mut b);
-    let m = top(&b, n);
-    let mut g = [0u32; 129];
-    let size = gcd(f, &mut a, n, &mut b, m, &mut g);
-    size != 1
+    let mut a = *radicand;
+    let mut b = Poly::zero();
+    derivative_places(f, &a.c, a.size, &mut b.c);
+    b.size = top(&b.c, a.size);
+    let mut g = Poly::zero();
+    gcd(f, &mut a, &mut b, &mut g);
+    g.size != 1
 }
 
-// The first of the tests 5, 6 and 7 that applies, 0 where none does.
-pub fn radicand_refusal(f: Field, n: usize, radicand: Poly) -> u32
-    requires field { IsField f }
-    requires n_bound { (n ≤ 64) × (radicand.size ≡ n + 1) }
-    requires is { Is f radicand (poly radicand) }
-    ensures { result ≡ first_of (radicand_tests (name f) n (poly radicand)) }
+// The first of the tests 5, 6 and 7 that applies.
+pub fn radicand_refusal(f: Field, n: usize, radicand: &Poly) -> Result<(), Refusal>
+    requires n_bound { (n ≤ 64) × (radicand.now.size ≡ n + 1) }
+    requires is { Is f radicand.now (poly radicand.now) }
+    ensures { refused_by result ≡ first_of (radicand_tests (name f) n (poly radicand.now)) }
 {
     if wrong_coefficient(f, radicand) {
-        return 5;
+        return Err(Refusal::Coefficient);
     }
     if wrong_lead(n, radicand) {
-        return 6;
+        return Err(Refusal::Lead);
     }
     if not_squarefree(f, radicand) {
-        return 7;
+        return Err(Refusal::Squarefree);
     }
-    0
+    Ok(())
 }

@@ -1,57 +1,69 @@
 // The single job at a prime: the integer coefficients are reduced modulo it.
-ghost use Rattle.std.specs.Prelude.{◌≡◌, map, ◌+◌, ◌<◌, ◌≤◌, length, take, drop};
+ghost use Rattle.std.specs.Prelude.{◌≡◌, map, ◌+◌, ◌<◌, ◌≤◌, IfOk, length, get_or, take, drop};
 ghost use Rattle.spec_arithmetic.specs.Words.{values, value as value_of};
+ghost use Rattle.spec_definitions.specs.Ticket.{ticket_of, refusal_of};
 ghost use Rattle.spec_several.specs.Several.{residue as residue_of, several_refusal, job_words};
-ghost use Rattle.base_field.specs.Named.{IsField};
+ghost use Rattle.base_field.specs.Named.{name};
 ghost use Rattle.base_polynomial.specs.Whole.{Holds};
-ghost use Rattle.ticket_read.specs.Read.{read_of, Stands};
+ghost use Rattle.base_refusals.specs.Number.{refused_by};
+ghost use Rattle.base_surd.specs.Surd.{ticket_with};
+ghost use Rattle.ticket_read.specs.Refusal.{PastLayout};
 
-use base_field::{Field, field_of, reduce, sub};
+use base_field::Field;
 use base_polynomial::Poly;
 use base_primes::is_odd_prime;
+use base_refusals::Refusal;
+use base_surd::Surd;
 use base_words::{VALUES, value};
-use ticket_read::{Ticket, admit, refused};
+use ticket_radicand::{filled, radicand_refusal};
+use ticket_read::Ticket;
 
 // 2²⁷: a value from here on stands for a negative number, the value less 2²⁸.
 const NEGATIVES: u32 = 134217728;
 
 // The residue of the number that a value stands for.
 fn residue(f: Field, v: u32) -> u32
-    requires { IsField f }
     ensures { result ≡ residue_of f.q v }
 {
-    let r = reduce(f, v);
+    let r = f.reduce(v);
     if v < NEGATIVES {
-        return r;
+        r
+    } else {
+        f.sub(r, f.reduce(VALUES))
     }
-    sub(f, r, reduce(f, VALUES))
 }
 
 // The residues of the n + 1 coefficients.
 fn reduced(f: Field, n: usize, words: &[u32]) -> Poly
-    requires { IsField f × (n ≤ 64) × (n + 2 ≤ length words.now) }
+    requires { (n ≤ 64) × (n + 2 ≤ length words.now) }
     ensures { Holds result (map (residue_of f.q) (map value_of (take (n + 1) (drop 1 words.now)))) }
 {
-    let mut c = [0u32; 129];
-    let mut i: usize = 0;
-    while i < n + 1 {
-        c[i] = residue(f, value(words[i + 1]));
-        i += 1;
-    }
-    Poly { c: c, size: n + 1 }
+    filled(n, |i| residue(f, value(words[i + 1])))
+}
+
+// The job over the field, with n the value of word 0; the tests 5 to 7 on D.
+fn read_reduced(field: Field, n: usize, words: &[u32]) -> Result<Ticket, Refusal>
+    requires long { n + 3 ≤ length words.now }
+    requires past { PastLayout (job_words words.now field.q) (name field) n (map (residue_of field.q) (map value_of (take (n + 1) (drop 1 words.now)))) (value_of (get_or words.now (n + 2) 0)) }
+    ensures refused { refused_by result ≡ refusal_of (job_words words.now field.q) }
+    ensures read { IfOk result (λ t. ticket_of (job_words words.now field.q) ≡ ticket_with t.surd t.budget) }
+{
+    let radicand = reduced(field, n, words);
+    radicand_refusal(field, n, &radicand)?;
+    Ok(Ticket {
+        surd: Surd { field, n, radicand },
+        budget: value(words[n + 2]) as u64,
+    })
 }
 
 // The job at q, read as the words of a ticket for q alone are.
-pub fn read_job(q: u32, words: &[u32]) -> Ticket
+pub fn read_job(q: u32, words: &[u32]) -> Result<Ticket, Refusal>
     requires { (q < values) × (several_refusal words.now ≡ 0) }
-    ensures { Stands (read_of (job_words words.now q)) result }
+    ensures refused { refused_by result ≡ refusal_of (job_words words.now q) }
+    ensures read { IfOk result (λ t. ticket_of (job_words words.now q) ≡ ticket_with t.surd t.budget) }
 {
     if !is_odd_prime(q) {
-        return refused(2);
+        return Err(Refusal::Prime);
     }
-    let f = field_of(q);
-    let n = value(words[0]) as usize;
-    let radicand = reduced(f, n, words);
-    let budget = value(words[n + 2]) as u64;
-    admit(f, n, radicand, budget)
+    read_reduced(Field::new(q), value(words[0]) as usize, words)
 }

@@ -1,77 +1,65 @@
 // The shape of the words, refusal 14, and the degree, refusal 3.
 ghost use Rattle.std.specs.Prelude.{◌≡◌, not, map, ◌+◌, ◌-◌, ◌<◌, ◌≤◌, length, get_or};
-ghost use Rattle.spec_arithmetic.specs.Words.{kind as kind_of, same};
+ghost use Rattle.spec_arithmetic.specs.Words.{kind, same};
 ghost use Rattle.spec_several.specs.Several.{several_kinds, wrong_shape, several_refusal};
+ghost use Rattle.base_refusals.specs.Number.{refused_by};
+ghost use Rattle.base_words.specs.WordKind.{number_of};
 
-use base_words::{kind, value};
+use base_refusals::Refusal;
+use base_words::{WordKind, value};
 use ticket_layout::head::wrong_degree;
+use ticket_layout::kinds::wrong_kinds;
 
 // The kind that word i has in the right shape: the degree, n + 1 coefficients, the budget, the primes, the end.
-fn right_kind(n: usize, length: usize, i: usize) -> u32
+fn right_kind(n: usize, length: usize, i: usize) -> WordKind
     requires { (n + 5 ≤ length) × (i < length) }
-    ensures { result ≡ get_or (several_kinds n (length - (n + 4))) i 0 }
+    ensures { number_of result ≡ get_or (several_kinds n (length - (n + 4))) i 0 }
 {
     if i == 0 {
-        return 2;
+        WordKind::Degree
+    } else if i < n + 2 {
+        WordKind::Integer
+    } else if i == n + 2 {
+        WordKind::Budget
+    } else if i < length - 1 {
+        WordKind::Prime
+    } else {
+        WordKind::End
     }
-    if i < n + 2 {
-        return 12;
-    }
-    if i == n + 2 {
-        return 4;
-    }
-    if i < length - 1 {
-        return 1;
-    }
-    15
 }
 
-// A word has the wrong kind.
-fn wrong_kinds(n: usize, words: &[u32]) -> bool
+// A word has another kind than in the right shape.
+fn other_kinds(n: usize, words: &[u32]) -> bool
     requires { n + 5 ≤ length words.now }
-    ensures { result ≡ not (same (map kind_of words.now) (several_kinds n (length words.now - (n + 4)))) }
+    ensures { result ≡ not (same (map kind words.now) (several_kinds n (length words.now - (n + 4)))) }
 {
-    let mut i: usize = 0;
-    while i < words.len() {
-        if kind(words[i]) != right_kind(n, words.len(), i) {
-            return true;
-        }
-        i += 1;
-    }
-    false
+    wrong_kinds(words, |i| right_kind(n, words.len(), i))
 }
 
 // There are not one to sixteen primes, or a word has the wrong kind, or the last word isn't the number of
-// words before it.
+// words before it. There are n + 4 words beside the primes.
 fn wrong_shape(words: &[u32]) -> bool
     ensures { result ≡ wrong_shape words.now }
 {
-    if words.len() == 0 {
+    let Some(&first) = words.first() else {
         return true;
-    }
-    // n + 4 words beside the primes
-    let n = value(words[0]) as usize;
-    if words.len() < n + 5 {
-        return true;
-    }
-    if n + 20 < words.len() {
-        return true;
-    }
-    if wrong_kinds(n, words) {
-        return true;
-    }
-    value(words[words.len() - 1]) as usize != words.len() - 1
+    };
+    let n = value(first) as usize;
+    words.len() < n + 5
+        || n + 20 < words.len()
+        || other_kinds(n, words)
+        || value(words[words.len() - 1]) as usize != words.len() - 1
 }
 
-// The ticket's own refusal: 14, then 3, and 0 where neither applies.
-pub fn several_refusal(words: &[u32]) -> u32
-    ensures { result ≡ several_refusal words.now }
+// The ticket's own refusal: 14, then 3.
+pub fn several_refusal(words: &[u32]) -> Result<(), Refusal>
+    ensures { refused_by result ≡ several_refusal words.now }
 {
     if wrong_shape(words) {
-        return 14;
+        return Err(Refusal::Shape);
     }
     if wrong_degree(value(words[0]) as usize) {
-        return 3;
+        return Err(Refusal::Degree);
     }
-    0
+    Ok(())
 }

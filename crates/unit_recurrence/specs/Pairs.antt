@@ -1,120 +1,123 @@
--- The two pairs of lists at index i, with t steps to go: p_{i−1} with p_{i−2} and s_{i−1} with s_{i−2}. One
--- step of the walk takes them to the next index.
-use Rattle.std.specs.Prelude.{ℕ, suc, ◌+◌, ◌-◌, ◌%◌, ◌≤◌, ◌<◌, ◌≡◌, List, [], ◌∷◌, length, get_or}
-use Rattle.std.proofs.Common.{mod-eq_of_lt, eq-or-lt_of_le, add-one, arith, sym, ap, ◌∙◌, subst, subst₂, ⊎_elim}
-use Rattle.spec_arithmetic.specs.Field.{FieldName, prime, ops, modulo}
+-- The two pairs of lists at index i on the way to m: p_{i−1} with p_{i−2} and s_{i−1} with s_{i−2}, in as many
+-- places as p_{m−1} has coefficients. One step of the walk takes them to the next index.
+use Rattle.std.specs.Prelude.{ℕ, suc, ◌+◌, ◌-◌, ◌%◌, ◌≤◌, ◌<◌, ◌≡◌, List, [], ◌∷◌, ◌++◌, length, get_or, take, drop}
+use Rattle.std.proofs.Common.{mod-eq_of_lt, eq-or-lt_of_le, add-one, arith, sym, ap, ◌∙◌, subst, subst₂, ⊎_elim, length-append, length-drop}
+use Rattle.spec_definitions.specs.Ticket.{budgets}
 use Rattle.spec_definitions.specs.Walk.{p_before, s_before, degree_before, a}
 use Rattle.spec_bridge.specs.Residues.{pos}
-use Rattle.spec_laws.specs.Admitted.{Admitted, surd_of}
+use Rattle.spec_laws.specs.Admitted.{surd_of}
 use Rattle.spec_laws.specs.Convergents.{p_zero, s_zero, p_oks, s_oks, p_length, degree_rise}
 use Rattle.spec_laws.specs.State.{a_next}
-use Rattle.walk_step.specs.Step.{step_quo}
-use Rattle.walk_state.specs.State.{root_d, quo_next}
-use Rattle.walk_state.specs.Start.{Prepared}
+use Rattle.base_places.specs.Places.{Places, Within}
+use Rattle.base_places.specs.Row.{Bounded}
+use Rattle.walk_step.specs.Step.{step_quo, division}
+use Rattle.walk_step.specs.Sizes.{quo_within}
+use Rattle.walk_state.specs.declared.Walk.{Walk}
+use Rattle.walk_state.specs.Walk.{name, ops, g, D, root, top}
+use Rattle.walk_state.specs.State.{quo_next}
 use Rattle.walk_stride.specs.declared.Progress.{Progress}
-use Rattle.walk_stride.specs.Walked.{Walked, degree_next}
+use Rattle.walk_stride.specs.Walked.{Walked, size_most, degree_next, going}
 use Rattle.unit_room.specs.Room.{Room}
-use Rattle.unit_combine.specs.Written.{Written}
-use Rattle.unit_combine.specs.Sum.{BelowTo}
-use Rattle.unit_combine.specs.Pair.{Pair, Folded, pair_long, pair_below, pair_back, pair_next, pair_last}
+use Rattle.unit_combine.specs.Pair.{Pair, Folded, bounded_take, pair_bounded, pair_back, pair_next}
 use Rattle.unit_recurrence.specs.Recurrence.{p_older, s_older, p_older_zero, s_older_zero, p_older_suc, s_older_suc, p_next, s_next, p_older_oks, s_older_oks, s_short, p_older_short, s_older_short}
 
--- each of the first k places has an admissible coefficient
-pub record Reduced (f : FieldName) (k : ℕ) (p s x y : List ℕ) : Type 0 where
-  pub p_below : BelowTo f p k
-  pub s_below : BelowTo f s k
-  pub x_below : BelowTo f x k
-  pub y_below : BelowTo f y k
+-- each list has k places and no more
+pub record Long (k : ℕ) (p s x y : List ℕ) : Type 0 where
+  pub p_long : length p ≡ k
+  pub s_long : length s ≡ k
+  pub x_long : length x ≡ k
+  pub y_long : length y ≡ k
 
--- one step of both pairs, in the first n places
-pub record Advanced (f : FieldName) (t n : ℕ) (a p s x y new_p new_s new_x new_y : List ℕ) : Type 0 where
-  pub p_folded : Folded f t n a p x new_p new_x
-  pub s_folded : Folded f t n a s y new_s new_y
-
-module _ (f : FieldName) (g : ℕ) (D : List ℕ) (k : ℕ) where
-  pub record Pairs (t i : ℕ) (old_p old_s old_x old_y p s x y : List ℕ) : Type 0 where
-    pub p_pair : Pair t k (p_before (ops f) D (root_d f g D) i) (p_older (ops f) D (root_d f g D) i) old_p old_x p x
-    pub s_pair : Pair t k (s_before (ops f) D (root_d f g D) i) (s_older (ops f) D (root_d f g D) i) old_s old_y s y
-
-  -- the lists after m steps
-  pub record Ended (m : ℕ) (old_p old_s old_x old_y p s x y : List ℕ) : Type 0 where
-    pub p_is : Written k (p_before (ops f) D (root_d f g D) m) old_p p
-    pub s_is : Written k (s_before (ops f) D (root_d f g D) m) old_s s
-    pub x_is : Written k (p_older (ops f) D (root_d f g D) m) old_x x
-    pub y_is : Written k (s_older (ops f) D (root_d f g D) m) old_y y
+module _ (w : Walk) (m i : ℕ) where
+  pub record Pairs (p s x y : List ℕ) : Type 0 where
+    pub p_pair : Pair (m - i) (p_before (ops w) (D w) (root w) i) (p_older (ops w) (D w) (root w) i) p x
+    pub s_pair : Pair (m - i) (s_before (ops w) (D w) (root w) i) (s_older (ops w) (D w) (root w) i) s y
+    pub long : Long (suc (degree_before (ops w) (D w) (root w) m)) p s x y
 
 one : (q : ℕ) → 2 < q → 1 ∷ [] ≡ 1 % q ∷ []
 one q l = ap (λ (n : ℕ). n ∷ []) (sym (mod-eq_of_lt (let w : 1 < q = omega arith in w)))
 
-module _ {q g : ℕ} {D : List ℕ} (h : Admitted (prime q) g D) {k : ℕ} {old_p old_s old_x old_y p s x y : List ℕ} where
-  pub pairs_first : (m : ℕ) → Pair m k (1 ∷ []) [] old_p old_x p x → Pair (m + 1) k (1 ∷ []) [] old_s old_y s y → Pairs (prime q) g D k m 0 old_p old_s old_x old_y p s x y
-  pairs_first m u v =
+module _ (w : Walk) (m : ℕ) {p s x y : List ℕ} where
+  -- p_{−1} = 1 and s_{−1} = 0, with those before them
+  pub pairs_first : Pair m (1 ∷ []) [] p x → Pair (m + 1) (1 ∷ []) [] s y → Long (suc (degree_before (ops w) (D w) (root w) m)) p s x y → Pairs w m 0 p s x y
+  pairs_first u v long =
+      let h = surd_of w.surd.admitted in
+      let o = one w.surd.field.q w.surd.admitted.odd in
+      let t : m ≡ m - 0 = omega arith in
       record {
-        p_pair = subst₂ (λ (l n : List ℕ). Pair m k l n old_p old_x p x) (one q h.odd ∙ sym (p_zero (surd_of h))) (sym (p_older_zero (surd_of h))) u;
-        s_pair = subst₂ (λ (l n : List ℕ). Pair m k l n old_s old_y s y) (sym (s_zero (surd_of h))) (one q h.odd ∙ sym (s_older_zero (surd_of h))) (pair_back m k [] (1 ∷ []) old_s old_y s y (subst (λ (n : ℕ). Pair n k (1 ∷ []) [] old_s old_y s y) (add-one m) v));
+        p_pair = subst (λ (n : ℕ). Pair n (p_before (ops w) (D w) (root w) 0) (p_older (ops w) (D w) (root w) 0) p x) t (subst₂ (λ (l n : List ℕ). Pair m l n p x) (o ∙ sym (p_zero h)) (sym (p_older_zero h)) u);
+        s_pair = subst (λ (n : ℕ). Pair n (s_before (ops w) (D w) (root w) 0) (s_older (ops w) (D w) (root w) 0) s y) t (subst₂ (λ (l n : List ℕ). Pair m l n s y) (sym (s_zero h)) (o ∙ sym (s_older_zero h)) (pair_back (subst (λ (n : ℕ). Pair n (1 ∷ []) [] s y) (add-one m) v)));
+        long = long;
       }
 
-  module _ {t i : ℕ} (w : Pairs (prime q) g D k t i old_p old_s old_x old_y p s x y) where
-    -- the lists are as long as they were
-    pub pairs_long : ((length p ≡ length old_p) × (length x ≡ length old_x)) × ((length s ≡ length old_s) × (length y ≡ length old_y))
-    pairs_long = (pair_long t k _ _ old_p old_x p x w.p_pair, pair_long t k _ _ old_s old_y s y w.s_pair)
+  -- the lists have admissible coefficients, and so have their first places
+  pub pairs_bounded : {i : ℕ} → Pairs w m i p s x y → (Bounded w.surd.field.q p × Bounded w.surd.field.q x) × (Bounded w.surd.field.q s × Bounded w.surd.field.q y)
+  pairs_bounded {i} t =
+      let h = surd_of w.surd.admitted in
+      let l = pos w.surd.field.q w.surd.admitted.prime in
+      (pair_bounded w.surd.field.q l t.p_pair (p_oks h i) (p_older_oks h i), pair_bounded w.surd.field.q l t.s_pair (s_oks h i) (s_older_oks h i))
 
-    pub pairs_room : (n : ℕ) → n ≤ k → Room k old_p old_s old_x old_y → Room n p s x y
-    pairs_room n l r =
-        let e = pairs_long in
-        record { p_room = omega arith; s_room = omega arith; x_room = omega arith; y_room = omega arith }
+  pub first_bounded : {i : ℕ} → Pairs w m i p s x y → (n : ℕ) → (Bounded w.surd.field.q (take n p) × Bounded w.surd.field.q (take n x)) × (Bounded w.surd.field.q (take n s) × Bounded w.surd.field.q (take n y))
+  first_bounded t n =
+      let b = pairs_bounded t in
+      let l = pos w.surd.field.q w.surd.admitted.prime in
+      ((bounded_take w.surd.field.q l p n b.0.0, bounded_take w.surd.field.q l x n b.0.1), (bounded_take w.surd.field.q l s n b.1.0, bounded_take w.surd.field.q l y n b.1.1))
 
-    pub pairs_reduced : (n : ℕ) → n ≤ k → Reduced (prime q) n p s x y
-    pairs_reduced n l =
-        let a = pair_below t k _ _ old_p old_x p x q n w.p_pair (p_oks (surd_of h) i) (p_older_oks (surd_of h) i) l in
-        let b = pair_below t k _ _ old_s old_y s y q n w.s_pair (s_oks (surd_of h) i) (s_older_oks (surd_of h) i) l in
-        record { p_below = a.0; s_below = b.0; x_below = a.1; y_below = b.1 }
+-- ---- one step of the walk, whose quotient has so many places
+module _ (w : Walk) {before current rest : List ℕ} {at : Progress} (walk : Walked w before current rest at) (size : ℕ) (is : size ≡ top w + 1 - at.size) where
+  degree_suc : at.degree.0 + size ≡ suc (degree_before (ops w) (D w) (root w) (suc at.index.0))
+  degree_suc = let e = degree_next w walk in let l = size_most w walk in omega arith
 
-    -- none to go
-    pub pairs_last : t ≡ 0 → Ended (prime q) g D k i old_p old_s old_x old_y p s x y
-    pairs_last e =
-        let a = pair_last t k _ _ old_p old_x p x w.p_pair e in
-        let b = pair_last t k _ _ old_s old_y s y w.s_pair e in
-        record { p_is = a.0; s_is = b.0; x_is = a.1; y_is = b.1 }
+  quotient_is : step_quo (name w) w.twice current rest ≡ a (ops w) (D w) (root w) at.index.0
+  quotient_is = quo_next w.surd.field.q (g w) (D w) w.surd.admitted w.twice w.prepared.twice_is at.index.0 before current rest at.size walk.state ∙ sym (a_next (surd_of w.surd.admitted) at.index.0)
 
--- ---- one step of the walk, with top = g + 2
-module _ {q g top : ℕ} {D table d twice : List ℕ} (h : Admitted (prime q) g D) (is : top ≡ suc (suc g)) (start : Prepared (prime q) g D table d twice) {before current rest : List ℕ} {at : Progress} (walk : Walked (prime q) g D before current rest at) where
-  abbrev end : ℕ
-  end = at.degree.0 + (top - at.size) + 1
+  module _ (m : ℕ) (less : at.index.0 < m) (few : m < budgets) where
+    -- c holds the quotient
+    pub quotient_fits : (c : List ℕ) → Places c (λ i. get_or (step_quo (name w) w.twice current rest) i 0) → Within (name w) c size × (size ≤ 129)
+    quotient_fits c p =
+        let t = going w walk (omega arith) in
+        let r = w.surd.admitted.genus_most in
+        (subst (Within (name w) c) (sym is) (quo_within w.surd.admitted.prime (division t.ready) p), omega arith)
 
-  degree_suc : at.degree.0 + (top - at.size) ≡ degree_before (modulo q) D (root_d (prime q) g D) (suc at.index.0)
-  degree_suc = ap (λ (m : ℕ). at.degree.0 + (m - at.size)) is ∙ degree_next h is start walk
+  module _ (m : ℕ) (less : at.index.0 < m) where
+    places : at.degree.0 + size ≤ suc (degree_before (ops w) (D w) (root w) m)
+    places =
+        let s = degree_suc in
+        ⊎_elim (λ (v : suc at.index.0 ≡ m). let u : degree_before (ops w) (D w) (root w) (suc at.index.0) ≡ degree_before (ops w) (D w) (root w) m = ap (degree_before (ops w) (D w) (root w)) v in omega arith)
+        (λ (v : suc at.index.0 < m). let u = degree_rise (surd_of w.surd.admitted) (suc at.index.0) m v in omega arith) (eq-or-lt_of_le less)
 
-  -- the next convergents have room
-  pub degree_room : (m k : ℕ) → at.index.0 < m → degree_before (modulo q) D (root_d (prime q) g D) m + 1 ≡ k → at.degree.0 + (top - at.size) + 1 ≤ k
-  degree_room m k l e =
-      let s = degree_suc in
-      ⊎_elim (λ (v : suc at.index.0 ≡ m). let u : degree_before (modulo q) D (root_d (prime q) g D) (suc at.index.0) ≡ degree_before (modulo q) D (root_d (prime q) g D) m = ap (degree_before (modulo q) D (root_d (prime q) g D)) v in omega arith)
-      (λ (v : suc at.index.0 < m). let u = degree_rise (surd_of h) (suc at.index.0) m v in omega arith) (eq-or-lt_of_le l)
+    -- the next convergents have room
+    pub next_room : {p s x y : List ℕ} → Long (suc (degree_before (ops w) (D w) (root w) m)) p s x y → Room (at.degree.0 + size) p s x y
+    next_room l = let r = places in record { p_room = omega arith; s_room = omega arith; x_room = omega arith; y_room = omega arith }
 
-  quotient_is : step_quo (prime q) twice current rest ≡ a (modulo q) D (root_d (prime q) g D) at.index.0
-  quotient_is = quo_next q g D h twice start.twice_is at.index.0 before current rest at.size walk.state ∙ sym (a_next (surd_of h) at.index.0)
+    long : (list new : List ℕ) → length list ≡ suc (degree_before (ops w) (D w) (root w) m) → length new ≡ at.degree.0 + size → length (new ++ drop (at.degree.0 + size) list) ≡ suc (degree_before (ops w) (D w) (root w) m)
+    long list new e f =
+        let r = places in
+        let b = length-append new (drop (at.degree.0 + size) list) in
+        let d = length-drop (at.degree.0 + size) list in
+        omega arith
 
-  module _ {k : ℕ} {old_p old_s old_x old_y p s x y new_p new_s new_x new_y : List ℕ} (l : at.degree.0 + (top - at.size) + 1 ≤ k) where
-    after : (t : ℕ) → Pairs (prime q) g D k (suc t) at.index.0 old_p old_s old_x old_y p s x y → Advanced (prime q) (suc t) (at.degree.0 + (top - at.size) + 1) (step_quo (prime q) twice current rest) p s x y new_p new_s new_x new_y → Pairs (prime q) g D k t (suc at.index.0) old_p old_s old_x old_y new_p new_s new_x new_y
-    after t w u =
+    -- each pair in its first places, where c has the coefficients of the quotient
+    pub pairs_next : {p s x y c new_p new_s new_x new_y : List ℕ} → Pairs w m at.index.0 p s x y → ((j : ℕ) → get_or c j 0 ≡ get_or (step_quo (name w) w.twice current rest) j 0) → Folded (name w) (m - at.index.0) c (take (at.degree.0 + size) p) (take (at.degree.0 + size) x) new_p new_x → Folded (name w) (m - at.index.0) c (take (at.degree.0 + size) s) (take (at.degree.0 + size) y) new_s new_y → Long (at.degree.0 + size) new_p new_s new_x new_y → Pairs w m (at.index.0 + 1) (new_p ++ drop (at.degree.0 + size) p) (new_s ++ drop (at.degree.0 + size) s) (new_x ++ drop (at.degree.0 + size) x) (new_y ++ drop (at.degree.0 + size) y)
+    pairs_next {p} {s} {x} {y} {c} {new_p} {new_s} {new_x} {new_y} u same fp fs l =
         let i = at.index.0 in
+        let n = at.degree.0 + size in
+        let h = surd_of w.surd.admitted in
+        let q = w.surd.field.q in
+        let k = suc (degree_before (ops w) (D w) (root w) m) in
         let e = degree_suc in
-        let f = walk.degree_is in
-        record {
-          p_pair = subst₂ (λ (v z : List ℕ). Pair t k v z old_p old_x new_p new_x) (sym (p_next (surd_of h) i)) (sym (p_older_suc (surd_of h) i))
-              (pair_next t k _ _ old_p old_x p x q (pos q h.prime) (step_quo (prime q) twice current rest) _ same _ l (let m = p_older_short (surd_of h) i in omega arith) (subst (λ (v : List ℕ). length v ≤ end) (p_next (surd_of h) i) (let m = p_length (surd_of h) (suc i) in omega arith)) new_p new_x w.p_pair u.p_folded);
-          s_pair = subst₂ (λ (v z : List ℕ). Pair t k v z old_s old_y new_s new_y) (sym (s_next (surd_of h) i)) (sym (s_older_suc (surd_of h) i))
-              (pair_next t k _ _ old_s old_y s y q (pos q h.prime) (step_quo (prime q) twice current rest) _ same _ l (let m = s_older_short (surd_of h) i in omega arith) (subst (λ (v : List ℕ). length v ≤ end) (s_next (surd_of h) i) (let m = s_short (surd_of h) (suc i) in omega arith)) new_s new_y w.s_pair u.s_folded);
-        }
+        let r = degree_rise h i (suc i) (omega arith) in
+        let more : m - i ≡ suc (m - suc i) = omega arith in
+        subst (λ (j : ℕ). Pairs w m j (new_p ++ drop n p) (new_s ++ drop n s) (new_x ++ drop n x) (new_y ++ drop n y)) (sym (add-one i))
+        (record {
+          p_pair = subst₂ (λ (v z : List ℕ). Pair (m - suc i) v z (new_p ++ drop n p) (new_x ++ drop n x)) (sym (p_next h i)) (sym (p_older_suc h i))
+              (pair_next q (pos q w.surd.admitted.prime) c _ coefficients k n places u.long.p_long u.long.x_long (let o = p_older_short h i in omega arith) (subst (λ (v : List ℕ). length v ≤ n) (p_next h i) (let o = p_length h (suc i) in omega arith)) new_p new_x l.p_long l.x_long
+              (subst (λ (t : ℕ). Pair t (p_before (ops w) (D w) (root w) i) (p_older (ops w) (D w) (root w) i) p x) more u.p_pair) (subst (λ (t : ℕ). Folded (name w) t c (take n p) (take n x) new_p new_x) more fp));
+          s_pair = subst₂ (λ (v z : List ℕ). Pair (m - suc i) v z (new_s ++ drop n s) (new_y ++ drop n y)) (sym (s_next h i)) (sym (s_older_suc h i))
+              (pair_next q (pos q w.surd.admitted.prime) c _ coefficients k n places u.long.s_long u.long.y_long (let o = s_older_short h i in omega arith) (subst (λ (v : List ℕ). length v ≤ n) (s_next h i) (let o = s_short h (suc i) in omega arith)) new_s new_y l.s_long l.y_long
+              (subst (λ (t : ℕ). Pair t (s_before (ops w) (D w) (root w) i) (s_older (ops w) (D w) (root w) i) s y) more u.s_pair) (subst (λ (t : ℕ). Folded (name w) t c (take n s) (take n y) new_s new_y) more fs));
+          long = record { p_long = long p new_p u.long.p_long l.p_long; s_long = long s new_s u.long.s_long l.s_long; x_long = long x new_x u.long.x_long l.x_long; y_long = long y new_y u.long.y_long l.y_long };
+        })
       where
-        same : (j : ℕ) → get_or (step_quo (prime q) twice current rest) j 0 ≡ get_or (a (modulo q) D (root_d (prime q) g D) at.index.0) j 0
-        same j = ap (λ (v : List ℕ). get_or v j 0) quotient_is
-
-    pub pairs_next : (m : ℕ) → at.index.0 < m → (to : Progress) → to.index.0 ≡ at.index.0 + 1 → Pairs (prime q) g D k (m - at.index.0) at.index.0 old_p old_s old_x old_y p s x y → Advanced (prime q) (m - at.index.0) (at.degree.0 + (top - at.size) + 1) (step_quo (prime q) twice current rest) p s x y new_p new_s new_x new_y → Pairs (prime q) g D k (m - to.index.0) to.index.0 old_p old_s old_x old_y new_p new_s new_x new_y
-    pairs_next m v to j w u =
-        let i = at.index.0 in
-        let e : m - i ≡ suc (m - to.index.0) = omega arith in
-        let f : suc i ≡ to.index.0 = omega arith in
-        subst (λ (j : ℕ). Pairs (prime q) g D k (m - to.index.0) j old_p old_s old_x old_y new_p new_s new_x new_y) f
-        (after (m - to.index.0) (subst (λ (t : ℕ). Pairs (prime q) g D k t i old_p old_s old_x old_y p s x y) e w) (subst (λ (t : ℕ). Advanced (prime q) t (at.degree.0 + (top - at.size) + 1) (step_quo (prime q) twice current rest) p s x y new_p new_s new_x new_y) e u))
+        coefficients : (j : ℕ) → get_or c j 0 ≡ get_or (a (ops w) (D w) (root w) at.index.0) j 0
+        coefficients j = same j ∙ ap (λ (v : List ℕ). get_or v j 0) quotient_is

@@ -1,122 +1,83 @@
 // The steps of the convergents along the walk. The two last convergents of each kind stand in a pair of
 // lists, and each step adds a multiple of the one to the other.
-ghost use Rattle.std.specs.Prelude.{◌≡◌, ◌+◌, ◌<◌, ◌≤◌, get_or};
-ghost use Rattle.spec_definitions.specs.Ticket.{genus, budgets};
-ghost use Rattle.spec_definitions.specs.Walk.{degree_before};
-ghost use Rattle.spec_laws.specs.Admitted.{Admitted};
-ghost use Rattle.base_field.specs.Named.{IsField, name, ops};
-ghost use Rattle.base_polynomial.specs.Places.{Places};
-ghost use Rattle.base_polynomial.specs.Record.{poly as poly_at, Held as HeldAt};
-ghost use Rattle.walk_step.specs.Step.{step_quo, Inverses, Division};
-ghost use Rattle.walk_state.specs.State.{root_d};
-ghost use Rattle.walk_state.specs.Start.{Prepared};
-ghost use Rattle.unit_room.specs.Room.{Room};
-ghost use Rattle.unit_recurrence.specs.Pairs.{Reduced, Advanced, Pairs, Ended};
+ghost use Rattle.std.specs.Prelude.{◌≡◌, ℕ, ◌+◌, ◌-◌, ◌<◌, ◌≤◌, List, get_or};
+ghost use Rattle.spec_definitions.specs.Ticket.{budgets};
+ghost use Rattle.base_places.specs.Places.{Places};
+ghost use Rattle.walk_step.specs.Step.{step_quo, Division};
+ghost use Rattle.walk_state.specs.Walk.{name, top};
+ghost use Rattle.walk_stride.specs.Walked.{Walked};
+ghost use Rattle.unit_recurrence.specs.Pairs.{Pairs};
 
 use base_counters::Index;
-use base_field::Field;
+use base_polynomial::Poly;
 use unit_combine::pair::fold;
+use walk_state::Walk;
 use walk_step::step::quotient;
-use walk_stride::{begin, turn};
+use walk_stride::{Progress, begin, turn};
 
-// a becomes the partial quotient, of twice − rest by Q.
-fn partial(
-    f: Field,
-    inverses: &[u32; 4096],
-    twice: &[u32; 129],
-    top: usize,
-    current: &[u32; 129],
-    size: usize,
-    rest: &[u32; 129],
-    a: &mut [u32; 129],
-)
-    requires field { IsField f }
-    requires size_nonzero { (0 < size) × (size ≤ top) × (top ≤ 128) }
-    requires inverses { Inverses (name f) inverses.now }
-    requires division { Division (name f) top size twice.now current.now rest.now }
-    ensures { Places a.new (λ i. get_or (step_quo (name f) twice.now current.now rest.now) i 0) }
+// The partial quotient, of twice − rest by Q.
+fn partial(w: &Walk, current: &[u32; 129], size: usize, rest: &[u32; 129]) -> Poly
+    requires size_nonzero { (0 < size) × (size ≤ top w.now) }
+    requires division { Division (name w.now) (top w.now) size w.now.twice current.now rest.now }
+    ensures size { result.size ≡ top w.now + 1 - size }
+    ensures places { Places result.c (λ i. get_or (step_quo (name w.now) w.now.twice current.now rest.now) i 0) }
 {
-    let lead_inverse = inverses[current[size - 1] as usize];
-    quotient(f, lead_inverse, twice, rest, top, current, size, a);
+    let top = w.top();
+    let lead_inverse = w.inverses[current[size - 1] as usize];
+    let mut c = [0u32; 129];
+    quotient(
+        w.surd.field,
+        lead_inverse,
+        &w.twice,
+        rest,
+        top,
+        current,
+        size,
+        &mut c,
+    );
+    Poly {
+        c,
+        size: top + 1 - size,
+    }
 }
 
-// One step of the convergents, with `left` to go: a times the last ones is added to those before them, in the
-// first `end` places; a is the quotient of twice − rest by Q.
+// One step of the convergents on the way to m: a times the last ones is added to those before them, in as many
+// places as the next ones have.
 fn advance(
-    f: Field,
-    inverses: &[u32; 4096],
-    twice: &[u32; 129],
-    top: usize,
+    w: &Walk,
+    m: Index,
     current: &[u32; 129],
-    size: usize,
     rest: &[u32; 129],
-    left: u64,
-    end: usize,
+    at: Progress,
     p: &mut [u32],
     s: &mut [u32],
     x: &mut [u32],
     y: &mut [u32],
 )
-    requires field { IsField f }
-    requires size_nonzero { (0 < size) × (size ≤ top) × (top ≤ 127) }
-    requires inverses { Inverses (name f) inverses.now }
-    requires division { Division (name f) top size twice.now current.now rest.now }
-    requires room { Room end p.old s.old x.old y.old }
-    requires reduced { Reduced (name f) end p.old s.old x.old y.old }
-    ensures { Advanced (name f) left end (step_quo (name f) twice.now current.now rest.now) p.old s.old x.old y.old p.new s.new x.new y.new }
+    requires index { (at.index.0 < m.0) × (m.0 < budgets) }
+    requires walked { (before : List ℕ) × Walked w.now before current.now rest.now at }
+    requires pairs { Pairs w.now m.0 at.index.0 p.old s.old x.old y.old }
+    ensures { Pairs w.now m.0 (at.index.0 + 1) p.new s.new x.new y.new }
 {
-    let mut a = [0u32; 129];
-    partial(f, inverses, twice, top, current, size, rest, &mut a);
-    let l = top + 1 - size;
-    fold(f, &a, l, left, p, x, end);
-    fold(f, &a, l, left, s, y, end);
+    let a = partial(w, current, at.size, rest);
+    let left = m.0 - at.index.0;
+    let end = at.degree.0 as usize + a.size;
+    fold(w.surd.field, &a, left, &mut p[..end], &mut x[..end]);
+    fold(w.surd.field, &a, left, &mut s[..end], &mut y[..end]);
 }
 
-// The steps from index 0 to m, by the walk of √D. D is the first `size` places of `radicand`.
-pub fn steps(
-    f: Field,
-    n: usize,
-    radicand: &[u32; 129],
-    size: usize,
-    inverses: &[u32; 4096],
-    d: &[u32; 129],
-    twice: &[u32; 129],
-    m: Index,
-    count: usize,
-    p: &mut [u32],
-    s: &mut [u32],
-    x: &mut [u32],
-    y: &mut [u32],
-)
-    requires field { IsField f }
-    requires admitted { Admitted (name f) (genus n) (poly_at radicand.now size) }
-    requires held_at { HeldAt (name f) radicand.now size × (2 ≤ n) × (m.0 < budgets) }
-    requires prepared { Prepared (name f) (genus n) (poly_at radicand.now size) inverses.now d.now twice.now }
-    requires m_value { degree_before (ops f) (poly_at radicand.now size) (root_d (name f) (genus n) (poly_at radicand.now size)) m.0 + 1 ≡ count }
-    requires room { Room count p.old s.old x.old y.old }
-    requires pairs { Pairs (name f) (genus n) (poly_at radicand.now size) count m.0 0 p.old s.old x.old y.old p.old s.old x.old y.old }
-    ensures { Ended (name f) (genus n) (poly_at radicand.now size) count m.0 p.old s.old x.old y.old p.new s.new x.new y.new }
+// The steps from index 0 to m. The lists have as many places as p_{m−1} has coefficients.
+pub fn steps(w: &Walk, m: Index, p: &mut [u32], s: &mut [u32], x: &mut [u32], y: &mut [u32])
+    requires m_lt_budgets { m.0 < budgets }
+    requires pairs { Pairs w.now m.0 0 p.old s.old x.old y.old }
+    ensures { Pairs w.now m.0 m.0 p.new s.new x.new y.new }
 {
-    let top = n / 2 + 1;
     let mut before = [0u32; 129];
     let mut current = [0u32; 129];
     let mut rest = [0u32; 129];
-    let mut at = begin(radicand, d, &mut before, &mut current, &mut rest);
+    let mut at = begin(w, &mut before, &mut current, &mut rest);
     while at.index.0 < m.0 {
-        let left = m.0 - at.index.0;
-        let end = at.degree.0 as usize + (top - at.size) + 1;
-        advance(
-            f, inverses, twice, top, &current, at.size, &rest, left, end, p, s, x, y,
-        );
-        at = turn(
-            f,
-            inverses,
-            twice,
-            top,
-            &mut before,
-            &mut current,
-            &mut rest,
-            at,
-        );
+        advance(w, m, &current, &rest, at, p, s, x, y);
+        at = turn(w, &mut before, &mut current, &mut rest, at);
     }
 }

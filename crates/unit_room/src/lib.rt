@@ -9,14 +9,5 @@ use base_counters::Distance;
 pub fn room(r: Distance, p: usize, s: usize, x: usize, y: usize) -> bool
     ensures { result ≡ (leb (suc r.0) p && leb (suc r.0) s && leb (suc r.0) x && leb (suc r.0) y) }
 {
-    if p as u64 <= r.0 {
-        return false;
-    }
-    if s as u64 <= r.0 {
-        return false;
-    }
-    if x as u64 <= r.0 {
-        return false;
-    }
-    r.0 < y as u64
+    r.0 < p.min(s).min(x).min(y) as u64
 }

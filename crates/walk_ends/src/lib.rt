@@ -5,7 +5,7 @@
 ghost use Rattle.std.specs.Prelude.{◌≡◌, ◌%◌};
 ghost use Rattle.spec_definitions.specs.Answers.{found as found_at};
 ghost use Rattle.spec_laws.specs.Leads.{two_over};
-ghost use Rattle.base_field.specs.Named.{IsField, Ok, name, ops};
+ghost use Rattle.base_field.specs.Named.{Ok, name, ops};
 ghost use Rattle.walk_outcome.specs.Outcome.{meaning};
 ghost use Rattle.walk_ends.specs.Constant.{signed as signed_of, monic_constant};
 
@@ -16,38 +16,33 @@ use walk_stride::Progress;
 
 // (−1)^m·c, where c is the constant Q_m.
 fn signed(f: Field, m: Index, c: u32) -> u32
-    requires { IsField f × Ok f c }
+    requires { Ok f c }
     ensures { result ≡ signed_of (name f) m.0 c }
 {
-    if m.0 % 2 == 0 {
-        c
-    } else {
-        base_field::neg(f, c)
-    }
+    if m.0 % 2 == 0 { c } else { f.neg(c) }
 }
 
 // 1/λ, where `twice_lead` is 2·λ.
 fn inverse_of_lead(f: Field, twice_lead: u32) -> u32
-    requires { IsField f × Ok f twice_lead }
+    requires { Ok f twice_lead }
     ensures { result ≡ two_over (ops f) twice_lead }
 {
-    let inverse = base_field::inverse(f, twice_lead);
-    base_field::add(f, inverse, inverse)
+    let inverse = f.inverse(twice_lead);
+    f.add(inverse, inverse)
 }
 
 // (−1)^m·c/λ², where c is the constant Q_m and `twice_lead` is 2·λ.
 fn constant(f: Field, m: Index, c: u32, twice_lead: u32) -> u32
-    requires { IsField f × Ok f c × Ok f twice_lead }
+    requires { Ok f c × Ok f twice_lead }
     ensures { result ≡ monic_constant (name f) m.0 c twice_lead }
 {
     let over = inverse_of_lead(f, twice_lead);
-    base_field::mul(f, base_field::mul(f, over, over), signed(f, m, c))
+    f.mul(f.mul(over, over), signed(f, m, c))
 }
 
 // The first constant Q is met at index m, where the walk stands; `twice_lead` stands for 2·λ.
 pub fn found(f: Field, m: Index, at: Progress, twice_lead: u64) -> Outcome
-    requires field { IsField f }
-    requires ok { Ok f at.last }
+    requires { Ok f at.last }
     ensures { meaning result ≡ found_at at.degree.0 m.0 (monic_constant (name f) m.0 at.last (twice_lead % f.q)) }
 {
     let degree = at.degree;

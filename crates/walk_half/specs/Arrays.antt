@@ -18,7 +18,7 @@ use Rattle.spec_laws.specs.Fraction.{Q_deg, Q_some}
 use Rattle.spec_laws.specs.State.{left, left_length}
 use Rattle.spec_half.proofs.Middles.{lead_not_zero}
 use Rattle.spec_half.specs.Computed.{Cross}
-use Rattle.base_polynomial.specs.Pad.{at_pad}
+use Rattle.base_places.specs.Pad.{at_pad}
 use Rattle.walk_state.specs.State.{root_d, State, Q_at, last_is_lead}
 use Rattle.walk_middle.specs.Middle.{Proportional}
 

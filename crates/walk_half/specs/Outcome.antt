@@ -5,7 +5,7 @@ use Rattle.spec_half.specs.Half.{half_found, half_spent, half_refused}
 use Rattle.spec_half.specs.Half as answers
 use Rattle.walk_stride.specs.declared.Progress.{Progress}
 use Rattle.walk_middle.specs.declared.Stop.{Stop}
-use Rattle.walk_middle.specs.declared.Stop.TheVariants.{No, ByQ, ByP, Budget}
+use Rattle.walk_middle.specs.declared.Stop.TheVariants.{ByQ, ByP, Budget}
 use Rattle.walk_half.specs.declared.HalfOutcome.{HalfOutcome}
 use Rattle.walk_half.specs.declared.HalfOutcome.TheVariants.{Found, Spent, Refused}
 
@@ -16,7 +16,6 @@ half_meaning (Refused j) = half_refused j
 
 -- the outcome where the walk stands at `at`, by the test that ended it
 abbrev pub end_of : ℕ → Progress → Stop → answers.HalfOutcome
-end_of top at No = half_spent at.index.0 at.degree.0
 end_of top at ByQ = half_found (2 * at.degree.0 - (top - 1)) (2 * at.index.0 - 1)
 end_of top at ByP = half_found (2 * at.degree.0 - (at.size - 1)) (2 * at.index.0)
 end_of top at Budget = half_spent at.index.0 at.degree.0

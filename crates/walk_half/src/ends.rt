@@ -24,7 +24,6 @@ pub fn ending(top: usize, at: Progress, by: Stop) -> HalfOutcome
             Distance(2 * degree.0 - (at.size as u64 - 1)),
             Index(2 * index.0),
         ),
-        // by the budget; Stop::No ends nothing
-        _ => HalfOutcome::Spent(index, degree),
+        Stop::Budget => HalfOutcome::Spent(index, degree),
     }
 }

@@ -4,19 +4,16 @@
 pub mod ends;
 pub mod seek;
 
-ghost use Rattle.std.specs.Prelude.{◌≡◌, ◌<◌, ◌≤◌};
-ghost use Rattle.spec_definitions.specs.Ticket.{genus, budgets, ticket};
-ghost use Rattle.spec_laws.specs.Admitted.{Admitted};
+ghost use Rattle.std.specs.Prelude.{◌≡◌, ◌<◌};
+ghost use Rattle.spec_definitions.specs.Ticket.{budgets};
 ghost use Rattle.spec_half.specs.Half.{half_of};
-ghost use Rattle.base_field.specs.Named.{IsField, name};
-ghost use Rattle.base_polynomial.specs.Whole.{poly, Held};
+ghost use Rattle.base_surd.specs.Surd.{ticket_with};
 ghost use Rattle.walk_half.specs.Outcome.{half_meaning};
 
 use crate::seek::seek_middle;
 use base_counters::{Distance, Index};
-use base_field::Field;
-use base_polynomial::Poly;
-use walk_state::start::prepare;
+use base_surd::Surd;
+use walk_state::Walk;
 
 // Found with R and m; spent with the indices tried and the degree reached; refused with its number.
 #[derive(Clone, Copy)]
@@ -33,25 +30,11 @@ pub struct HalfAnswer {
     pub outcome: HalfOutcome,
 }
 
-// The outcome of half the walk of √D within the budget. D is the radicand, of degree n.
-pub fn run_half(f: Field, n: usize, radicand: Poly, budget: u64) -> HalfOutcome
-    requires field { IsField f }
-    requires admitted { Admitted (name f) (genus n) (poly radicand) }
-    requires held { Held f radicand × (2 ≤ n) × (budget < budgets) }
-    ensures { half_meaning result ≡ half_of (ticket (name f) n (poly radicand) budget) }
+// The outcome of half the walk of √D within the budget.
+pub fn run_half(s: &Surd, budget: u64) -> HalfOutcome
+    requires { budget < budgets }
+    ensures { half_meaning result ≡ half_of (ticket_with s.now budget) }
 {
     let mut inverses = [0u32; 4096];
-    let mut d = [0u32; 129];
-    let mut twice = [0u32; 129];
-    prepare(f, n, radicand, &mut inverses, &mut d, &mut twice);
-    seek_middle(
-        f,
-        n,
-        &radicand.c,
-        radicand.size,
-        &inverses,
-        &d,
-        &twice,
-        budget,
-    )
+    seek_middle(&Walk::new(s, &mut inverses), budget)
 }

@@ -1,16 +1,17 @@
 -- Two arrays compared place by place: the same, or each a constant times the other.
-use Rattle.std.specs.Prelude.{ℕ, ◌+◌, ◌-◌, ◌*◌, ◌%◌, ◌<◌, ◌≤◌, ◌≡◌, ◌↔◌, List, length, get_or}
-use Rattle.std.proofs.Common.{mul_comm, zero-mul, zero-add, mul-le-mul, eq-or-lt_of_le, arith, sym, ap, ◌∙◌, ⊎_elim, ext_get_or}
+use Rattle.std.specs.Prelude.{ℕ, ◌+◌, ◌-◌, ◌*◌, ◌%◌, ◌<◌, ◌≤◌, ◌≡◌, ◌↔◌, List, length, get_or, take}
+use Rattle.std.proofs.Common.{mul_comm, zero-mul, zero-add, mul-le-mul, eq-or-lt_of_le, arith, sym, ap, ◌∙◌, ⊎_elim, ext_get_or, get_or-take}
 use Rattle.std.proofs.Math.Nat.{mod-add-mod, add-mul-mod_self_right, mul-mod_left}
 use Rattle.math_ring.specs.Order.{le_or_lt}
 use Rattle.spec_arithmetic.specs.Field.{prime}
 use Rattle.base_places.specs.TwoRows.{complement}
-use Rattle.base_polynomial.specs.Row.{Ends}
+use Rattle.base_places.specs.Row.{Ends}
 use Rattle.walk_middle.specs.Middle.{Proportional}
 
 -- arrays with zeros from n on are the same where they agree before n
-pub same_places : (x y : List ℕ) (n : ℕ) → length x ≡ length y → Ends x n → Ends y n → ((k : ℕ) → k < n → get_or x k 0 ≡ get_or y k 0) → x ≡ y
-same_places x y n e s t agree = ext_get_or 0 x y e (λ i _. ⊎_elim (λ h. s i h ∙ sym (t i h)) (agree i) (le_or_lt n i))
+pub same_places : (x y : List ℕ) (n : ℕ) → length x ≡ length y → Ends x n → Ends y n → take n x ≡ take n y → x ≡ y
+same_places x y n e s t agree =
+    ext_get_or 0 x y e (λ i _. ⊎_elim (λ h. s i h ∙ sym (t i h)) (λ h. sym (get_or-take n x i 0 h) ∙ ap (λ (l : List ℕ). get_or l i 0) agree ∙ get_or-take n y i 0 h) (le_or_lt n i))
 
 -- they are proportional where they are before the last of their places: there both products are that of the
 -- leading coefficients

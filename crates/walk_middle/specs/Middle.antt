@@ -1,34 +1,35 @@
 -- What the tests of half the walk ask for and what they say, on arrays of 129 places.
-use Rattle.std.specs.Prelude.{ℕ, ◌-◌, ◌<◌, ◌≤◌, ◌≡◌, List, length, get_or}
+use Rattle.std.specs.Prelude.{ℕ, ◌-◌, ◌<◌, ◌≤◌, ◌≡◌, Option, None, Some, List, length, get_or}
 use Rattle.spec_arithmetic.specs.Field.{FieldName, ops}
-use Rattle.base_polynomial.specs.Places.{Within}
+use Rattle.base_places.specs.Places.{Within}
+use Rattle.walk_state.specs.declared.Walk.{Walk}
+use Rattle.walk_state.specs.Walk.{name, top}
 use Rattle.walk_stride.specs.declared.Progress.{Progress}
 use Rattle.walk_middle.specs.declared.Stop.{Stop}
-use Rattle.walk_middle.specs.declared.Stop.TheVariants.{No, ByQ, ByP, Budget}
+use Rattle.walk_middle.specs.declared.Stop.TheVariants.{ByQ, ByP, Budget}
 
 -- each times the leading coefficient of the other is the same
 abbrev pub Proportional : FieldName → List ℕ → List ℕ → ℕ → Type 0
 Proportional f x y size = (i : ℕ) → (ops f).mul (get_or x i 0) (get_or y (size - 1) 0) ≡ (ops f).mul (get_or y i 0) (get_or x (size - 1) 0)
 
 -- the Q before, of size `earlier`, and Q, and the remainders before and after the step from `at` on
-pub record Tested (f : FieldName) (top : ℕ) (before current rest remains : List ℕ) (earlier : ℕ) (at : Progress) : Type 0 where
-  pub top_fits : top ≤ 129
+pub record Tested (w : Walk) (before current rest remains : List ℕ) (earlier : ℕ) (at : Progress) : Type 0 where
   pub some : 0 < at.size
-  pub most : at.size ≤ top
-  pub before_within : Within f before earlier
-  pub current_within : Within f current at.size
+  pub most : at.size ≤ top w
+  pub before_within : Within (name w) before earlier
+  pub current_within : Within (name w) current at.size
   pub rest_long : length rest ≡ 129
   pub remains_long : length remains ≡ 129
-  pub rest_within : Within f rest top
-  pub remains_within : Within f remains top
+  pub rest_within : Within (name w) rest (top w)
+  pub remains_within : Within (name w) remains (top w)
 
 -- Q is a constant times the Q before
-abbrev pub MultipleQ : FieldName → List ℕ → List ℕ → ℕ → Progress → Type 0
-MultipleQ f before current earlier at = (earlier ≡ at.size) × Proportional f before current at.size
+abbrev pub MultipleQ : Walk → List ℕ → List ℕ → ℕ → Progress → Type 0
+MultipleQ w before current earlier at = (earlier ≡ at.size) × Proportional (name w) before current at.size
 
 -- by the Qs; by the remainders, where it is not by the Qs; by the budget, or not at all, where it is by neither
-abbrev pub Stops : FieldName → ℕ → List ℕ → List ℕ → List ℕ → List ℕ → ℕ → Progress → Stop → Type 0
-Stops f budget before current rest remains earlier at No = (¬ MultipleQ f before current earlier at) × (¬ (rest ≡ remains)) × (¬ (at.index.0 ≡ budget))
-Stops f budget before current rest remains earlier at ByQ = MultipleQ f before current earlier at
-Stops f budget before current rest remains earlier at ByP = (¬ MultipleQ f before current earlier at) × (rest ≡ remains)
-Stops f budget before current rest remains earlier at Budget = (¬ MultipleQ f before current earlier at) × (¬ (rest ≡ remains)) × (at.index.0 ≡ budget)
+abbrev pub Stops : Walk → ℕ → List ℕ → List ℕ → List ℕ → List ℕ → ℕ → Progress → Option Stop → Type 0
+Stops w budget before current rest remains earlier at None = (¬ MultipleQ w before current earlier at) × (¬ (rest ≡ remains)) × (¬ (at.index.0 ≡ budget))
+Stops w budget before current rest remains earlier at (Some ByQ) = MultipleQ w before current earlier at
+Stops w budget before current rest remains earlier at (Some ByP) = (¬ MultipleQ w before current earlier at) × (rest ≡ remains)
+Stops w budget before current rest remains earlier at (Some Budget) = (¬ MultipleQ w before current earlier at) × (¬ (rest ≡ remains)) × (at.index.0 ≡ budget)

@@ -1,69 +1,94 @@
 -- The steps of a run: where the walk stands between them, that no Q on the way is constant, and the outcome
 -- where the budget is spent or a constant Q is met.
-use Rattle.std.specs.Prelude.{ℕ, suc, ◌%◌, ◌≤◌, ◌<◌, ◌≡◌, List, get_or}
+use Rattle.std.specs.Prelude.{ℕ, ◌*◌, ◌%◌, ◌≤◌, ◌<◌, ◌≡◌, List, get_or}
 use Rattle.std.proofs.Common.{arith, sym, ap, ap₂, ◌∙◌, subst, subst₂}
-use Rattle.spec_arithmetic.specs.Field.{FieldName, prime, ops}
-use Rattle.spec_definitions.specs.Ticket.{genus, budgets, ticket}
+use Rattle.spec_definitions.specs.Ticket.{budgets}
 use Rattle.spec_definitions.specs.Walk.{Q, degree_before}
 use Rattle.spec_definitions.specs.Answers.{found, spent, outcome_of}
-use Rattle.spec_laws.specs.Admitted.{Admitted, surd_of}
+use Rattle.spec_laws.specs.Admitted.{surd_of}
 use Rattle.spec_laws.specs.Surd.{Q_oks}
 use Rattle.spec_laws.specs.QuasiPeriod.{Quasi}
-use Rattle.base_polynomial.specs.Record.{poly, Held}
-use Rattle.walk_state.specs.State.{root_d}
-use Rattle.walk_state.specs.Start.{Prepared}
+use Rattle.base_counters.specs.declared.Index.{Index}
+use Rattle.base_surd.specs.Surd.{ticket_with}
+use Rattle.walk_state.specs.declared.Walk.{Walk}
+use Rattle.walk_state.specs.Walk.{name, ops, D, root}
 use Rattle.walk_stride.specs.declared.Progress.{Progress}
 use Rattle.walk_stride.specs.Progress.{Begun, Going, Taken}
 use Rattle.walk_stride.specs.Walked.{Walked, NoneTo, walked_first, none_first, going}
 use Rattle.walk_stride.specs.Stride.{stride_walked, stride_last, stride_none, stride_found}
-use Rattle.walk_lead.specs.Kept.{Kept}
+use Rattle.walk_lead.specs.Kept.{Kept, Asks, largest_coefficient, largest_factor, two_factors, factor_of, kept_first, kept_reduced, factor_asks}
+use Rattle.walk_lead.specs.Strides.{kept_stride}
 use Rattle.walk_ends.specs.Constant.{monic_constant, found_is, spent_is}
 
--- the walk stands at an index within the budget, and no Q of an index from 1 on was constant
-pub record Seeking (f : FieldName) (g : ℕ) (D : List ℕ) (budget : ℕ) (before current rest : List ℕ) (at : Progress) : Type 0 where
-  pub walked : Walked f g D before current rest at
-  pub none : NoneTo f g D at
+-- the walk stands at an index within the budget, no Q of an index from 1 on was constant, and `lead` stands for the
+-- product of 2/lc Q_j, within some bound
+pub record Seeking (w : Walk) (budget bound : ℕ) (before current rest : List ℕ) (at : Progress) (lead : ℕ) : Type 0 where
+  pub walked : Walked w before current rest at
+  pub none : NoneTo w at
   pub reached : at.index.0 ≤ budget
+  pub kept : Kept w at.index.0 bound lead
 
--- the walk stands at the first index from 1 on whose Q is constant
-pub record Met (f : FieldName) (g : ℕ) (D : List ℕ) (budget : ℕ) (at : Progress) : Type 0 where
-  pub quasi : Quasi (ops f) D (root_d f g D) budget at.index.0
-  pub degree_is : at.degree.0 ≡ degree_before (ops f) D (root_d f g D) at.index.0
-  pub last_is : at.last ≡ get_or (Q (ops f) D (root_d f g D) at.index.0) 0 0
+-- the walk stands at the first index from 1 on whose Q is constant, and `lead` stands for the product
+pub record Met (w : Walk) (budget : ℕ) (at : Progress) (lead : ℕ) : Type 0 where
+  pub quasi : Quasi (ops w) (D w) (root w) budget at.index.0
+  pub degree_is : at.degree.0 ≡ degree_before (ops w) (D w) (root w) at.index.0
+  pub last_is : at.last ≡ get_or (Q (ops w) (D w) (root w) at.index.0) 0 0
+  pub bound : ℕ
+  pub kept : Kept w at.index.0 bound lead
 
-pub seeking_first : {q g : ℕ} (c : List ℕ) (l : ℕ) {table d twice before current rest : List ℕ} {at : Progress} (budget : ℕ) → Admitted (prime q) g (poly c l) → Held (prime q) c l → Prepared (prime q) g (poly c l) table d twice → Begun c d before current rest at → Seeking (prime q) g (poly c l) budget before current rest at
-seeking_first {q} {g} c l budget h k p b = record { walked = walked_first c l h k p b; none = none_first q g (poly c l) b; reached = (let e = b.index_is in omega arith) }
+module _ (w : Walk) where
+  pub seeking_first : {before current rest : List ℕ} {at : Progress} (budget : ℕ) → Begun w before current rest at → Seeking w budget largest_coefficient before current rest at 1
+  seeking_first budget b = record { walked = walked_first w b; none = none_first w b; reached = (let e = b.index_is in omega arith); kept = kept_first w _ b.index_is }
 
-module _ {q g top : ℕ} {D table d twice : List ℕ} (h : Admitted (prime q) g D) (e : top ≡ suc (suc g)) (p : Prepared (prime q) g D table d twice) {budget : ℕ} {before current rest : List ℕ} {at : Progress} (t : Seeking (prime q) g D budget before current rest at) (left : at.index.0 ≡ budget → ⊥) where
-  less : at.index.0 < budget
-  less = omega (arith, t.reached, left)
+  module _ {budget bound lead : ℕ} {before current rest : List ℕ} {at : Progress} (t : Seeking w budget bound before current rest at lead) where
+    pub seeking_reduced : Seeking w budget largest_coefficient before current rest at (lead % w.surd.field.q)
+    seeking_reduced = record { walked = t.walked; none = t.none; reached = t.reached; kept = kept_reduced w t.kept }
 
-  -- what the next step asks for
-  pub seeking_going : budget < budgets → Going (prime q) top table twice before current rest at
-  seeking_going l = going h e p t.walked (let k = less in omega arith)
+    -- what the product with the next factor asks for
+    pub seeking_asks : bound ≤ two_factors → Asks w.inverses.now current at.size lead
+    seeking_asks = factor_asks w t.walked.state t.kept
 
-  module _ {remains after : List ℕ} {to : Progress} (u : Taken (prime q) top twice before current rest remains after at to) where
-    pub seeking_next : (to.size ≡ 1 → ⊥) → Seeking (prime q) g D budget current after remains to
-    seeking_next f = record { walked = stride_walked h e p t.walked u; none = stride_none h e p t.walked u t.none f; reached = (let i = u.index_is in let l = less in omega arith) }
+    -- the budget is spent
+    pub outcome_spent : at.index.0 ≡ budget → spent at.index.0 at.degree.0 ≡ outcome_of (ticket_with w.surd budget)
+    outcome_spent e =
+        subst (λ (j : ℕ). spent at.index.0 at.degree.0 ≡ outcome_of (ticket_with w.surd j)) e (ap (spent at.index.0) t.walked.degree_is ∙ sym (spent_is w.surd.field.q w.surd.n (D w) w.surd.admitted at.index.0 t.none))
 
-    pub seeking_met : to.size ≡ 1 → Met (prime q) g D budget to
-    seeking_met f = record { quasi = stride_found h e p t.walked u budget t.none less f; degree_is = (stride_walked h e p t.walked u).degree_is; last_is = stride_last h e p t.walked u }
+    module _ (left : at.index.0 ≡ budget → ⊥) where
+      less : at.index.0 < budget
+      less = omega (arith, t.reached, left)
 
--- where the ways out of the loop meet: `lead` stands for the product, within some bound
-pub met_at : {f : FieldName} {g : ℕ} {D : List ℕ} {budget m k n lead : ℕ} {at to : Progress} → at ≡ to → lead ≡ n → m ≡ to.index.0 → Met f g D budget to → Kept f g D to.index.0 k n → Met f g D budget at × (m ≡ at.index.0) × ((k : ℕ) × Kept f g D at.index.0 k lead)
-met_at {f} {g} {D} {budget} {k = k} {lead = l} e o i t w =
-    (subst (Met f g D budget) (sym e) t, i ∙ ap (λ (p : Progress). p.index.0) (sym e), (k, subst₂ (λ (p : Progress) (n : ℕ). Kept f g D p.index.0 k n) (sym e) (sym o) w))
+      -- what the next step asks for
+      pub seeking_going : budget < budgets → Going w before current rest at
+      seeking_going l = going w t.walked (let k = less in omega arith)
 
-pub last_reduced : {q g : ℕ} {D : List ℕ} {budget : ℕ} {at : Progress} → Admitted (prime q) g D → Met (prime q) g D budget at → at.last < q
-last_reduced {q} {at = at} h m = subst (λ (v : ℕ). v < q) (sym m.last_is) (Q_oks (surd_of h) at.index.0 0)
+      module _ {remains after : List ℕ} {to : Progress} (u : Taken w before current rest remains after at to) {r : ℕ} (m : r ≡ lead * factor_of w.inverses.now current at.size) where
+        pub seeking_next : (to.size ≡ 1 → ⊥) → Seeking w budget (bound * largest_factor) current after remains to r
+        seeking_next f = record { walked = stride_walked w t.walked u; none = stride_none w t.walked u t.none f; reached = (let i = u.index_is in let l = less in omega arith); kept = kept_stride w t.walked u t.kept m }
 
--- a constant Q is met, and `lead` stands for twice the leading coefficient of p_{m−1}
-pub outcome_found : {q : ℕ} (n : ℕ) {D : List ℕ} {budget k lead : ℕ} {at : Progress} → Admitted (prime q) (genus n) D → Met (prime q) (genus n) D budget at → Kept (prime q) (genus n) D at.index.0 k lead → found at.degree.0 at.index.0 (monic_constant (prime q) at.index.0 at.last (lead % q)) ≡ outcome_of (ticket (prime q) n D budget)
-outcome_found {q} n {D} {budget} {lead = l} {at = at} h m w =
-    ap (λ (j : ℕ). found j at.index.0 (monic_constant (prime q) at.index.0 at.last (l % q))) m.degree_is
-    ∙ ap₂ (λ (j k : ℕ). found (degree_before (ops (prime q)) D (root_d (prime q) (genus n) D) at.index.0) at.index.0 (monic_constant (prime q) at.index.0 j k)) m.last_is w.is
-    ∙ sym (found_is q n D h budget at.index.0 m.quasi)
+        pub seeking_met : to.size ≡ 1 → Met w budget to r
+        seeking_met f =
+            record {
+              quasi = stride_found w t.walked u budget t.none less f;
+              degree_is = (stride_walked w t.walked u).degree_is;
+              last_is = stride_last w t.walked u;
+              bound = bound * largest_factor;
+              kept = kept_stride w t.walked u t.kept m;
+            }
 
--- the budget is spent
-pub outcome_spent : {q : ℕ} (n : ℕ) {D : List ℕ} {budget : ℕ} {before current rest : List ℕ} {at : Progress} → Admitted (prime q) (genus n) D → Seeking (prime q) (genus n) D budget before current rest at → at.index.0 ≡ budget → spent at.index.0 at.degree.0 ≡ outcome_of (ticket (prime q) n D budget)
-outcome_spent {q} n {D} {at = at} h t e = subst (λ (j : ℕ). spent at.index.0 at.degree.0 ≡ outcome_of (ticket (prime q) n D j)) e (ap (spent at.index.0) t.walked.degree_is ∙ sym (spent_is q n D h at.index.0 t.none))
+  module _ {budget lead : ℕ} {at : Progress} (m : Met w budget at lead) where
+    pub met_reduced : Met w budget at (lead % w.surd.field.q)
+    met_reduced = record { quasi = m.quasi; degree_is = m.degree_is; last_is = m.last_is; bound = largest_coefficient; kept = kept_reduced w m.kept }
+
+    pub last_reduced : at.last < w.surd.field.q
+    last_reduced = subst (λ (v : ℕ). v < w.surd.field.q) (sym m.last_is) (Q_oks (surd_of w.surd.admitted) at.index.0 0)
+
+    -- a constant Q is met, and `lead` stands for twice the leading coefficient of p_{m−1}
+    pub outcome_found : found at.degree.0 at.index.0 (monic_constant (name w) at.index.0 at.last (lead % w.surd.field.q)) ≡ outcome_of (ticket_with w.surd budget)
+    outcome_found =
+        ap (λ (j : ℕ). found j at.index.0 (monic_constant (name w) at.index.0 at.last (lead % w.surd.field.q))) m.degree_is
+        ∙ ap₂ (λ (j k : ℕ). found (degree_before (ops w) (D w) (root w) at.index.0) at.index.0 (monic_constant (name w) at.index.0 j k)) m.last_is m.kept.is
+        ∙ sym (found_is w.surd.field.q w.surd.n (D w) w.surd.admitted budget at.index.0 m.quasi)
+
+-- where the ways out of the loop meet
+pub met_at : {w : Walk} {budget n lead : ℕ} {i : Index} {at to : Progress} → at ≡ to → lead ≡ n → i ≡ to.index → Met w budget to n → Met w budget at lead × (i ≡ at.index)
+met_at {w} {budget} e o j m = (subst₂ (Met w budget) (sym e) (sym o) m, j ∙ ap (λ (p : Progress). p.index) (sym e))

@@ -1,4 +1,5 @@
 pub mod Step
+pub mod Start
 pub mod Sizes
 pub mod Sums
 pub mod Coefficients

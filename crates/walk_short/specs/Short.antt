@@ -11,7 +11,7 @@ use Rattle.spec_bridge.specs.Prime.{Prime}
 use Rattle.spec_bridge.specs.Product.{shifted}
 use Rattle.spec_bridge.specs.Residues.{inverse_lt}
 use Rattle.base_places.specs.TwoRows.{shifted_less}
-use Rattle.walk_short.specs.Step.{step_quo, next_rem, next_q, Division}
+use Rattle.walk_short.specs.Step.{step_quo, next_rem, next_q, Quadratic, Division}
 use Rattle.walk_short.specs.Sizes.{positive, some, quo_past, quo_reduced}
 use Rattle.walk_short.specs.Sums.{less_rows, more_rows}
 use Rattle.walk_short.specs.Coefficients.{rest_rows, next_rows}
@@ -72,21 +72,12 @@ module _ {q m n : ℕ} {s b r : List ℕ} (p : Prime q) (d : Division (prime q) 
       e ∙ next_rows q (positive p d) before a z r k l (λ i w. quo_past p d i (omega arith)) (λ i. let w = shifted_less q (positive p d) r d.rest_within.reduced i k in omega arith)
       ∙ ap (λ (x : List ℕ). get_or x k 0) (next_cong p d a (λ i. refl) before z rest)
 
-  module _ (a0 a1 : ℕ) (is0 : a0 ≡ get_or (step_quo (prime q) s b r) 0 0) (is1 : a1 ≡ get_or (step_quo (prime q) s b r) 1 0) where
-    pub rest_two : m ≤ n + 1 → (k v y : ℕ) → y ≡ shifted b 1 k → v ≡ (get_or s k 0 + (q - get_or r k 0) + (q - a0) * get_or b k 0 + (q - a1) * y) % q → v ≡ get_or (next_rem (prime q) s b r) k 0
+  module _ (a0 a1 a2 : ℕ) (is : Quadratic (prime q) s b r a0 a1 a2) where
+    pub rest_three : m ≤ n + 2 → (k v y z : ℕ) → y ≡ shifted b 1 k → z ≡ shifted b 2 k → v ≡ (get_or s k 0 + (q - get_or r k 0) + (q - a0) * get_or b k 0 + (q - a1) * y + (q - a2) * z) % q → v ≡ get_or (next_rem (prime q) s b r) k 0
     unfolding less_rows shifted
-    rest_two l k v y f e = rest_by 2 (omega arith) k v (e ∙ rw (is0, is1, f))
+    rest_three l k v y z f g e = rest_by 3 (omega arith) k v (e ∙ rw (is.0, is.1, is.2, f, g))
 
-    pub next_two : m ≤ n + 1 → (before z : List ℕ) → ((i : ℕ) → get_or z i 0 ≡ get_or (next_rem (prime q) s b r) i 0) → (k v y : ℕ) → y ≡ shifted z 1 k + (q - shifted r 1 k) → v ≡ (get_or before k 0 + a0 * (get_or z k 0 + (q - get_or r k 0)) + a1 * y) % q → v ≡ get_or (next_q (prime q) s before b r) k 0
+    pub next_three : m ≤ n + 2 → (before x : List ℕ) → ((i : ℕ) → get_or x i 0 ≡ get_or (next_rem (prime q) s b r) i 0) → (k v y z : ℕ) → y ≡ shifted x 1 k + (q - shifted r 1 k) → z ≡ shifted x 2 k + (q - shifted r 2 k)
+        → v ≡ (get_or before k 0 + a0 * (get_or x k 0 + (q - get_or r k 0)) + a1 * y + a2 * z) % q → v ≡ get_or (next_q (prime q) s before b r) k 0
     unfolding more_rows shifted
-    next_two l before z rest k v y f e = next_by 2 (omega arith) before z rest k v (e ∙ rw (is0, is1, f))
-
-    module _ (a2 : ℕ) (is2 : a2 ≡ get_or (step_quo (prime q) s b r) 2 0) where
-      pub rest_three : m ≤ n + 2 → (k v y z : ℕ) → y ≡ shifted b 1 k → z ≡ shifted b 2 k → v ≡ (get_or s k 0 + (q - get_or r k 0) + (q - a0) * get_or b k 0 + (q - a1) * y + (q - a2) * z) % q → v ≡ get_or (next_rem (prime q) s b r) k 0
-      unfolding less_rows shifted
-      rest_three l k v y z f g e = rest_by 3 (omega arith) k v (e ∙ rw (is0, is1, is2, f, g))
-
-      pub next_three : m ≤ n + 2 → (before x : List ℕ) → ((i : ℕ) → get_or x i 0 ≡ get_or (next_rem (prime q) s b r) i 0) → (k v y z : ℕ) → y ≡ shifted x 1 k + (q - shifted r 1 k) → z ≡ shifted x 2 k + (q - shifted r 2 k)
-          → v ≡ (get_or before k 0 + a0 * (get_or x k 0 + (q - get_or r k 0)) + a1 * y + a2 * z) % q → v ≡ get_or (next_q (prime q) s before b r) k 0
-      unfolding more_rows shifted
-      next_three l before x rest k v y z f g e = next_by 3 (omega arith) before x rest k v (e ∙ rw (is0, is1, is2, f, g))
+    next_three l before x rest k v y z f g e = next_by 3 (omega arith) before x rest k v (e ∙ rw (is.0, is.1, is.2, f, g))

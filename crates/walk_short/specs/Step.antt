@@ -13,12 +13,9 @@ module _ (f : FieldName) where
   unfoldable pub step_quo : List ℕ → List ℕ → List ℕ → List ℕ
   step_quo twice current rest = quo (ops f) (sub (ops f) twice rest) current
 
-  -- it starts with a0 + a1·x; it starts with a0 + a1·x + a2·x²
-  abbrev pub Linear : List ℕ → List ℕ → List ℕ → ℕ → ℕ → Type 0
-  Linear twice current rest a0 a1 = (a0 ≡ get_or (step_quo twice current rest) 0 0) × (a1 ≡ get_or (step_quo twice current rest) 1 0)
-
+  -- it starts with a0 + a1·x + a2·x²
   abbrev pub Quadratic : List ℕ → List ℕ → List ℕ → ℕ → ℕ → ℕ → Type 0
-  Quadratic twice current rest a0 a1 a2 = Linear twice current rest a0 a1 × (a2 ≡ get_or (step_quo twice current rest) 2 0)
+  Quadratic twice current rest a0 a1 a2 = (a0 ≡ get_or (step_quo twice current rest) 0 0) × (a1 ≡ get_or (step_quo twice current rest) 1 0) × (a2 ≡ get_or (step_quo twice current rest) 2 0)
 
   -- its remainder, the next one
   unfoldable pub next_rem : List ℕ → List ℕ → List ℕ → List ℕ

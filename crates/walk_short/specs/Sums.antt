@@ -1,8 +1,8 @@
 -- Sums of products modulo q, one term after the other: q − a serves for −a, so that nothing is below 0. With
 -- what is taken away the sum is a multiple of q more than what is added.
 use Prim.Native.Nat.{ℕ, zero, suc, ◌+◌, ◌*◌, ◌-◌, ◌%◌, ◌≤◌}
-use Rattle.std.proofs.Common.{mul-add, add-mul, mul_assoc, zero-mul, arith, sym, ap, ◌∙◌}
-use Rattle.std.proofs.Math.Nat.{add-mod-mod, mod-add-mod}
+use Rattle.std.proofs.Common.{mul-add, add-mul, mul_assoc, mul_comm, zero-mul, arith, sym, ap, ◌∙◌}
+use Rattle.std.proofs.Math.Nat.{add-mod-mod, mod-add-mod, add-mul-mod_self_right}
 use Rattle.std.specs.Prelude.{◌≡◌, List, get_or}
 use Rattle.math_ring.specs.Residues.{mul_mod_mod}
 use Rattle.spec_bridge.specs.Product.{shifted, rows}
@@ -66,6 +66,11 @@ module _ (q u : ℕ) where
   unfolding more_rows rows
   more_rows_lem a x y k h zero = more_none
   more_rows_lem a x y k h (suc n) = more_more (get_or a n 0) (shifted x n k) (shifted y n k) (h n) (more_rows_lem a x y k h n)
+
+-- a term with a factor 0
+pub without_term : (q t a x : ℕ) → a ≡ 0 → t % q ≡ (t + (q - a) * x) % q
+without_term q t a x e =
+    sym (add-mul-mod_self_right t x q) ∙ ap (λ n. (t + n) % q) (mul_comm x q) ∙ ap (λ n. (t + n * x) % q) (let w : q ≡ q - a = omega arith in w)
 
 -- ---- a sum times i, taken term by term
 -- v is t·i

@@ -4,4 +4,29 @@
 
 pub mod coefficients;
 pub mod linear;
+mod passes;
 pub mod quadratic;
+
+ghost use Rattle.std.specs.Prelude.{◌≡◌, ◌-◌, ◌<◌, ◌≤◌, get_or};
+ghost use Rattle.base_field.specs.Named.{name, ops};
+ghost use Rattle.walk_short.specs.Step.{Ready};
+
+use base_field::Field;
+
+// What one step starts from. With twice = 2d and rest the remainder of the step before, both of at most `top`
+// coefficients, P + d is twice − rest; the Q before stands in `before`, Q in `current`, of `size` coefficients, with
+// the inverse of the leading one.
+#[derive(Clone, Copy)]
+pub struct Step<'a> {
+    pub field: Field,
+    pub twice: &'a [u32; 129],
+    pub before: &'a [u32; 129],
+    pub current: &'a [u32; 129],
+    pub rest: &'a [u32; 129],
+    pub top: usize,
+    pub size: usize,
+    pub lead_inverse: u32,
+    pub ghost sizes: { (0 < size) × (size ≤ top) × (top ≤ 128) },
+    pub ghost ready: { Ready (name field) top size twice.now before.now current.now rest.now },
+    pub ghost inverse: { lead_inverse ≡ (ops field).inv (get_or current.now (size - 1) 0) },
+}

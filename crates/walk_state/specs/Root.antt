@@ -16,9 +16,9 @@ use Rattle.spec_bridge.specs.Trim.{length_trim}
 use Rattle.spec_bridge.specs.Arithmetic.{at_add, at_sub, mul_cong}
 use Rattle.spec_bridge.specs.Lengths.{length_add}
 use Rattle.spec_bridge.specs.Residues.{model}
-use Rattle.base_polynomial.specs.Pad.{pad_take}
-use Rattle.base_polynomial.specs.Places.{Within, zeros, length_zeros, at_zeros}
-use Rattle.base_polynomial.specs.Row.{at_take}
+use Rattle.base_places.specs.Pad.{pad_take}
+use Rattle.base_places.specs.Places.{Within, zeros, length_zeros, at_zeros}
+use Rattle.base_places.specs.Row.{at_take}
 
 -- ---- c·x^e
 monomial_at : (q c e : ℕ) → get_or (monomial (modulo q) c e) e 0 ≡ c

@@ -10,10 +10,10 @@ use Rattle.spec_bridge.specs.Lengths.{length_add}
 use Rattle.spec_bridge.specs.Residues.{model, pos}
 use Rattle.spec_laws.specs.Admitted.{Admitted, surd_of}
 use Rattle.spec_laws.specs.Walk.{d_length}
-use Rattle.base_polynomial.specs.Record.{poly, Held}
-use Rattle.base_polynomial.specs.Held.{at_poly}
-use Rattle.base_polynomial.specs.Pad.{length_pad, at_pad}
-use Rattle.base_polynomial.specs.Places.{Places, Within, zeros}
+use Rattle.base_places.specs.Record.{poly, Held}
+use Rattle.base_places.specs.Held.{at_poly}
+use Rattle.base_places.specs.Pad.{length_pad, at_pad}
+use Rattle.base_places.specs.Places.{Places, Within, zeros}
 use Rattle.walk_step.specs.Step.{Inverses}
 use Rattle.walk_state.specs.Root.{root_cong}
 use Rattle.walk_state.specs.State.{root_d, pad_within}

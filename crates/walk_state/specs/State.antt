@@ -20,8 +20,8 @@ use Rattle.spec_laws.specs.Fraction.{Q_deg, Q_length}
 use Rattle.spec_laws.specs.Walk.{d_length}
 use Rattle.spec_laws.specs.Leads.{lead_Q_is}
 use Rattle.spec_laws.specs.State.{before, left, before_zero, before_suc, before_oks, before_length, left_zero, left_oks, left_length, left_next, Q_step}
-use Rattle.base_polynomial.specs.Pad.{at_pad}
-use Rattle.base_polynomial.specs.Places.{Within}
+use Rattle.base_places.specs.Pad.{at_pad}
+use Rattle.base_places.specs.Places.{Within}
 use Rattle.walk_step.specs.Step.{step_quo, next_rem, next_q, Ready, Stepped}
 
 -- ---- padded lists

@@ -2,3 +2,5 @@
 #![tactic(auto)]
 
 pub mod step;
+
+pub use walk_short::Step;

@@ -2,11 +2,11 @@
 // arrays or in place.
 #![tactic(auto)]
 
-ghost use Rattle.base_field.specs.Named.{IsField, name};
 ghost use Rattle.walk_stride.specs.Progress.{Begun, Going, Taken, Turned};
 
 use base_counters::{Distance, Index};
-use base_field::Field;
+use walk_state::Walk;
+use walk_step::Step;
 use walk_step::step::step;
 
 // Where the walk stands: the index i, the degree of p_{i − 1}, the size of Q_i and its constant coefficient.
@@ -18,20 +18,19 @@ pub struct Progress {
     pub last: u32,
 }
 
-// Index 0: the Q before is D, Q is 1 and the remainder d. D stands in `radicand`.
+// Index 0: the Q before is D, Q is 1 and the remainder d.
 pub fn begin(
-    radicand: &[u32; 129],
-    d: &[u32; 129],
+    w: &Walk,
     before: &mut [u32; 129],
     current: &mut [u32; 129],
     rest: &mut [u32; 129],
 ) -> Progress
-    ensures { Begun radicand.now d.now before.new current.new rest.new result }
+    ensures { Begun w.now before.new current.new rest.new result }
 {
-    *before = *radicand;
+    *before = w.surd.radicand.c;
     *current = [0u32; 129];
     current[0] = 1;
-    *rest = *d;
+    *rest = w.d;
     Progress {
         index: Index(0),
         degree: Distance(0),
@@ -43,10 +42,7 @@ pub fn begin(
 // One step from three arrays into two others: `remains` and `after` become the next remainder and the next Q.
 // A run takes its arrays in turn, so that none is copied.
 pub fn stride(
-    f: Field,
-    inverses: &[u32; 4096],
-    twice: &[u32; 129],
-    top: usize,
+    w: &Walk,
     before: &[u32; 129],
     current: &[u32; 129],
     rest: &[u32; 129],
@@ -54,17 +50,25 @@ pub fn stride(
     after: &mut [u32; 129],
     at: Progress,
 ) -> Progress
-    requires field { IsField f }
-    requires going { Going (name f) top inverses.now twice.now before.now current.now rest.now at }
-    ensures { Taken (name f) top twice.now before.now current.now rest.now remains.new after.new at result }
+    requires { Going w.now before.now current.now rest.now at }
+    ensures { Taken w.now before.now current.now rest.now remains.new after.new at result }
 {
-    let size = step(
-        f, inverses, twice, top, before, current, at.size, rest, remains, after,
-    );
+    let top = w.top();
+    let s = Step {
+        field: w.surd.field,
+        twice: &w.twice,
+        before,
+        current,
+        rest,
+        top,
+        size: at.size,
+        lead_inverse: w.inverses[current[at.size - 1] as usize],
+    };
+    let size = step(&s, remains, after);
     Progress {
         index: Index(at.index.0 + 1),
         degree: Distance(at.degree.0 + (top - at.size) as u64),
-        size: size,
+        size,
         last: after[0],
     }
 }
@@ -72,33 +76,18 @@ pub fn stride(
 // One step in place: `before` becomes Q, which stands in `current`, and `current` and `rest` the next Q and
 // the next remainder.
 pub fn turn(
-    f: Field,
-    inverses: &[u32; 4096],
-    twice: &[u32; 129],
-    top: usize,
+    w: &Walk,
     before: &mut [u32; 129],
     current: &mut [u32; 129],
     rest: &mut [u32; 129],
     at: Progress,
 ) -> Progress
-    requires field { IsField f }
-    requires going { Going (name f) top inverses.now twice.now before.old current.old rest.old at }
-    ensures { Turned (name f) top twice.now before.old current.old rest.old before.new current.new rest.new at result }
+    requires { Going w.now before.old current.old rest.old at }
+    ensures { Turned w.now before.old current.old rest.old before.new current.new rest.new at result }
 {
     let mut remains = [0u32; 129];
     let mut after = [0u32; 129];
-    let to = stride(
-        f,
-        inverses,
-        twice,
-        top,
-        before,
-        current,
-        rest,
-        &mut remains,
-        &mut after,
-        at,
-    );
+    let to = stride(w, before, current, rest, &mut remains, &mut after, at);
     *before = *current;
     *current = after;
     *rest = remains;

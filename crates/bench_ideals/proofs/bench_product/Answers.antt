@@ -1,19 +1,13 @@
--- `bench_product` meets its contract: a ticket that is refused gives 0; else the pairs are tested.
-use Rattle.std.proofs.Common.{arith}
-use Rattle.ticket_read.specs.Accepted.{accepted, number_is, degree_two}
-use Rattle.call_product.specs.Products.{product_refused_lem}
-use Rattle.bench_ideals.specs.Turns.{product_none, product_turns_lem}
+-- A refusal's P is zero; else the size is that of the last turn's P.
+use Rattle.ideal_pair.specs.Pair.{paired_operand}
+use Rattle.bench_ideals.specs.Turns.{product_none, product_some}
 use Rattle.bench_ideals.proofs.bench_product.Goals as goal
 
-pub returns-then-t-ne0 : goal.returns-then-t-ne0
-returns-then-t-ne0 c = product_none _ _ _ _ _ (product_refused_lem _ _ _ _ (number_is _ c.read_ticket-t.ensures) (λ e. omega arith))
+pub products-requires : goal.products-requires
+products-requires c = let t = c.in-Ok.ensures.read in (paired_operand t.first, paired_operand t.second)
 
-pub products_of-requires : goal.products_of-requires
-products_of-requires c =
-    let a = accepted _ c.read_ticket-t.ensures (omega arith) in
-    (a.is_field, a.radicand, a.held, degree_two a)
+pub returns-in-Ok : goal.returns-in-Ok
+returns-in-Ok c = product_some c.args.times c.in-Ok.ensures.read c.products.ensures.none c.products.ensures.some
 
-pub returns : goal.returns
-returns c =
-    let a = accepted _ c.read_ticket-t.ensures (omega arith) in
-    product_turns_lem _ _ _ _ _ a.passes a.ticket_is (c.products_of.ensures _)
+pub returns-in-Err : goal.returns-in-Err
+returns-in-Err c = product_none c.args.times c.in-Err.ensures.refused

@@ -1,10 +1,12 @@
--- `far` meets its contract: each test is one of the two orders.
-use Rattle.std.proofs.Common.{sym}
-use Rattle.call_giant_step.specs.GiantSteps.{first_far, far_second}
+-- Each test is one of the two orders.
+use Rattle.std.proofs.Common.{lt-ltb, le-ltb}
+use Rattle.spec_definitions.specs.Products.{farthest, wrong_distance}
 use Rattle.call_giant_step.proofs.far.Goals as goal
 
 pub returns-then-d1-gt-FARTHEST : goal.returns-then-d1-gt-FARTHEST
-returns-then-d1-gt-FARTHEST c = sym (first_far _ _ c.if-d1-gt-FARTHEST.true)
+unfolding wrong_distance
+returns-then-d1-gt-FARTHEST c = rw (lt-ltb farthest c.args.d1.0 c.if-d1-gt-FARTHEST.true)
 
-pub returns : goal.returns
-returns c = far_second _ _ c.if-d1-gt-FARTHEST.false
+pub returns-else-d1-gt-FARTHEST : goal.returns-else-d1-gt-FARTHEST
+unfolding wrong_distance
+returns-else-d1-gt-FARTHEST c = rw (le-ltb farthest c.args.d1.0 c.if-d1-gt-FARTHEST.false)

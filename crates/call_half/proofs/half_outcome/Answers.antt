@@ -1,22 +1,16 @@
--- `half_outcome` meets its contract: a ticket that words are read as has the number of their first refusal, or
--- what the run asks for.
-use Rattle.std.proofs.Common.{arith}
-use Rattle.ticket_read.specs.Accepted.{accepted, number_is, degree_two}
+-- Words that are read have the outcome of their run, those that are refused the number of their first refusal.
+use Rattle.std.proofs.Common.{arith, sym, ◌∙◌, subst}
+use Rattle.base_refusals.specs.Number.{number_some}
+use Rattle.call_regulator.specs.Regulator.{IsReadAs}
 use Rattle.call_half.specs.Half.{refused_half, accepted_half}
 use Rattle.call_half.proofs.half_outcome.Goals as goal
 
-pub returns-then-t-ne0 : goal.returns-then-t-ne0
-returns-then-t-ne0 c = λ w s. refused_half w _ (number_is w s) (λ e. omega arith)
+pub returns-in-Ok : goal.returns-in-Ok
+returns-in-Ok c w h =
+    let k = subst (IsReadAs w) c.in-Ok.is h in
+    accepted_half w {t = c.in-Ok.t} _ (record { passes = sym k.refused; ticket_is = k.read }) c.run_half.ensures
 
-pub run_half-requires : goal.run_half-requires
-run_half-requires c =
-    let p = c.requires in
-    let a = accepted p.0 p.1 (omega arith) in
-    record {
-      field = a.is_field;
-      admitted = a.radicand;
-      held = (a.held, degree_two a, a.budget);
-    }
-
-pub returns : goal.returns
-returns c = λ w s. accepted_half w _ (accepted w s (omega arith)) c.run_half.ensures
+pub returns-in-Err : goal.returns-in-Err
+returns-in-Err c w h =
+    let k = subst (IsReadAs w) c.in-Err.is h in
+    refused_half w _ (c.into.ensures ∙ k.refused) (λ e. omega (arith, c.into.ensures, number_some c.in-Err.refusal))

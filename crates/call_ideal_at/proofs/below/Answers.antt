@@ -1,25 +1,21 @@
--- The arrays hold the ideal of the last index; the next distance is g + 2 less the size of Q further.
+-- What is refused first is the definition's refusal; else the ideal is that of the last index.
 use Rattle.std.proofs.Common.{arith, refl}
-use Rattle.call_ideal_at.specs.IdealsAt.{size_most, below_says}
+use Rattle.call_ideal_at.specs.IdealsAt.{passed_on, ticket_refused, far_refused, size_most, below}
 use Rattle.call_ideal_at.proofs.below.Goals as goal
 
-pub overflow_sub-next : goal.overflow_sub-next
-overflow_sub-next c =
-    let e = size_most c.requires.field.1 c.requires.field.3 c.ideal_below-at.ensures in
-    omega arith
+pub returns-in_err-t : goal.returns-in_err-t
+returns-in_err-t c = passed_on c.from_residual.ensures.1 (ticket_refused _ _ c.in_err-t.ensures.refused)
 
-pub overflow_add-next-2 : goal.overflow_add-next-2
-overflow_add-next-2 c =
-    let i = c.ideal_below-at.ensures in
-    let e = size_most c.requires.field.1 c.requires.field.3 i in
-    let d = i.is.distance_is in
-    let l = i.last.low in
-    let y = c.requires.y_le_farthest in
-    record { fits = omega arith }
+pub returns-then-y-gt-FARTHEST : goal.returns-then-y-gt-FARTHEST
+returns-then-y-gt-FARTHEST c = far_refused _ _ c.in_ok-t.ensures.refused c.if-y-gt-FARTHEST.true refl
+
+pub next_distance-next-requires : goal.next_distance-next-requires
+next_distance-next-requires c =
+    let l = c.ideal_below-distance.ensures in
+    let e = size_most l in
+    let d = l.is.distance_is in
+    let o = l.last.low in
+    (omega arith, omega arith)
 
 pub returns : goal.returns
-returns c =
-    record {
-      words_value = refl;
-      by_index = λ b. below_says c.requires.field.1 c.requires.field.3 c.ideal_below-at.ensures b refl refl refl refl refl;
-    }
+returns c = below c.ideal_below-distance.ensures _ c.in_ok-t.ensures.refused c.in_ok-t.ensures.read (omega arith) c.next_distance-next.ensures

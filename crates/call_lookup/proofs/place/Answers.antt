@@ -1,33 +1,20 @@
--- A list that is refused has the empty part at its start, and one that is not has n + 4 words from the place
--- found.
-use Rattle.std.proofs.Common.{arith, sym, ap, not}
-use borrow.Author.Tests.{not-true, not-false}
-use Rattle.spec_laws.specs.Degrees.{allowed}
-use Rattle.call_lookup.specs.Refusal.{not_not, listing_records, refused_place, found_place}
-use Rattle.call_lookup.specs.Part.{refused_length, found_length}
+use Rattle.std.proofs.Common.{ap, ◌∙◌, not, rules, ◌≡◌, true, false}
+use Rattle.spec_definitions.specs.Lookup.{wrong_listing}
+use Rattle.call_lookup.specs.Refusal.{of_records, right_records}
+use Rattle.call_lookup.specs.Part.{refused, found}
 use Rattle.call_lookup.proofs.place.Goals as goal
 
-pub returns-then-not-listing_ok : goal.returns-then-not-listing_ok
-returns-then-not-listing_ok c =
-    let w = (not_not _ c.listing_ok.ensures).0 (not-true _ (ap not c.if-not-listing_ok.true)) in
-    record {
-      offset = sym (refused_place _ _ _ 0 w);
-      length = sym (refused_length _ _ _ w);
-    }
-
-pub last_within-offset-requires : goal.last_within-offset-requires
-last_within-offset-requires c = listing_records _ _ ((not_not _ c.listing_ok.ensures).1 (not-false _ (ap not c.if-not-listing_ok.false)))
-
-pub overflow_add-length : goal.overflow_add-length
-overflow_add-length c =
-    let a = allowed _ (listing_records _ _ ((not_not _ c.listing_ok.ensures).1 (not-false _ (ap not c.if-not-listing_ok.false)))).degree in
-    omega arith
+pub returns-then-not-records_ok : goal.returns-then-not-records_ok
+returns-then-not-records_ok c =
+    let listing = c.in_ok-listing.listing in
+    let e = c.in_ok-listing.ensures in
+    let w : right_records listing.words.now listing.n ≡ false = search rules in
+    let h : wrong_listing c.args.list.now c.args.n ≡ true = rw (← ap (λ b. b.now) e.0, ← e.1) (of_records listing.words.now listing.n listing.is_whole ∙ ap not w) in
+    refused _ _ _ h
 
 pub returns : goal.returns
 returns c =
-    let w = (not_not _ c.listing_ok.ensures).1 (not-false _ (ap not c.if-not-listing_ok.false)) in
-    let e = c.last_within-offset.ensures in
-    record {
-      offset = sym (found_place _ _ _ _ w e);
-      length = sym (found_length _ _ _ w _ e);
-    }
+    let listing = c.in_ok-listing.listing in
+    let e = c.in_ok-listing.ensures in
+    let w : right_records listing.words.now listing.n ≡ true = search rules in
+    rw (← ap (λ b. b.now) e.0, ← e.1) (found listing.words.now listing.n c.args.y.0 _ (of_records listing.words.now listing.n listing.is_whole ∙ ap not w) c.last_within.ensures.last c.last_within.ensures.fits)

@@ -1,22 +1,15 @@
--- `outcome_of` meets its contract: a ticket that words are read as has the number of their first refusal, or
--- what the run asks for.
-use Rattle.std.proofs.Common.{arith}
-use Rattle.ticket_read.specs.Accepted.{accepted, number_is, degree_two}
-use Rattle.call_regulator.specs.Regulator.{refused_outcome, accepted_outcome}
+-- Words that are read have the outcome of their run, those that are refused the number of their first refusal.
+use Rattle.std.proofs.Common.{arith, sym, ◌∙◌, subst}
+use Rattle.base_refusals.specs.Number.{number_some}
+use Rattle.call_regulator.specs.Regulator.{IsReadAs, refused_outcome, accepted_outcome}
 use Rattle.call_regulator.proofs.outcome_of.Goals as goal
 
-pub returns-then-t-ne0 : goal.returns-then-t-ne0
-returns-then-t-ne0 c = λ w s. refused_outcome w _ (number_is w s) (λ e. omega arith)
+pub returns-in-Ok : goal.returns-in-Ok
+returns-in-Ok c w h =
+    let k = subst (IsReadAs w) c.in-Ok.is h in
+    accepted_outcome w {t = c.in-Ok.t} _ (record { passes = sym k.refused; ticket_is = k.read }) c.run.ensures
 
-pub run-requires : goal.run-requires
-run-requires c =
-    let p = c.requires in
-    let a = accepted p.0 p.1 (omega arith) in
-    record {
-      field = a.is_field;
-      admitted = a.radicand;
-      held = (a.held, degree_two a, a.budget);
-    }
-
-pub returns : goal.returns
-returns c = λ w s. accepted_outcome w _ (accepted w s (omega arith)) c.run.ensures
+pub returns-in-Err : goal.returns-in-Err
+returns-in-Err c w h =
+    let k = subst (IsReadAs w) c.in-Err.is h in
+    refused_outcome w _ (c.into.ensures ∙ k.refused) (λ e. omega (arith, c.into.ensures, number_some c.in-Err.refusal))

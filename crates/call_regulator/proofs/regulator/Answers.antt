@@ -1,15 +1,11 @@
--- `regulator` meets its contract: the outcome is the definitions', and T3 holds of every outcome that is said
--- so.
+-- The outcome is the definitions', and T3 holds of every outcome that is said so.
 use Rattle.std.proofs.Common.{refl}
 use Rattle.call_regulator.specs.Regulator.{outcome_said, least}
 use Rattle.call_regulator.proofs.regulator.Goals as goal
 
-pub outcome_of-requires : goal.outcome_of-requires
-outcome_of-requires c = (_, c.read_ticket-t.ensures)
-
 pub returns : goal.returns
 returns c =
-    let e = outcome_said _ _ (c.outcome_of.ensures _ c.read_ticket-t.ensures) in
+    let e = outcome_said _ _ (c.outcome_of.ensures _ (record { refused = c.read_ticket.ensures.refused; read = c.read_ticket.ensures.read })) in
     record {
       words = refl;
       says = e;

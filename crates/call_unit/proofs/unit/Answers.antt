@@ -1,28 +1,26 @@
 -- `unit` meets its contract: a refused ticket leaves the lists as they are, any other goes to `unit_of`; T3
 -- of the lists follows from what is said and written.
-use Rattle.std.proofs.Common.{refl, arith}
-use Rattle.ticket_read.specs.Accepted.{accepted, number_is}
-use Rattle.call_regulator.specs.Regulator.{walkable, refused_outcome, accepted_outcome}
+use Rattle.std.proofs.Common.{refl, arith, sym, ◌∙◌}
+use Rattle.base_refusals.specs.Number.{number_some}
+use Rattle.call_regulator.specs.Regulator.{refused_outcome, accepted_outcome}
 use Rattle.call_unit.specs.Unit.{kept_refused, words_answer, least_written}
 use Rattle.call_unit.proofs.unit.Goals as goal
 
-pub returns-then-t-ne0 : goal.returns-then-t-ne0
-returns-then-t-ne0 c =
-    let a = words_answer _ _ _ _ _ _ refl (refused_outcome _ _ (number_is _ c.read_ticket-t.ensures) (λ e. omega arith)) (kept_refused _ _ _) in
+pub returns-in-Ok : goal.returns-in-Ok
+returns-in-Ok c =
+    let a = accepted_outcome _ {t = c.in-Ok.t} _ (record { passes = sym c.in-Ok.ensures.refused; ticket_is = c.in-Ok.ensures.read }) refl in
+    let r = words_answer _ _ _ _ _ _ c.in-Ok.ensures.read a c.unit_of-outcome.ensures in
     record {
       words = refl;
-      says = a.says;
-      lists = a.lists_are;
-      least = least_written _ _ _ _ a;
+      says = r.says;
+      lists = r.lists_are;
+      least = least_written _ _ _ _ r;
     }
 
-pub unit_of-outcome-requires : goal.unit_of-outcome-requires
-unit_of-outcome-requires c = walkable (accepted _ c.read_ticket-t.ensures (omega arith))
-
-pub returns : goal.returns
-returns c =
-    let a = accepted _ c.read_ticket-t.ensures (omega arith) in
-    let r = words_answer _ _ _ _ _ _ a.ticket_is (accepted_outcome _ _ a refl) c.unit_of-outcome.ensures in
+pub returns-in-Err : goal.returns-in-Err
+returns-in-Err c =
+    let e = refused_outcome _ _ (c.into.ensures ∙ c.in-Err.ensures.refused) (λ e. omega (arith, c.into.ensures, number_some c.in-Err.refusal)) in
+    let r = words_answer _ _ _ _ _ _ refl e (kept_refused _ _ _) in
     record {
       words = refl;
       says = r.says;

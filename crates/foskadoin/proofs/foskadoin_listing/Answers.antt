@@ -9,8 +9,8 @@ use Rattle.foskadoin.proofs.foskadoin_listing.Goals as goal
 pub returns : goal.returns
 returns c =
     record {
-      words = c.as_numbers.ensures.words ∙ c.listing-a.ensures.words;
-      says = plain_same c.listing-a.ensures.says c.as_numbers.ensures.says;
-      list = c.listing-a.ensures.list;
-      least = least_plain _ _ (t1_numbers.2 _ _ _ (sym c.listing-a.ensures.says)) c.as_numbers.ensures.says c.listing-a.ensures.least;
+      words = c.into.ensures.0 ∙ c.listing.ensures.words;
+      says = plain_same c.listing.ensures.says c.into.ensures.1;
+      list = c.listing.ensures.list;
+      least = least_plain _ _ (t1_numbers.2 _ _ _ (sym c.listing.ensures.says)) c.into.ensures.1 c.listing.ensures.least;
     }

@@ -8,7 +8,7 @@ use Rattle.foskadoin.proofs.foskadoin_regulator.Goals as goal
 pub returns : goal.returns
 returns c =
     record {
-      words = c.as_numbers.ensures.words ∙ c.regulator-a.ensures.words;
-      says = plain_same c.regulator-a.ensures.says c.as_numbers.ensures.says;
-      least = least_plain _ _ (t1_numbers.0 _ _ (sym c.regulator-a.ensures.says)) c.as_numbers.ensures.says c.regulator-a.ensures.least;
+      words = c.into.ensures.0 ∙ c.regulator.ensures.words;
+      says = plain_same c.regulator.ensures.says c.into.ensures.1;
+      least = least_plain _ _ (t1_numbers.0 _ _ (sym c.regulator.ensures.says)) c.into.ensures.1 c.regulator.ensures.least;
     }

@@ -9,8 +9,8 @@ use Rattle.foskadoin.proofs.foskadoin_unit.Goals as goal
 pub returns : goal.returns
 returns c =
     record {
-      words = c.as_numbers.ensures.words ∙ c.unit-a.ensures.words;
-      says = plain_same c.unit-a.ensures.says c.as_numbers.ensures.says;
-      lists = c.unit-a.ensures.lists;
-      least = least_in_lists _ _ _ (t1_numbers.1 _ _ _ (sym c.unit-a.ensures.says)) c.as_numbers.ensures.says c.unit-a.ensures.least;
+      words = c.into.ensures.0 ∙ c.unit.ensures.words;
+      says = plain_same c.unit.ensures.says c.into.ensures.1;
+      lists = c.unit.ensures.lists;
+      least = least_in_lists _ _ _ (t1_numbers.1 _ _ _ (sym c.unit.ensures.says)) c.into.ensures.1 c.unit.ensures.least;
     }

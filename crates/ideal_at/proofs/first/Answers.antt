@@ -1,7 +1,6 @@
--- The arrays hold 1 and 0.
-use Rattle.std.proofs.Common.{refl}
-use Rattle.ideal_at.specs.First.{first_last}
+-- The places of 1 and of 0.
+use Rattle.ideal_at.specs.First.{one_held}
 use Rattle.ideal_at.proofs.first.Goals as goal
 
 pub returns : goal.returns
-returns c = first_last c.args.n c.requires.1 refl refl refl refl refl
+returns c = (one_held c.zero-z.ensures, c.zero-z-2.ensures)

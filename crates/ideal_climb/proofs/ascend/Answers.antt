@@ -1,45 +1,31 @@
-use Rattle.std.proofs.Common.{◌<◌, ◌≤◌, arith, rules}
+use Rattle.std.proofs.Common.{◌+◌, ◌/◌, ◌<◌, ◌≤◌, arith}
 use Rattle.spec_definitions.specs.Products.{farthest}
-use Rattle.base_field.specs.Named.{name}
-use Rattle.ideal_climb.specs.Climbs.{Climbs, climbs_sizes, climbs_ready, climbs_next}
+use Rattle.ideal_climb.specs.Climbs.{climbs_sizes, climbs_ready, climbs_next}
 use Rattle.ideal_climb.proofs.ascend.Goals as goal
-use Rattle.ideal_climb.proofs.ascend.Goals.{At-loop-f}
+use Rattle.ideal_climb.proofs.ascend.Goals.{At-loop-y}
 
-pub loop-f-init : goal.loop-f-init
-loop-f-init c = ((λ n D t. t), c.requires.field.1)
-
--- where the steps stand
-here : (c : At-loop-f) → Climbs (name c.args.f) c.requires.by_index.0 c.requires.by_index.1 c.args.top c.args.twice.now c.loop-f.before c.loop-f.current c.loop-f.rest c.loop-f.at
-here c = let p = c.requires.by_index in c.loop-f.invariant.0 p.0 p.1 p.2
-
--- what the next distance asks for
-sizes : (c : At-loop-f) → (0 < c.loop-f.at.size) × (c.loop-f.at.size < c.args.top) × (c.args.top ≤ 33) × (c.loop-f.at.distance.0 ≤ farthest)
-sizes c = let s = climbs_sizes (here c) in let a = c.loop-f.invariant.1 in let b = c.requires.field.2 in (s.0, s.1, s.2, omega arith)
+-- what the next distance and a step ask for
+sizes : (c : At-loop-y) → (0 < c.loop-y.current.size) × (c.loop-y.current.size < c.args.r.now.surd.n / 2 + 1) × (c.args.r.now.surd.n / 2 + 1 ≤ 33) × (c.loop-y.at.0 ≤ farthest)
+sizes c = let s = climbs_sizes c.loop-y.invariant.0 in let a = c.loop-y.invariant.1 in let b = c.requires.distances.1 in (s.0, s.1, s.2, omega arith)
 
 pub next_distance-requires : goal.next_distance-requires
-next_distance-requires c = let s = sizes (goal.at.next_distance-requires c).At-loop-f in search rules
+next_distance-requires c = let s = sizes (goal.at.next_distance-requires c).At-loop-y in (omega arith, s.3)
 
 pub turn-at-requires : goal.turn-at-requires
 turn-at-requires c =
-    let s = sizes (goal.at.turn-at-requires c).At-loop-f in
+    let s = sizes (goal.at.turn-at-requires c).At-loop-y in
     record {
-      field = (c.requires.field.0, s.0, omega arith, omega arith, s.3);
-      ready = climbs_ready (here (goal.at.turn-at-requires c).At-loop-f);
+      sizes = (s.0, omega arith, omega arith, s.3);
+      ready = climbs_ready c.loop-y.invariant.0;
     }
 
-pub loop-f-smaller : goal.loop-f-smaller
-loop-f-smaller c =
-    let s = sizes (goal.at.loop-f-smaller c).At-loop-f in
+pub loop-y-smaller : goal.loop-y-smaller
+loop-y-smaller c =
+    let s = sizes (goal.at.loop-y-smaller c).At-loop-y in
     let e = c.turn-at.ensures.distance_is in
     omega arith
 
-pub loop-f-preserved : goal.loop-f-preserved
-loop-f-preserved c =
+pub loop-y-preserved : goal.loop-y-preserved
+loop-y-preserved c =
     let e = c.turn-at.ensures.distance_is in
-    ((λ n D t. climbs_next (c.loop-f.invariant.0 n D t) c.turn-at.ensures), omega arith)
-
-pub returns : goal.returns
-returns c = record {
-  by_index_2 = c.loop-f.invariant.0;
-  distance_le_y = (c.loop-f.invariant.1, omega arith);
-}
+    (climbs_next c.loop-y.invariant.0 c.turn-at.ensures, omega arith)

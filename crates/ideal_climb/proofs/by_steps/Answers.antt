@@ -1,77 +1,58 @@
--- The arrays are those that the steps start from, and the ideal that they end in is that of the last index.
-use Rattle.std.proofs.Common.{suc, ◌+◌, ◌/◌, ◌≤◌, arith, ◌≡◌, refl, rules}
+-- The steps start at the ideal handed in, and the ideal that they end in is that of the last index.
+use Rattle.std.proofs.Common.{suc, ◌+◌, ◌/◌, ◌≤◌, arith, ◌≡◌}
 use Rattle.spec_definitions.specs.Ticket.{genus}
-use Rattle.base_field.specs.Named.{name}
-use Rattle.base_polynomial.specs.Held.{length_poly}
 use Rattle.base_polynomial.specs.Linear.{held_within}
 use Rattle.walk_state.specs.Start.{top_is}
 use Rattle.ideal_operand.specs.Operand.{operand_p_size}
-use Rattle.ideal_reduce.specs.Start.{Start, q_some, root_within}
+use Rattle.ideal_descend.proofs.Turn.{root_within}
+use Rattle.ideal_reduce.specs.Start.{cofactor_sizes}
 use Rattle.ideal_climb.specs.Located.{on_walk_operand}
 use Rattle.ideal_climb.specs.Climbs.{start, climbs_first, climbs_sizes, climbs_held, rest_within, climbs_last}
 use Rattle.ideal_climb.proofs.by_steps.Goals as goal
 use Rattle.ideal_climb.proofs.by_steps.Goals.{Start as Entry}
 
--- the ideal as one that steps start from
-begun : (c : Entry) → Start (name c.args.f) (genus c.args.n) c.args.radicand.now c.args.l c.args.d.now c.args.a.now c.args.at.q c.args.b.now c.args.at.p
-begun c = let p = c.requires.field in start c.args.n p.1 p.2 p.3 c.requires.on_walk.0.is c.requires.d_value
-
 -- n/2 + 1 is g + 2
-half : (c : Entry) → (c.args.n / 2 + 1 ≡ suc (suc (genus c.args.n))) × (genus c.args.n ≤ 31)
-half c = (top_is c.args.n c.requires.field.3, c.requires.field.1.genus_most)
+half : (c : Entry) → (c.args.r.now.surd.n / 2 + 1 ≡ suc (suc (genus c.args.r.now.surd.n))) × (c.args.r.now.surd.n / 2 + 1 ≤ 129)
+half c =
+    let s = c.args.r.now.surd in
+    let e : s.n / 2 + 1 ≡ suc (suc (genus s.n)) = top_is s.n s.degree_two in
+    let g = s.admitted.genus_most in
+    (e, omega arith)
 
 pub cofactor-requires : goal.cofactor-requires
 cofactor-requires c =
-    let t = begun (goal.at.cofactor-requires c).Start in
-    let w = t.p_most in
-    let e = t.q_most in
-    let g = half (goal.at.cofactor-requires c).Start in
-    let a = length_poly _ _ _ t.held_D in
-    let b = t.admitted.size_D in
+    let t = start c.requires.on_walk.is in
     record {
-      field = (c.requires.field.0, q_some t, omega arith, omega arith, omega arith);
-      held = (t.held_D, t.held_q, t.held_p);
+      sizes = cofactor_sizes c.args.r.now t;
+      held = (c.args.r.now.surd.held, t.held_q, t.held_p);
     }
 
 pub sub_places-requires : goal.sub_places-requires
 sub_places-requires c =
-    let t = begun (goal.at.sub_places-requires c).Start in
-    let g = half (goal.at.sub_places-requires c).Start in
-    let h = c.requires.field.1 in
-    let k = operand_p_size h (on_walk_operand h c.requires.on_walk.0.is) in
-    let top : c.args.n / 2 + 1 ≤ 129 = omega arith in
-    let u = root_within t (c.args.n / 2 + 1) (omega arith) top in
-    let v = held_within _ _ _ (c.args.n / 2 + 1) t.held_p (omega arith) in
+    let t = start c.requires.on_walk.is in
+    let h = half (goal.at.sub_places-requires c).Start in
+    let k = operand_p_size c.args.r.now.surd.admitted (on_walk_operand c.requires.on_walk.is) in
     record {
-      field = (c.requires.field.0, top);
-      within = search rules;
-      within_2 = search rules;
+      n_bound = h.1;
+      within = (root_within c.args.r.now _ (omega arith) h.1, held_within _ _ _ (c.args.r.now.surd.n / 2 + 1) t.held_p (omega arith));
     }
 
-pub ascend-to-requires : goal.ascend-to-requires
-ascend-to-requires c =
-    let p = c.requires.field in
-    let w = c.requires.on_walk in
-    record {
-      field = (p.0, w.1, w.2);
-      by_index = (_, _, climbs_first c.args.n p.1 p.2 p.3 w.0.is c.requires.d_value c.cofactor.ensures c.sub_places.ensures c.requires.twice_value);
-    }
+pub ascend-reached-requires : goal.ascend-reached-requires
+ascend-reached-requires c = record {
+  distances = c.requires.distances;
+  climbs = climbs_first c.args.r.now c.requires.on_walk.is c.cofactor.ensures c.sub_places.ensures;
+}
 
-pub ended-t-requires : goal.ended-t-requires
-ended-t-requires c =
-    let p = c.requires.field in
-    let w = c.requires.on_walk in
-    let g = half (goal.at.ended-t-requires c).Start in
-    let t = c.ascend-to.ensures.by_index_2 _ _ (climbs_first c.args.n p.1 p.2 p.3 w.0.is c.requires.d_value c.cofactor.ensures c.sub_places.ensures c.requires.twice_value) in
-    let top : c.args.n / 2 + 1 ≤ 129 = omega arith in
+pub ended-requires : goal.ended-requires
+ended-requires c =
+    let t = c.ascend-reached.ensures.climbs in
+    let h = half (goal.at.ended-requires c).Start in
     record {
-      field = (p.0, (climbs_sizes t).0, top);
-      held = (climbs_held t, root_within (begun (goal.at.ended-t-requires c).Start) _ (omega arith) top, rest_within t);
+      sizes = ((climbs_sizes t).0, h.1);
+      held = (climbs_held t, root_within c.args.r.now _ (omega arith) h.1, rest_within t (omega arith));
     }
 
 pub returns : goal.returns
 returns c =
-    let p = c.requires.field in
-    let w = c.requires.on_walk in
-    let t = c.ascend-to.ensures.by_index_2 _ _ (climbs_first c.args.n p.1 p.2 p.3 w.0.is c.requires.d_value c.cofactor.ensures c.sub_places.ensures c.requires.twice_value) in
-    climbs_last t c.requires.d_value c.ascend-to.ensures.distance_le_y.0 c.ascend-to.ensures.distance_le_y.1 c.ended-t.ensures.is c.ended-t.ensures.is_2 refl
+    let t = c.ascend-reached.ensures in
+    climbs_last t.climbs t.last.0 t.last.1 c.ended.ensures.q c.ended.ensures.p

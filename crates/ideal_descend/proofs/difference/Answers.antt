@@ -3,13 +3,13 @@ use Rattle.spec_bridge.specs.Residues.{pos}
 use Rattle.ideal_descend.proofs.DifferenceLaws.{difference_past, difference_is}
 use Rattle.ideal_descend.proofs.difference.Goals as goal
 
-pub top-requires : goal.top-requires
-top-requires c =
+pub top-z-requires : goal.top-z-requires
+top-z-requires c =
     record {
-      from_bound = c.requires.field.1;
-      by_index = difference_past (pos _ c.requires.field.0.0) c.requires.within c.requires.within_2 c.sub_places.ensures;
+      from_bound = c.requires.n_bound;
+      by_index = difference_past (pos _ c.args.f.is_field.0) c.requires.within.0 c.requires.within.1 c.sub_places.ensures;
     }
 
 pub returns : goal.returns
 returns c =
-    difference_is (pos _ c.requires.field.0.0) c.requires.within c.requires.within_2 c.sub_places.ensures c.top.ensures
+    difference_is (pos _ c.args.f.is_field.0) c.requires.within.0 c.requires.within.1 c.sub_places.ensures c.top-z.ensures

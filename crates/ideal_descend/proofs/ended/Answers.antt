@@ -4,30 +4,23 @@ use Rattle.spec_arithmetic.specs.Field.{ops}
 use Rattle.spec_arithmetic.specs.Polynomials.{rem, monic}
 use Rattle.spec_bridge.specs.Residues.{pos}
 use Rattle.base_field.specs.Named.{name}
-use Rattle.base_polynomial.specs.Record.{poly}
+use Rattle.base_polynomial.specs.Over.{poly}
 use Rattle.ideal_operand.specs.Difference.{is_path}
 use Rattle.ideal_descend.proofs.DifferenceLaws.{difference_result}
 use Rattle.ideal_descend.proofs.ended.Goals as goal
 
-pub difference-k-requires : goal.difference-k-requires
-difference-k-requires c = record {
-  field = (c.requires.field.0, c.requires.field.2);
-  within = c.requires.held.1;
-  within_2 = c.requires.held.2;
-}
-
 pub normal-requires : goal.normal-requires
 normal-requires c =
     record {
-      field = (c.requires.field.0, c.requires.field.1);
-      held = (c.requires.held.0, (difference_result (pos _ c.requires.field.0.0) c.requires.held.1 c.requires.held.2 c.requires.field.2 c.difference-k.ensures).held);
+      some = c.requires.sizes.0;
+      held = (c.requires.held.0, (difference_result (pos _ c.args.f.is_field.0) c.requires.held.1 c.requires.held.2 c.requires.sizes.1 c.difference.ensures).held);
     }
 
 pub returns : goal.returns
 returns c =
     let f = name c.args.f in
-    let d = difference_result (pos _ c.requires.field.0.0) c.requires.held.1 c.requires.held.2 c.requires.field.2 c.difference-k.ensures in
+    let d = difference_result (pos _ c.args.f.is_field.0) c.requires.held.1 c.requires.held.2 c.requires.sizes.1 c.difference.ensures in
     record {
-      is = c.normal.ensures.is;
-      is_2 = is_path (ap (λ (v : List ℕ). rem (ops f) v (monic (ops f) (poly c.args.current.now c.args.size))) d.is) c.normal.ensures.is_2;
+      q = c.normal.ensures.q;
+      p = is_path (ap (λ (v : List ℕ). rem (ops f) v (monic (ops f) (poly c.args.current.now))) d.is) c.normal.ensures.p;
     }

@@ -1,47 +1,39 @@
 -- The arrays are those of an index; the quotient is not constant, and the sum stays small.
-use Rattle.std.proofs.Common.{suc, ◌-◌, ◌<◌, arith, refl}
+use Rattle.std.proofs.Common.{◌-◌, arith}
 use Rattle.ideal_descend.proofs.Stands.{q_some, q_reduced}
-use Rattle.ideal_descend.proofs.Turn.{at_ready, even_past, quotient_some, at_next, sum_bound}
+use Rattle.ideal_descend.proofs.Turn.{above, at_ready, even_past, quotient_some, at_next, sum_bound}
 use Rattle.ideal_descend.proofs.stride.Goals as goal
-use Rattle.ideal_descend.proofs.stride.Goals.{Start}
-
-high : (c : Start) → suc c.requires.going.g < c.args.at.size
-high c = let e = c.requires.going.half in let l = c.requires.field.1 in omega arith
 
 pub inverse-w-requires : goal.inverse-w-requires
 inverse-w-requires c =
     let t = c.requires.going in
-    (c.requires.field.0, q_reduced t.begun t.stands.stands (c.args.at.size - 1))
+    q_reduced t.begun t.stands.stands (c.args.current.now.size - 1)
 
-pub step_by-next-requires : goal.step_by-next-requires
-step_by-next-requires c =
+pub step_by-after-requires : goal.step_by-after-requires
+step_by-after-requires c =
     let t = c.requires.going in
     record {
-      field = c.requires.field.0;
       lead_inverse_value = c.inverse-w.ensures;
       size_nonzero = (q_some t.begun t.stands.stands, t.stands.top_least, t.stands.top_most);
-      ready = at_ready t.begun t.stands t.twice_is (high (goal.at.step_by-next-requires c).Start);
+      ready = at_ready t.begun t.stands c.args.r.now.twice_is (above t c.requires.high);
     }
 
-pub height-high-requires : goal.height-high-requires
-height-high-requires c =
+pub height-top-requires : goal.height-top-requires
+height-top-requires c =
     let t = c.requires.going in
     record {
       from_bound = let l = t.stands.top_least in let m = t.stands.top_most in omega arith;
-      by_index = even_past t.begun t.stands t.twice_is (high (goal.at.height-high-requires c).Start) c.step_by-next.ensures;
+      equal = even_past t.begun t.stands c.args.r.now.twice_is (above t c.requires.high) c.step_by-after.ensures;
     }
 
-pub overflow_sub-sum : goal.overflow_sub-sum
-overflow_sub-sum c =
+pub overflow_sub-result : goal.overflow_sub-result
+overflow_sub-result c =
     let t = c.requires.going in
-    let w = quotient_some t.begun t.stands t.twice_is (high (goal.at.overflow_sub-sum c).Start) c.step_by-next.ensures c.height-high.ensures in
+    let w = quotient_some t.begun t.stands c.args.r.now.twice_is (above t c.requires.high) c.step_by-after.ensures c.height-top.ensures in
     omega arith
 
-pub overflow_add-sum : goal.overflow_add-sum
-overflow_add-sum c =
+pub overflow_add-result : goal.overflow_add-result
+overflow_add-result c =
     let t = c.requires.going in
-    let w = sum_bound t.begun (at_next t.begun t.stands t.twice_is (high (goal.at.overflow_add-sum c).Start) c.step_by-next.ensures c.height-high.ensures) in
+    let w = sum_bound t.begun (at_next t.begun t.stands c.args.r.now.twice_is (above t c.requires.high) c.step_by-after.ensures c.height-top.ensures) in
     omega arith
-
-pub returns : goal.returns
-returns c = record { stepped = c.step_by-next.ensures; height = c.height-high.ensures; sum_is = refl }

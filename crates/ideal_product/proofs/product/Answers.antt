@@ -5,45 +5,29 @@ use Rattle.ideal_operand.specs.Operand.{operand_q, operand_p, operand_q_size, op
 use Rattle.ideal_product.specs.CoprimeResult.{u_result, u_bound, coprime_multiplied}
 use Rattle.ideal_product.proofs.product.Goals as goal
 
-pub first_factor-r-requires : goal.first_factor-r-requires
-first_factor-r-requires c =
-    let h = c.requires.field.1 in
-    record {
-      field = c.requires.field.0;
-      held = operand_q h c.requires.operand;
-      held_2 = operand_q h c.requires.operand_2;
-    }
+pub first_factor-requires : goal.first_factor-requires
+first_factor-requires c =
+    let h = c.args.s.now.admitted in
+    (operand_q h c.requires.0, operand_q h c.requires.1)
 
-pub shared-requires : goal.shared-requires
-shared-requires c =
-    record {
-      field = c.requires.field;
-      operand = c.requires.operand;
-      operand_2 = c.requires.operand_2;
-      is = (c.first_factor-r.ensures.is, c.first_factor-r.ensures.is_2);
-    }
-
-pub returns-then-r-ne1 : goal.returns-then-r-ne1
-returns-then-r-ne1 c = c.shared.ensures
-
-pub coprime-t-requires : goal.coprime-t-requires
-coprime-t-requires c =
-    let h = c.requires.field.1 in
-    let x = c.requires.operand in
-    let y = c.requires.operand_2 in
-    let g = h.genus_most in
+pub coprime-requires : goal.coprime-requires
+coprime-requires c =
+    let h = c.args.s.now.admitted in
+    let x = c.requires.0 in
+    let y = c.requires.1 in
+    let n = h.genus_most in
     let x_q = operand_q_size h x in
     let y_q = operand_q_size h y in
     let x_p = operand_p_size h x in
     let y_p = operand_p_size h y in
-    let u = c.first_factor-r.ensures.is_2 in
+    let u = c.first_factor.ensures.first in
     record {
-      field = (c.requires.field.0, omega arith, omega arith, operand_q_some h y, omega arith, omega arith, u_bound h x y u);
-      held = (operand_q h x, operand_p h x);
-      held_2 = (operand_q h y, operand_p h y);
-      held_3 = (u_result h x y u).held;
+      sizes_x = (omega arith, omega arith);
+      sizes_y = (operand_q_some h y, omega arith, omega arith);
+      size_u = u_bound h x y u;
+      held = (operand_q h x, operand_p h x, operand_q h y, operand_p h y, (u_result h x y u).held);
     }
 
-pub returns : goal.returns
-returns c =
-    coprime_multiplied c.requires.field.1 c.requires.operand c.requires.operand_2 c.first_factor-r.ensures.is_2 c.first_factor-r.ensures.is c.if-r-ne1.false c.coprime-t.ensures.is c.coprime-t.ensures.is_2
+pub returns-then-common-eq1 : goal.returns-then-common-eq1
+returns-then-common-eq1 c =
+    coprime_multiplied c.args.s.now.admitted c.requires.0 c.requires.1 c.first_factor.ensures.first c.first_factor.ensures.gcd (omega arith) c.coprime.ensures.q c.coprime.ensures.p

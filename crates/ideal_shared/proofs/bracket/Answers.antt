@@ -1,48 +1,34 @@
 -- The difference is at most as long as the longer P, so that each product fits; each polynomial is the
 -- definition's.
-use Rattle.std.proofs.Common.{arith, ap, ◌∙◌, List, ℕ}
-use Rattle.spec_arithmetic.specs.Field.{ops}
+use Rattle.std.proofs.Common.{arith, ap, ◌∙◌}
 use Rattle.spec_arithmetic.specs.Polynomials.{sub, mul}
-use Rattle.base_field.specs.Named.{name}
-use Rattle.base_polynomial.specs.Record.{poly}
-use Rattle.base_polynomial.specs.Held.{held_length}
-use Rattle.base_polynomial.specs.Linear.{held_within}
-use Rattle.base_polynomial.specs.Result.{result_sub, result_mul}
+use Rattle.base_division.specs.Difference.{held_fits}
+use Rattle.base_field.specs.Named.{ops}
+use Rattle.base_polynomial.specs.Whole.{poly}
+use Rattle.base_polynomial.specs.Over.{result_sub, result_mul}
 use Rattle.ideal_operand.specs.Difference.{size_subtract, is_path}
 use Rattle.ideal_shared.proofs.bracket.Goals as goal
 
-pub subtract-k-requires : goal.subtract-k-requires
-subtract-k-requires c = record {
-  field = c.requires.field.0;
-  held = c.requires.held.0;
-  held_2 = c.requires.held.1;
-}
-
-pub multiply-m-requires : goal.multiply-m-requires
-multiply-m-requires c =
-    let l = size_subtract c.requires.held.0 c.requires.held.1 c.subtract-k.ensures 65 c.requires.field.1 c.requires.field.2 in
-    record {
-      field = (c.requires.field.0, omega arith);
-      held = c.requires.held_2.0;
-      held_2 = (result_sub _ _ _ c.requires.held.0 _ _ _ _ c.requires.held.1 c.subtract-k.ensures).held;
-    }
+pub multiply-requires : goal.multiply-requires
+multiply-requires c =
+    let h = c.requires.held in
+    let n = size_subtract _ _ h.0 h.1 _ c.subtract.ensures 65 (omega arith) (omega arith) in
+    record { fits = omega arith; held = (h.2, (result_sub h.0 h.1 c.subtract.ensures).held) }
 
 pub subtract_product-requires : goal.subtract_product-requires
 subtract_product-requires c =
-    let l = size_subtract c.requires.held.0 c.requires.held.1 c.subtract-k.ensures 65 c.requires.field.1 c.requires.field.2 in
-    let r = result_sub _ _ _ c.requires.held.0 _ _ _ _ c.requires.held.1 c.subtract-k.ensures in
-    let x = result_mul _ _ _ c.requires.held_2.0 _ _ r.held _ _ (omega arith) c.multiply-m.ensures in
+    let h = c.requires.held in
+    let n = size_subtract _ _ h.0 h.1 _ c.subtract.ensures 65 (omega arith) (omega arith) in
+    let d = result_sub h.0 h.1 c.subtract.ensures in
     record {
-      field = (c.requires.field.0, x.held.short, omega arith, omega arith, omega arith, held_length _ _ _ x.held);
-      within = held_within _ _ _ _ x.held (omega arith);
-      within_2 = held_within _ _ _ _ c.requires.held_2.1 (omega arith);
-      within_3 = held_within _ _ _ _ c.requires.held_2.2 (omega arith);
+      places = omega arith;
+      fits = (held_fits (result_mul h.2 d.held (omega arith) c.multiply.ensures).held, held_fits h.3, held_fits h.4);
     }
 
 pub returns : goal.returns
 returns c =
-    let f = name c.args.f in
-    let l = size_subtract c.requires.held.0 c.requires.held.1 c.subtract-k.ensures 65 c.requires.field.1 c.requires.field.2 in
-    let r = result_sub _ _ _ c.requires.held.0 _ _ _ _ c.requires.held.1 c.subtract-k.ensures in
-    let x = result_mul _ _ _ c.requires.held_2.0 _ _ r.held _ _ (omega arith) c.multiply-m.ensures in
-    is_path (ap (λ (v : List ℕ). sub (ops f) v (mul (ops f) (poly c.args.w.now c.args.i) (poly c.args.c.now c.args.l))) (x.is ∙ ap (mul (ops f) (poly c.args.u.now c.args.j)) r.is)) c.subtract_product.ensures
+    let h = c.requires.held in
+    let n = size_subtract _ _ h.0 h.1 _ c.subtract.ensures 65 (omega arith) (omega arith) in
+    let d = result_sub h.0 h.1 c.subtract.ensures in
+    let m = result_mul h.2 d.held (omega arith) c.multiply.ensures in
+    is_path (ap (λ l. sub (ops c.args.f) l (mul (ops c.args.f) (poly c.args.w.now) (poly c.args.c.now))) (m.is ∙ ap (mul (ops c.args.f) (poly c.args.u.now)) d.is)) c.subtract_product.ensures

@@ -1,32 +1,23 @@
 -- The difference is held, and its polynomial is the definition's.
-use Rattle.std.proofs.Common.{arith, ap, List, ℕ}
-use Rattle.spec_arithmetic.specs.Field.{ops}
+use Rattle.std.proofs.Common.{arith, ap}
 use Rattle.spec_arithmetic.specs.Polynomials.{rem}
-use Rattle.base_field.specs.Named.{name}
-use Rattle.base_polynomial.specs.Record.{poly}
-use Rattle.base_polynomial.specs.Held.{held_length}
-use Rattle.base_polynomial.specs.Linear.{held_within}
+use Rattle.base_division.specs.Difference.{held_fits}
+use Rattle.base_field.specs.Named.{ops}
+use Rattle.base_polynomial.specs.Whole.{poly}
 use Rattle.ideal_operand.specs.Difference.{result_difference, is_path}
 use Rattle.ideal_shared.proofs.residue.Goals as goal
 
-pub subtract_product-l-requires : goal.subtract_product-l-requires
-subtract_product-l-requires c =
-    record {
-      field = (c.requires.field.0, c.requires.held.0.short, c.requires.held.1.short, c.requires.held_2.0.short, c.requires.field.2, held_length _ _ _ c.requires.held.0);
-      within = held_within _ _ _ _ c.requires.held.0 (omega arith);
-      within_2 = held_within _ _ _ _ c.requires.held.1 (omega arith);
-      within_3 = held_within _ _ _ _ c.requires.held_2.0 (omega arith);
-    }
+pub subtract_product-requires : goal.subtract_product-requires
+subtract_product-requires c =
+    let h = c.requires.held in
+    record { places = omega arith; fits = (held_fits h.0, held_fits h.1, held_fits h.2) }
 
 pub remainder-requires : goal.remainder-requires
 remainder-requires c =
-    record {
-      field = (c.requires.field.0, c.requires.field.1);
-      held = (result_difference c.requires.held.0 c.requires.held.1 c.requires.held_2.0 c.subtract_product-l.ensures c.requires.field.2).held;
-      held_2 = c.requires.held_2.1;
-    }
+    let h = c.requires.held in
+    ((result_difference _ _ _ h.0 h.1 h.2 _ c.subtract_product.ensures (omega arith)).held, h.3, omega arith)
 
 pub returns : goal.returns
 returns c =
-    let f = name c.args.f in
-    is_path (ap (λ (v : List ℕ). rem (ops f) v (poly c.args.q.now c.args.m)) (result_difference c.requires.held.0 c.requires.held.1 c.requires.held_2.0 c.subtract_product-l.ensures c.requires.field.2).is) c.remainder.ensures
+    let h = c.requires.held in
+    is_path (ap (λ l. rem (ops c.args.f) l (poly c.args.q.now)) (result_difference _ _ _ h.0 h.1 h.2 _ c.subtract_product.ensures (omega arith)).is) c.remainder.ensures

@@ -1,44 +1,24 @@
-use Rattle.std.proofs.Common.{arith, ◌≡◌, subst}
-use Rattle.spec_laws.specs.Degrees.{allowed}
-use Rattle.listing_whole.specs.Records.{first_fits}
-use Rattle.listing_distances.specs.Search.{Down, down_from_last, down_found, down_more, down_first, down_size}
+use Rattle.std.proofs.Common.{rules, arith, ◌∙◌, leb, ◌+◌}
+use Rattle.spec_definitions.specs.Lookup.{record_at, record_count}
+use Rattle.listing_whole.specs.Records.{count_positive, count_length, record_fits}
+use Rattle.listing_distances.specs.Distances.{distance_of}
+use Rattle.listing_distances.specs.Search.{last_of_found}
+use Rattle.listing_distances.specs.Back.{last_chunk_passing}
 use Rattle.listing_distances.proofs.last_within.Goals as goal
 
-pub overflow_add-at : goal.overflow_add-at
-overflow_add-at c = let a = allowed _ c.requires.degree in omega arith
+pub returns-clause-last : goal.returns-clause-last
+unfolding record_at record_count
+returns-clause-last c =
+    let listing = c.args.listing in
+    let chunks = c.chunks_exact.ensures in
+    let whole = count_length listing.words.now listing.n listing.is_whole in
+    c.unwrap_or.ensures
+    ∙ last_of_found listing.words.now listing.n c.args.y.0 _ _ (count_positive _ _ listing.is_whole)
+    (last_chunk_passing c.chunks_exact.result (λ s. s.rest.now) (λ s. s.rem.now) (λ s. s.size) listing.words.now (listing.n + 4) _ (λ words. leb (distance_of words) c.args.y.0) (omega arith) chunks.rest whole chunks.size chunks.count c.rposition.ensures.ran (λ x b q called. search rules))
 
-pub overflow_sub-at : goal.overflow_sub-at
-overflow_sub-at c = first_fits _ _ c.requires
-
-pub loop-at-init : goal.loop-at-init
-loop-at-init c =
-    let r = c.requires in
-    let f = first_fits _ _ r in
-    (omega arith, allowed _ r.degree, down_from_last _ _ _ r)
-
-pub returns-then-here-y : goal.returns-then-here-y
-returns-then-here-y c =
-    let e = c.distance_at-here.ensures in
-    down_found _ _ _ _ (omega arith) c.loop-at.invariant.2 (omega arith)
-
-pub overflow_add-at-in-loop-at : goal.overflow_add-at-in-loop-at
-overflow_add-at-in-loop-at c = omega arith
-
-pub overflow_sub-at-in-loop-at : goal.overflow_sub-at-in-loop-at
-overflow_sub-at-in-loop-at c = down_size _ _ _ _ (omega arith) c.loop-at.invariant.2
-
-pub loop-at-smaller : goal.loop-at-smaller
-loop-at-smaller c = let h = down_size _ _ _ _ (omega arith) c.loop-at.invariant.2 in omega arith
-
-pub loop-at-preserved : goal.loop-at-preserved
-loop-at-preserved c =
-    let l = c.loop-at in
-    let e = c.distance_at-here.ensures in
-    let h = down_size _ _ _ _ (omega arith) l.invariant.2 in
-    (omega arith, l.invariant.1, down_more _ _ _ _ (omega arith) l.invariant.2 (omega arith))
-
-pub returns : goal.returns
-returns c =
-    let l = c.loop-at in
-    let z : l.at ≡ 0 = omega arith in
-    down_first _ _ _ (subst (Down _ _ _) z l.invariant.2)
+pub returns-clause-fits : goal.returns-clause-fits
+unfolding record_count
+returns-clause-fits c =
+    let r = c.args.listing.is_whole in
+    let some = count_positive _ _ r in
+    record_fits _ _ r _ (grind (arith, c.unwrap_or.ensures, c.rposition.ensures.bound))

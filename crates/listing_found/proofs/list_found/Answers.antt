@@ -1,5 +1,4 @@
--- `list_found` meets its contract: a list that is too short is refused as it is, any other receives the
--- records.
+-- A list that is too short is refused as it is, any other receives the records.
 use Rattle.std.proofs.Common.{arith, sym, ◌∙◌, leb-true, leb-false}
 use Rattle.walk_run.specs.Found.{found_index, found_degree}
 use Rattle.listing_found.specs.Answers.{long_list, short_list}
@@ -7,25 +6,17 @@ use Rattle.listing_found.proofs.list_found.Goals as goal
 
 pub room-requires : goal.room-requires
 room-requires c =
-    let f = c.requires.found in
-    let i = found_index f in
-    let g = f.admitted.genus_most in
-    let e = f.even in
-    (omega arith, omega arith)
+    let f = c.requires in
+    let g = c.args.w.now.surd.admitted.genus_most in
+    (omega (arith, f.even), found_index _ f)
 
 pub returns-then-not-room : goal.returns-then-not-room
-returns-then-not-room c = short_list _ _ _ _ _ (leb-false _ _ (sym c.room.ensures ∙ c.if-not-room.true))
+returns-then-not-room c = rw c.into.ensures (short_list _ _ _ _ _ (leb-false _ _ (sym c.room.ensures ∙ c.if-not-room.true)))
 
 pub write_records-requires : goal.write_records-requires
 write_records-requires c =
-    let f = c.requires.found in
-    let w = leb-true _ _ (sym c.room.ensures ∙ c.if-not-room.false) in
-    record {
-      field = c.requires.field;
-      listable = record { admitted = f.admitted; even = f.even; index_fits = found_index f; regulator_is = found_degree f; words_fit_lem = w };
-      held_at = c.requires.held;
-      prepared = c.requires.prepared;
-    }
+    let f = c.requires in
+    record { even = f.even; index_fits = found_index _ f; regulator_is = found_degree _ f; words_fit = leb-true _ _ (sym c.room.ensures ∙ c.if-not-room.false) }
 
 pub returns : goal.returns
 returns c =

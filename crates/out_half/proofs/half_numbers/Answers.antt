@@ -1,4 +1,4 @@
--- `half_numbers` meets its contract: each case of the outcome has its number and its values.
+-- Each case of the outcome has its number and its values.
 use Rattle.std.proofs.Common.{refl, sym, ap}
 use Rattle.spec_half.specs.Half.{half_said}
 use Rattle.walk_half.specs.Outcome.{half_meaning}

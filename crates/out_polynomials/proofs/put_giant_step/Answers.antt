@@ -1,7 +1,9 @@
--- `put_giant_step` meets its contract: each polynomial is in its array, with its size.
-use Rattle.std.proofs.Common.{rules}
-use Rattle.out_polynomials.specs.Lent.{giant_step_same}
+-- Zeros are put in each array where there is a refusal.
+use Rattle.std.proofs.Common.{refl}
+use Rattle.out_polynomials.specs.Lent.{zero_put, refused}
 use Rattle.out_polynomials.proofs.put_giant_step.Goals as goal
 
-pub returns : goal.returns
-returns c = giant_step_same c.put.ensures c.put-2.ensures (search rules) (search rules)
+pub returns-in-Err-clause-zeros : goal.returns-in-Err-clause-zeros
+returns-in-Err-clause-zeros c =
+    let z = c.zero-zero.ensures in
+    refused c.in-Err.is (zero_put c.put-in-Err.ensures z, zero_put c.put-in-Err-2.ensures z, refl, refl)

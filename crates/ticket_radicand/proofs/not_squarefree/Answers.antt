@@ -7,29 +7,19 @@ use Rattle.ticket_radicand.specs.Squarefree.{held_derivative, not_squarefree_tes
 use Rattle.ticket_radicand.proofs.not_squarefree.Goals as goal
 
 pub derivative_places-requires : goal.derivative_places-requires
-derivative_places-requires c =
-    record {
-      field = (c.requires.field, c.requires.held.short);
-      within = held_within _ _ _ _ c.requires.held (omega arith);
-    }
+derivative_places-requires c = record { n_bound = c.requires.short; within = held_within _ _ _ _ c.requires (omega arith) }
 
-pub top-m-requires : goal.top-m-requires
-top-m-requires c =
-    let h = c.requires.held in
+pub top-requires : goal.top-requires
+top-requires c =
+    let h = c.requires in
     let pos : 0 < c.args.f.q = held_positive _ _ _ h in
     record {
       from_bound = h.short;
-      by_index = λ i l. c.derivative_places.ensures.at i ∙ scale_zero c.args.f.q pos (i + 1) ((held_within _ _ _ c.args.radicand.size h (omega arith)).past (i + 1) (omega arith));
+      by_index = λ i l. c.derivative_places.ensures.at i ∙ scale_zero c.args.f.q pos (i + 1) ((held_within _ _ _ c.args.radicand.now.size h (omega arith)).past (i + 1) (omega arith));
     }
 
-pub gcd-size-requires : goal.gcd-size-requires
-gcd-size-requires c =
-    record {
-      field = c.requires.field;
-      held = c.requires.held;
-      held_2 = held_derivative c.requires.held (is_derivative _ _ _ c.requires.held _ _ c.top-m.ensures c.derivative_places.ensures);
-    }
+pub gcd-requires : goal.gcd-requires
+gcd-requires c = (c.requires, held_derivative c.requires (is_derivative _ _ _ c.requires _ _ c.top.ensures c.derivative_places.ensures))
 
 pub returns : goal.returns
-returns c =
-    not_squarefree_test c.requires.held (is_derivative _ _ _ c.requires.held _ _ c.top-m.ensures c.derivative_places.ensures) c.requires.field.0 c.gcd-size.ensures
+returns c = not_squarefree_test c.requires (is_derivative _ _ _ c.requires _ _ c.top.ensures c.derivative_places.ensures) c.args.f.is_field.0 c.gcd.ensures

@@ -1,21 +1,15 @@
-use Rattle.std.proofs.Common.{arith, ◌≡◌, sym, length, rules, below_more}
+use Rattle.std.proofs.Common.{◌≤◌, ◌<◌, ◌≡◌, length, rules, tests, arith}
+use Rattle.std.proofs.lemmas.Iterator.{cases_from_any, YieldsList-from_slice}
 use Rattle.spec_definitions.specs.Ticket.{wrong_coefficient}
-use Rattle.spec_laws.specs.Coefficients.{take_none, take_at}
+use Rattle.base_field.specs.Named.{name}
+use Rattle.ticket_radicand.specs.Radicand.{any_coefficient}
 use Rattle.ticket_radicand.proofs.wrong_coefficient.Goals as goal
-
-pub returns-then-f-c : goal.returns-then-f-c
-unfolding wrong_coefficient
-returns-then-f-c c =
-    let radicand = c.args.radicand in
-    let long : length radicand.c ≡ 129 = search rules in
-    sym (take_at _ radicand.c radicand.size (omega arith) (omega arith) c.loop-i.i (omega arith) (λ h. let w = c.if-f-c.true in omega arith))
-
-pub loop-i-preserved : goal.loop-i-preserved
-loop-i-preserved c = (search rules, below_more _ _ c.loop-i.invariant.1 c.if-f-c.false)
 
 pub returns : goal.returns
 unfolding wrong_coefficient
 returns c =
-    let radicand = c.args.radicand in
+    let f = c.args.f in
+    let radicand = c.args.radicand.now in
     let long : length radicand.c ≡ 129 = search rules in
-    sym (take_none _ radicand.c radicand.size (omega arith) (λ i h. c.loop-i.invariant.1 i (omega arith)))
+    any_coefficient (name f) (omega arith) radicand.c radicand.size (omega arith) _
+    (cases_from_any _ _ _ (λ x. f.q ≤ x) (λ x. x < f.q) c.any.ensures.ran (YieldsList-from_slice _ cc) (λ x q k. search (rules, tests)) (λ x q k. search (rules, tests)))

@@ -6,5 +6,5 @@ use Rattle.ticket_radicand.proofs.wrong_lead.Goals as goal
 pub returns : goal.returns
 unfolding wrong_lead
 returns c =
-    let radicand = c.args.radicand in
+    let radicand = c.args.radicand.now in
     ap (λ k. not (eqb k 1)) (sym (get_or-take radicand.size radicand.c c.args.n 0 (omega arith)))

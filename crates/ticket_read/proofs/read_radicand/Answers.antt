@@ -1,29 +1,37 @@
--- The record of D has the words' coefficients, so that the tests on it are the definition's.
-use Rattle.std.proofs.Common.{ℕ, arith, ap, ap₂, List}
-use Rattle.spec_definitions.specs.Ticket.{ticket, first_of}
-use Rattle.base_field.specs.Named.{name}
-use Rattle.ticket_radicand.specs.Radicand.{radicand_size, radicand_poly, radicand_itself}
-use Rattle.spec_laws.specs.FirstTest.{radicand_tests}
-use Rattle.ticket_read.specs.Read.{stands_path}
+-- The values that are read are the ticket's parts.
+use Rattle.std.proofs.Common.{arith, rules, sym}
+use Rattle.ticket_read.specs.Accepted.{radicand_admitted, radicand_held, n_even, degree_two, budget_few, read_size, read_itself, read_refusal, are_read}
 use Rattle.ticket_read.proofs.read_radicand.Goals as goal
 
-pub admit-requires : goal.admit-requires
-admit-requires c =
-    let is = c.radicand_of-radicand.ensures (name c.args.f) in
-    let w : List ℕ = c.args.words.now in
+pub radicand_of-radicand-requires : goal.radicand_of-radicand-requires
+radicand_of-radicand-requires c = (c.requires.past.n_most, omega arith)
+
+pub radicand_refusal-requires : goal.radicand_refusal-requires
+radicand_refusal-requires c =
     record {
-      field = c.requires.0;
-      n_bound = (c.requires.1, radicand_size _ w c.requires.1 (omega arith) is);
-      is = radicand_itself _ w c.requires.1 (omega arith) is;
+      n_bound = (c.requires.past.n_most, read_size c.requires.past c.radicand_of-radicand.ensures);
+      is = read_itself c.requires.past c.radicand_of-radicand.ensures;
     }
+
+pub returns-in_err-radicand_refusal-clause-refused : goal.returns-in_err-radicand_refusal-clause-refused
+returns-in_err-radicand_refusal-clause-refused c =
+    let e = read_refusal c.requires.past c.radicand_of-radicand.ensures c.in_err-radicand_refusal.ensures in
+    search (rules, e)
+
+pub bounds-words-n : goal.bounds-words-n
+bounds-words-n c = omega arith
+
+pub invariant_of-result : goal.invariant_of-result
+invariant_of-result c =
+    let r = are_read c.requires.past c.radicand_of-radicand.ensures c.in_ok-radicand_refusal.ensures c.value.ensures in
+    record { admitted = radicand_admitted r; held = radicand_held r; degree_two = degree_two r }
+
+pub invariant_of-result-2 : goal.invariant_of-result-2
+invariant_of-result-2 c =
+    let r = are_read c.requires.past c.radicand_of-radicand.ensures c.in_ok-radicand_refusal.ensures c.value.ensures in
+    record { even = n_even r; few = budget_few r }
 
 pub returns : goal.returns
 returns c =
-    let f = name c.args.f in
-    let n = c.args.n in
-    let w : List ℕ = c.args.words.now in
-    let same = radicand_poly n w c.requires.1 (omega arith) (c.radicand_of-radicand.ensures f) in
-    stands_path
-    (ap (λ (D : List ℕ). first_of (radicand_tests f n D)) same)
-    (ap₂ (λ (D : List ℕ) (b : ℕ). ticket f n D b) same c.value-budget.ensures)
-    c.admit.ensures
+    let r = are_read c.requires.past c.radicand_of-radicand.ensures c.in_ok-radicand_refusal.ensures c.value.ensures in
+    record { refused = sym r.passes; read = r.ticket_is }

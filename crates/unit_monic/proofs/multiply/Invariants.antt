@@ -1,12 +1,12 @@
--- The places before k are those of u times the list, each by one reduction, and the others as they were.
-use Rattle.std.proofs.Common.{◌-◌, ◌≤◌}
-use Rattle.spec_arithmetic.specs.Field.{modulo}
+-- The places before that of v are u times what they were, and the others as they were.
+use Rattle.std.proofs.Common.{ℕ, ◌<◌, ◌≤◌, ◌≡◌, get_or}
 use Rattle.spec_arithmetic.specs.Polynomials.{scale}
-use Rattle.unit_combine.specs.Written.{Written}
+use Rattle.base_field.specs.Named.{ops}
 use Rattle.unit_monic.proofs.multiply.Given as goal
 
-abbrev pub invariant-loop-k : goal.invariant-loop-k
-invariant-loop-k l = (l.k ≤ l.count) × Written l.k (scale (modulo l.f.q) l.u l.initial.list) l.initial.list l.list
-
-abbrev pub decreases-loop-k : goal.decreases-loop-k
-decreases-loop-k l = l.count - l.k
+abbrev pub invariant-loop-v : goal.invariant-loop-v
+invariant-loop-v l =
+    record {
+      done : (i : ℕ) → i < l.v-index → get_or l.list i 0 ≡ get_or (scale (ops l.f) l.u l.initial.list) i 0;
+      rest : (i : ℕ) → l.v-index ≤ i → get_or l.list i 0 ≡ get_or l.initial.list i 0;
+    }

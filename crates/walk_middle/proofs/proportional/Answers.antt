@@ -1,37 +1,12 @@
-use Rattle.std.proofs.Common.{◌-◌, arith, refl, sym, ◌∙◌, get_or, rules, below_more}
+use Rattle.std.proofs.Common.{◌-◌, arith, refl, sym, ◌∙◌, get_or, below_more}
 use mathlib.Core.Bool.{false≢true}
 use Rattle.walk_middle.specs.Compared.{difference_zero, product_small, proportional_places}
 use Rattle.walk_middle.proofs.proportional.Goals as goal
 
-pub overflow_mul-x : goal.overflow_mul-x
-overflow_mul-x c =
-    let i = c.loop-i.i in
-    let h = c.requires.field.2 in
-    let x = c.requires.within.0.reduced in
-    let y = c.requires.within.1.reduced in
-    let u = x i in
-    let v = y (c.args.size - 1) in
-    let m = product_small {x = get_or c.args.x.now i 0} {y = get_or c.args.y.now (c.args.size - 1) 0} (omega arith) (omega arith) in
-    omega arith
-
-pub overflow_sub-q : goal.overflow_sub-q
-overflow_sub-q c =
-    let v = c.requires.within.1.reduced c.loop-i.i in
-    omega arith
-
-pub overflow_mul-q : goal.overflow_mul-q
-overflow_mul-q c =
-    let i = c.loop-i.i in
-    let h = c.requires.field.2 in
-    let x = c.requires.within.0.reduced in
-    let u = x (c.args.size - 1) in
-    let m = product_small {x = c.args.f.q - get_or c.args.y.now i 0} {y = get_or c.args.x.now (c.args.size - 1) 0} (omega arith) (omega arith) in
-    omega arith
-
 pub overflow_add-x : goal.overflow_add-x
 overflow_add-x c =
     let i = c.loop-i.i in
-    let h = c.requires.field.2 in
+    let h = c.args.f.is_field.2 in
     let x = c.requires.within.0.reduced in
     let y = c.requires.within.1.reduced in
     let u = x i in
@@ -52,9 +27,9 @@ loop-i-preserved c =
     let l = c.loop-i in
     let y = c.requires.within.1.reduced l.i in
     let e = sym c.reduce.ensures ∙ c.if-reduce-ne0.false in
-    (search rules, below_more _ _ l.invariant.1 ((difference_zero c.args.f.q _ (get_or c.args.y.now l.i 0) _ (omega arith)).0 e))
+    below_more _ _ l.invariant ((difference_zero c.args.f.q _ (get_or c.args.y.now l.i 0) _ (omega arith)).0 e)
 
 pub returns : goal.returns
 returns c =
     let l = c.loop-i in
-    (λ _. proportional_places c.args.f.q c.args.x.now c.args.y.now c.args.size c.requires.within.0.past c.requires.within.1.past (λ k h. l.invariant.1 k (omega arith)), λ _. refl)
+    (λ _. proportional_places c.args.f.q c.args.x.now c.args.y.now c.args.size c.requires.within.0.past c.requires.within.1.past (λ k h. l.invariant k (omega arith)), λ _. refl)

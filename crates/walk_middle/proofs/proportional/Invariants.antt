@@ -1,9 +1,6 @@
 -- The products agree at every place before i; at the last place both are that of the leading coefficients.
-use Rattle.std.proofs.Common.{ℕ, ◌-◌, ◌*◌, ◌%◌, ◌<◌, ◌≤◌, ◌≡◌, get_or}
+use Rattle.std.proofs.Common.{ℕ, ◌*◌, ◌%◌, ◌<◌, ◌≡◌, get_or}
 use Rattle.walk_middle.proofs.proportional.Given as goal
 
 abbrev pub invariant-loop-i : goal.invariant-loop-i
-invariant-loop-i l = (l.i ≤ l.size - 1) × ((k : ℕ) → k < l.i → get_or l.x k 0 * l.b % l.f.q ≡ get_or l.y k 0 * l.a % l.f.q)
-
-abbrev pub decreases-loop-i : goal.decreases-loop-i
-decreases-loop-i l = l.size - 1 - l.i
+invariant-loop-i l = (k : ℕ) → k < l.i → get_or l.x k 0 * l.b % l.f.q ≡ get_or l.y k 0 * l.a % l.f.q

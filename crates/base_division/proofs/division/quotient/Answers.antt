@@ -1,36 +1,47 @@
--- The places are those of the quotient, which is trimmed; its size is found from the top.
-use Rattle.std.proofs.Common.{arith, ◌∙◌}
-use Rattle.spec_bridge.specs.Division.{trim_quo}
-use Rattle.spec_bridge.specs.Residues.{model}
-use Rattle.base_places.specs.Places.{length_zeros, at_zeros}
-use Rattle.base_polynomial.specs.Held.{held_positive}
-use Rattle.base_polynomial.specs.Linear.{is_result}
-use Rattle.base_division.specs.Divided.{quo_past}
+use Rattle.std.proofs.Common.{sym, ap₂, ◌∙◌, subst, ℕ, ◌≤◌, ◌<◌, ◌+◌, ◌-◌, ◌*◌, mod-lt, mul-le-mul, arith}
+use Rattle.spec_bridge.specs.Residues.{inverse_lt}
+use Rattle.base_places.specs.Down.{down_more}
+use Rattle.base_field.specs.Named.{name, ops}
+use Rattle.base_division.specs.Difference.{held_fits}
+use Rattle.base_division.specs.Divided.{quo_next, quo_none_found, quo_within, is_quotient}
 use Rattle.base_division.proofs.division.quotient.Goals as goal
 
-pub inverse-lead_inverse-requires : goal.inverse-lead_inverse-requires
-inverse-lead_inverse-requires c =
-    (c.requires.field.0, c.requires.held_2.reduced _)
+pub loop-k-init : goal.loop-k-init
+loop-k-init c = record {
+  size = c.saturating_sub-z.ensures;
+  found = quo_none_found _ c.requires.0 c.requires.1 (c.zero.ensures (name c.args.f)) _ c.saturating_sub-z.ensures;
+}
 
-pub quotient_places-requires : goal.quotient_places-requires
-quotient_places-requires c =
-    record {
-      field = (c.requires.field.0, c.requires.field.1, c.excess-l.ensures, c.inverse-lead_inverse.ensures);
-      held = c.requires.held;
-      held_2 = c.requires.held_2;
-      z_len = (length_zeros, λ i h. at_zeros i);
-    }
+pub rest_at-rest-requires-clause-fits : goal.rest_at-rest-requires-clause-fits
+rest_at-rest-requires-clause-fits c =
+    let l = c.loop-k in
+    let a = c.requires.0 in
+    let short = a.short in
+    ((quo_within _ a c.requires.1 l.invariant.size l.k (omega arith) l.invariant.found, omega arith), held_fits c.requires.1)
 
-pub top-requires : goal.top-requires
-top-requires c =
-    let h = c.requires.held.short in
-    let e = c.excess-l.ensures in
+pub overflow_mul-rest : goal.overflow_mul-rest
+overflow_mul-rest c =
+    let q = c.args.f.q in
+    let pos : 0 < q = omega arith in
+    let rest : c.rest_at-rest.result < q = subst (λ (x : ℕ). x < q) (sym c.rest_at-rest.ensures) (mod-lt _ pos) in
+    let inverse : c.inverse-lead_inverse.result < q = subst (λ (x : ℕ). x < q) (sym c.inverse-lead_inverse.ensures) (inverse_lt q pos _) in
+    let small : c.rest_at-rest.result * c.inverse-lead_inverse.result ≤ 4095 * 4095 = mul-le-mul {n₂ = 4095} {m₂ = 4095} (omega arith) (omega arith) in
+    omega arith
+
+pub loop-k-preserved : goal.loop-k-preserved
+loop-k-preserved c =
+    let l = c.loop-k in
+    let f = c.args.f in
+    let a = c.requires.0 in
+    let k = l.k - 1 in
+    let short = a.short in
+    let next = quo_next f.q a c.requires.1 f.is_field.0 c.requires.2 l.z.c k (k + c.args.b.now.size - 1) l.k (omega arith) (omega arith) l.invariant.found in
     record {
-      from_bound = omega arith;
-      by_index = λ i l. c.quotient_places.ensures.at i ∙ quo_past _ c.requires.held c.requires.held_2 i (omega arith);
+      size = l.invariant.size;
+      found = down_more _ l.z.c l.k k _ l.invariant.found (omega arith) (omega arith) (c.reduce.ensures ∙ ap₂ (ops f).mul c.rest_at-rest.ensures c.inverse-lead_inverse.ensures ∙ next);
     }
 
 pub returns : goal.returns
 returns c =
-    let pos = held_positive _ _ _ c.requires.held in
-    is_result _ pos _ _ _ (trim_quo (model _ pos) _ _) c.quotient_places.ensures c.top.ensures
+    let l = c.loop-k in
+    is_quotient _ c.requires.0 c.requires.1 l.invariant.size c.args.f.is_field.0 c.requires.2 l.k (omega arith) l.invariant.found

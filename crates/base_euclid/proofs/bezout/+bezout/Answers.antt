@@ -1,141 +1,61 @@
-use Rattle.std.proofs.Common.{arith, rules, ◌<◌}
-use Rattle.base_places.specs.Places.{length_zeros, at_zeros}
-use Rattle.base_polynomial.specs.Linear.{held_within}
-use Rattle.base_places.specs.Held.{held_length}
+use Rattle.std.proofs.Common.{arith, ◌<◌}
 use Rattle.base_polynomial.specs.Result.{size_rem}
-use Rattle.base_division.specs.Divided.{quo_places, quo_within}
-use Rattle.base_euclid.specs.Turn.{last_gcd, last_u, last_v, one_gcd, one_u, one_v, turn_held, turn_gcd, turn_u, turn_v_held, turn_u_held, turn_fits, turn_v}
+use Rattle.base_division.specs.Difference.{held_fits}
+use Rattle.base_euclid.specs.Turn.{last_gcd, last_u, last_v, one_gcd, one_u, one_v, turn_held, turn_gcd, turn_u, turn_v_held, turn_u_held, turn_w_held, turn_fits, turn_v}
 use Rattle.base_euclid.proofs.bezout.+bezout.Goals as goal
 
-pub divide_cleared-r-requires-clause-z_len : goal.divide_cleared-r-requires-clause-z_len
-divide_cleared-r-requires-clause-z_len t c = (length_zeros, λ i h. at_zeros i)
-
-pub bezout-s-requires : goal.bezout-s-requires
-bezout-s-requires t c =
-    let p = c.requires.field.0 in
-    let a = c.requires.held in
-    let b = c.requires.held_2 in
-    let r = c.divide_cleared-r.ensures.is in
+pub bezout-requires : goal.bezout-requires
+bezout-requires t c =
+    let p = c.args.f.is_field.0 in
+    let a = c.requires.0 in
+    let b = c.requires.1 in
+    let r = c.divide.ensures.remainder in
     let less = size_rem _ _ _ a _ _ b _ _ p (omega arith) r in
-    (omega arith, (c.requires.field, (b, turn_held _ p a b (omega arith) r)))
+    (omega arith, (b, turn_held _ p a b (omega arith) r))
 
-pub subtract_product-size-requires-clause-field : goal.subtract_product-size-requires-clause-field
-subtract_product-size-requires-clause-field t c =
-    let p = c.requires.field.0 in
-    let a = c.requires.held in
-    let b = c.requires.held_2 in
-    let l = c.excess-l.ensures in
-    let some : 0 < c.args.n = omega (arith, c.if-n-eq0.false) in
-    let v = turn_v_held _ p a b some c.divide_cleared-r.ensures.is c.bezout-s.ensures.is_2 c.bezout-s.ensures.is_3 in
-    let u = turn_u_held _ p a b some c.divide_cleared-r.ensures.is c.bezout-s.ensures.is_2 c.bezout-s.ensures.is_3 in
-    let fits = turn_fits _ p a b some c.divide_cleared-r.ensures.is c.bezout-s.ensures.is_2 c.bezout-s.ensures.is_3 _ l in
-    let m = a.short in
-    (c.requires.field, v.short, omega arith, u.short, fits, held_length _ _ _ v)
+pub subtract_product-requires-clause-places : goal.subtract_product-requires-clause-places
+subtract_product-requires-clause-places t c =
+    let some : 0 < c.args.b.now.size = omega (arith, c.if-b-eq0.false) in
+    turn_fits _ c.args.f.is_field.0 c.requires.0 c.requires.1 some c.divide.ensures.remainder c.bezout.ensures.first c.bezout.ensures.second c.divide.ensures.quotient
 
-pub subtract_product-size-requires-clause-within : goal.subtract_product-size-requires-clause-within
-subtract_product-size-requires-clause-within t c =
-    let p = c.requires.field.0 in
-    let a = c.requires.held in
-    let b = c.requires.held_2 in
-    let l = c.excess-l.ensures in
-    let some : 0 < c.args.n = omega (arith, c.if-n-eq0.false) in
-    let v = turn_v_held _ p a b some c.divide_cleared-r.ensures.is c.bezout-s.ensures.is_2 c.bezout-s.ensures.is_3 in
-    let u = turn_u_held _ p a b some c.divide_cleared-r.ensures.is c.bezout-s.ensures.is_2 c.bezout-s.ensures.is_3 in
-    let fits = turn_fits _ p a b some c.divide_cleared-r.ensures.is c.bezout-s.ensures.is_2 c.bezout-s.ensures.is_3 _ l in
-    let m = a.short in
-    held_within _ _ _ _ v (omega arith)
+pub subtract_product-requires-clause-fits : goal.subtract_product-requires-clause-fits
+subtract_product-requires-clause-fits t c =
+    let p = c.args.f.is_field.0 in
+    let a = c.requires.0 in
+    let b = c.requires.1 in
+    let r = c.divide.ensures.remainder in
+    let u = c.bezout.ensures.first in
+    let v = c.bezout.ensures.second in
+    let some : 0 < c.args.b.now.size = omega (arith, c.if-b-eq0.false) in
+    (held_fits (turn_v_held _ p a b some r u v), held_fits (turn_w_held _ p a b some r u v c.divide.ensures.quotient), held_fits (turn_u_held _ p a b some r u v))
 
-pub subtract_product-size-requires-clause-within_2 : goal.subtract_product-size-requires-clause-within_2
-subtract_product-size-requires-clause-within_2 t c =
-    let p = c.requires.field.0 in
-    let a = c.requires.held in
-    let b = c.requires.held_2 in
-    let l = c.excess-l.ensures in
-    let some : 0 < c.args.n = omega (arith, c.if-n-eq0.false) in
-    let v = turn_v_held _ p a b some c.divide_cleared-r.ensures.is c.bezout-s.ensures.is_2 c.bezout-s.ensures.is_3 in
-    let u = turn_u_held _ p a b some c.divide_cleared-r.ensures.is c.bezout-s.ensures.is_2 c.bezout-s.ensures.is_3 in
-    let fits = turn_fits _ p a b some c.divide_cleared-r.ensures.is c.bezout-s.ensures.is_2 c.bezout-s.ensures.is_3 _ l in
-    let m = a.short in
-    quo_within _ a b _ (quo_places _ a b _ some c.divide_cleared-r.ensures.z_after) _ l
+pub returns-then-b-eq0-clause-gcd : goal.returns-then-b-eq0-clause-gcd
+returns-then-b-eq0-clause-gcd t c = last_gcd _ c.args.f.is_field.0 c.requires.0 c.requires.1 c.if-b-eq0.true _ _ c.bezout_zero.ensures.gcd
 
-pub subtract_product-size-requires-clause-within_3 : goal.subtract_product-size-requires-clause-within_3
-subtract_product-size-requires-clause-within_3 t c =
-    let p = c.requires.field.0 in
-    let a = c.requires.held in
-    let b = c.requires.held_2 in
-    let l = c.excess-l.ensures in
-    let some : 0 < c.args.n = omega (arith, c.if-n-eq0.false) in
-    let v = turn_v_held _ p a b some c.divide_cleared-r.ensures.is c.bezout-s.ensures.is_2 c.bezout-s.ensures.is_3 in
-    let u = turn_u_held _ p a b some c.divide_cleared-r.ensures.is c.bezout-s.ensures.is_2 c.bezout-s.ensures.is_3 in
-    let fits = turn_fits _ p a b some c.divide_cleared-r.ensures.is c.bezout-s.ensures.is_2 c.bezout-s.ensures.is_3 _ l in
-    let m = a.short in
-    held_within _ _ _ _ u (omega arith)
+pub returns-then-b-eq0-clause-first : goal.returns-then-b-eq0-clause-first
+returns-then-b-eq0-clause-first t c = last_u _ c.args.f.is_field.0 c.requires.0 c.requires.1 c.if-b-eq0.true _ _ c.bezout_zero.ensures.first
 
-pub returns-then-n-eq0-clause-is : goal.returns-then-n-eq0-clause-is
-returns-then-n-eq0-clause-is t c =
-    let p = c.requires.field.0 in
-    let a = c.requires.held in
-    let b = c.requires.held_2 in
-    last_gcd _ p a b (search rules) _ _ c.bezout_zero.ensures.is
+pub returns-then-b-eq0-clause-second : goal.returns-then-b-eq0-clause-second
+returns-then-b-eq0-clause-second t c = last_v _ c.args.f.is_field.0 c.requires.0 c.requires.1 c.if-b-eq0.true _ _ c.bezout_zero.ensures.second
 
-pub returns-then-n-eq0-clause-is_2 : goal.returns-then-n-eq0-clause-is_2
-returns-then-n-eq0-clause-is_2 t c =
-    let p = c.requires.field.0 in
-    let a = c.requires.held in
-    let b = c.requires.held_2 in
-    last_u _ p a b (search rules) _ _ c.bezout_zero.ensures.is_2
+pub returns-then-b-eq1-clause-gcd : goal.returns-then-b-eq1-clause-gcd
+returns-then-b-eq1-clause-gcd t c = one_gcd _ c.args.f.is_field.0 c.requires.0 c.requires.1 c.if-b-eq1.true _ _ c.bezout_zero-then-b-eq1.ensures.gcd
 
-pub returns-then-n-eq0-clause-is_3 : goal.returns-then-n-eq0-clause-is_3
-returns-then-n-eq0-clause-is_3 t c =
-    let p = c.requires.field.0 in
-    let a = c.requires.held in
-    let b = c.requires.held_2 in
-    last_v _ p a b (search rules) _ _ c.bezout_zero.ensures.is_3
+pub returns-then-b-eq1-clause-first : goal.returns-then-b-eq1-clause-first
+returns-then-b-eq1-clause-first t c = one_u _ c.args.f.is_field.0 c.requires.0 c.requires.1 c.if-b-eq1.true _ _ c.bezout_zero-then-b-eq1.ensures.second
 
-pub returns-then-n-eq1-clause-is : goal.returns-then-n-eq1-clause-is
-returns-then-n-eq1-clause-is t c =
-    let p = c.requires.field.0 in
-    let a = c.requires.held in
-    let b = c.requires.held_2 in
-    one_gcd _ p a b (search rules) _ _ c.bezout_zero-s.ensures.is
+pub returns-then-b-eq1-clause-second : goal.returns-then-b-eq1-clause-second
+returns-then-b-eq1-clause-second t c = one_v _ c.args.f.is_field.0 c.requires.0 c.requires.1 c.if-b-eq1.true _ _ c.bezout_zero-then-b-eq1.ensures.first
 
-pub returns-then-n-eq1-clause-is_2 : goal.returns-then-n-eq1-clause-is_2
-returns-then-n-eq1-clause-is_2 t c =
-    let p = c.requires.field.0 in
-    let a = c.requires.held in
-    let b = c.requires.held_2 in
-    one_u _ p a b (search rules) _ _ c.bezout_zero-s.ensures.is_3
+pub returns-else-b-eq1-clause-gcd : goal.returns-else-b-eq1-clause-gcd
+returns-else-b-eq1-clause-gcd t c =
+    turn_gcd _ c.args.f.is_field.0 c.requires.0 c.requires.1 (omega (arith, c.if-b-eq0.false)) c.divide.ensures.remainder _ _ c.bezout.ensures.gcd
 
-pub returns-then-n-eq1-clause-is_3 : goal.returns-then-n-eq1-clause-is_3
-returns-then-n-eq1-clause-is_3 t c =
-    let p = c.requires.field.0 in
-    let a = c.requires.held in
-    let b = c.requires.held_2 in
-    one_v _ p a b (search rules) _ _ c.bezout_zero-s.ensures.is_2
+pub returns-else-b-eq1-clause-first : goal.returns-else-b-eq1-clause-first
+returns-else-b-eq1-clause-first t c =
+    turn_u _ c.args.f.is_field.0 c.requires.0 c.requires.1 (omega (arith, c.if-b-eq0.false)) c.divide.ensures.remainder _ _ c.bezout.ensures.second
 
-pub returns-else-n-eq1-clause-is : goal.returns-else-n-eq1-clause-is
-returns-else-n-eq1-clause-is t c =
-    let p = c.requires.field.0 in
-    let a = c.requires.held in
-    let b = c.requires.held_2 in
-    let l = c.excess-l.ensures in
-    let some : 0 < c.args.n = omega (arith, c.if-n-eq0.false) in
-    turn_gcd _ p a b some c.divide_cleared-r.ensures.is _ _ c.bezout-s.ensures.is
-
-pub returns-else-n-eq1-clause-is_2 : goal.returns-else-n-eq1-clause-is_2
-returns-else-n-eq1-clause-is_2 t c =
-    let p = c.requires.field.0 in
-    let a = c.requires.held in
-    let b = c.requires.held_2 in
-    let l = c.excess-l.ensures in
-    let some : 0 < c.args.n = omega (arith, c.if-n-eq0.false) in
-    turn_u _ p a b some c.divide_cleared-r.ensures.is _ _ c.bezout-s.ensures.is_3
-
-pub returns-else-n-eq1-clause-is_3 : goal.returns-else-n-eq1-clause-is_3
-returns-else-n-eq1-clause-is_3 t c =
-    let p = c.requires.field.0 in
-    let a = c.requires.held in
-    let b = c.requires.held_2 in
-    let l = c.excess-l.ensures in
-    let some : 0 < c.args.n = omega (arith, c.if-n-eq0.false) in
-    turn_v _ p a b some c.divide_cleared-r.ensures.is c.bezout-s.ensures.is_2 c.bezout-s.ensures.is_3 _ _ c.divide_cleared-r.ensures.z_after l _ _ c.subtract_product-size.ensures
+pub returns-else-b-eq1-clause-second : goal.returns-else-b-eq1-clause-second
+returns-else-b-eq1-clause-second t c =
+    let some : 0 < c.args.b.now.size = omega (arith, c.if-b-eq0.false) in
+    turn_v _ c.args.f.is_field.0 c.requires.0 c.requires.1 some c.divide.ensures.remainder c.bezout.ensures.first c.bezout.ensures.second c.divide.ensures.quotient _ _ c.subtract_product.ensures

@@ -3,4 +3,4 @@
 use Rattle.base_euclid.proofs.bezout.+bezout.Given as goal
 
 abbrev pub decreases-bezout : goal.decreases-bezout
-decreases-bezout l = l.n
+decreases-bezout l = l.b.now.size

@@ -3,4 +3,4 @@
 use Rattle.base_euclid.proofs.gcd.+gcd.Given as goal
 
 abbrev pub decreases-gcd : goal.decreases-gcd
-decreases-gcd l = l.n
+decreases-gcd l = l.b.now.size

@@ -1,9 +1,6 @@
--- All places from n on are 0, and n falls until the place before it is not 0.
+-- All places from n on are 0.
 use Rattle.std.proofs.Common.{ℕ, ◌≤◌, ◌≡◌, get_or}
 use Rattle.base_places.proofs.linear.top.Given as goal
 
 abbrev pub invariant-loop-n : goal.invariant-loop-n
-invariant-loop-n l = (l.n ≤ 129) × ((i : ℕ) → l.n ≤ i → get_or l.c i 0 ≡ 0)
-
-abbrev pub decreases-loop-n : goal.decreases-loop-n
-decreases-loop-n l = l.n
+invariant-loop-n l = (i : ℕ) → l.n ≤ i → get_or l.c i 0 ≡ 0

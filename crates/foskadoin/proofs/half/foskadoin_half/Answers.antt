@@ -8,7 +8,7 @@ use Rattle.foskadoin.proofs.half.foskadoin_half.Goals as goal
 pub returns : goal.returns
 returns c =
     record {
-      words = c.half_numbers.ensures.words ∙ c.half-a.ensures.words;
-      says = plain_same c.half-a.ensures.says c.half_numbers.ensures.says;
-      least = least_half_plain _ _ (t1_half_numbers _ _ (sym c.half-a.ensures.says)) c.half_numbers.ensures.says c.half-a.ensures.least;
+      words = c.half_numbers.ensures.words ∙ c.half.ensures.words;
+      says = plain_same c.half.ensures.says c.half_numbers.ensures.says;
+      least = least_half_plain _ _ (t1_half_numbers _ _ (sym c.half.ensures.says)) c.half_numbers.ensures.says c.half.ensures.least;
     }

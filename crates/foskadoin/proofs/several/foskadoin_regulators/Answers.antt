@@ -7,12 +7,12 @@ use Rattle.foskadoin.proofs.several.foskadoin_regulators.Goals as goal
 
 pub put_outcomes-requires : goal.put_outcomes-requires
 put_outcomes-requires c =
-    let a = c.regulators-a in
+    let a = c.regulators in
     said_sixteen _ (outcomes a.result) a.ensures.says
 
 pub returns : goal.returns
 returns c =
-    let a = c.regulators-a in
+    let a = c.regulators in
     let l = outcomes a.result in
     let out = c.put_outcomes.new.out in
     let count = c.put_outcomes.ensures.words_value.1 ∙ a.ensures.count in

@@ -9,5 +9,5 @@ returns-then-i-n c = sym (later_coefficient _ _ c.if-i-n.true)
 pub returns-then-i-n-2 : goal.returns-then-i-n-2
 returns-then-i-n-2 c = sym (later_budget _ _ (omega arith))
 
-pub returns : goal.returns
-returns c = sym (later_end _ _ (omega arith))
+pub returns-else-i-n-2 : goal.returns-else-i-n-2
+returns-else-i-n-2 c = sym (later_end _ _ (omega arith))

@@ -16,5 +16,5 @@ returns-then-i-n-2 c = sym (kinds_budget _ _ _ c.if-i-n-2.true)
 pub returns-then-i-length : goal.returns-then-i-length
 returns-then-i-length c = sym (kinds_prime _ _ _ (omega arith) (omega arith))
 
-pub returns : goal.returns
-returns c = sym (kinds_end _ _ _ (omega arith))
+pub returns-else-i-length : goal.returns-else-i-length
+returns-else-i-length c = sym (kinds_end _ _ _ (omega arith))

@@ -1,50 +1,68 @@
--- Each pair by itself, with the same quotient.
-use Rattle.std.proofs.Common.{◌<◌, arith}
-use Rattle.walk_step.specs.Sizes.{quo_within}
-use Rattle.unit_combine.specs.Pair.{folded_cong}
+-- The pairs as the two folds leave their first places, with the quotient of the step.
+use Rattle.std.proofs.Common.{arith, sym, ◌∙◌}
+use Rattle.std.proofs.lemmas.List.{length-take-le}
+use Rattle.walk_step.specs.Step.{division}
+use Rattle.walk_stride.specs.Walked.{size_some, size_most, going}
+use Rattle.unit_recurrence.specs.Pairs.{first_bounded, quotient_fits, next_room, pairs_next}
 use Rattle.unit_recurrence.proofs.steps.advance.Goals as goal
 
-pub partial-requires : goal.partial-requires
-partial-requires c = record {
-  field = c.requires.field;
-  size_nonzero = (c.requires.size_nonzero.0, c.requires.size_nonzero.1, omega arith);
-  inverses = c.requires.inverses;
-  division = c.requires.division;
-}
-
-pub fold-requires : goal.fold-requires
-fold-requires c =
-    let v = c.requires.division in
-    let pos : 0 < c.args.f.q = (let h = c.requires.field.1 in omega arith) in
-    let room = c.requires.room in
-    let low = c.requires.reduced in
+pub partial-a-requires : goal.partial-a-requires
+partial-a-requires c =
+    let walk = c.requires.walked.1 in
     record {
-      field = c.requires.field;
-      l_bound = (omega arith, room.p_room, room.x_room);
-      within = quo_within c.requires.field.0 v c.partial.ensures;
-      below_to = (low.p_below, low.x_below);
+      size_nonzero = (size_some _ walk, size_most _ walk);
+      division = division (going _ walk (omega (arith, c.requires.index.0, c.requires.index.1))).ready;
     }
 
-pub fold-requires-2 : goal.fold-requires-2
-fold-requires-2 c =
-    let v = c.requires.division in
-    let pos : 0 < c.args.f.q = (let h = c.requires.field.1 in omega arith) in
-    let room = c.requires.room in
-    let low = c.requires.reduced in
-    record {
-      field = c.requires.field;
-      l_bound = (omega arith, room.s_room, room.y_room);
-      within = quo_within c.requires.field.0 v c.partial.ensures;
-      below_to = (low.s_below, low.y_below);
-    }
+pub overflow_add-end : goal.overflow_add-end
+overflow_add-end c =
+    let t = going _ c.requires.walked.1 (omega (arith, c.requires.index.0, c.requires.index.1)) in
+    let g = c.args.w.now.surd.admitted.genus_most in
+    omega (arith, t.degree_fits, c.partial-a.ensures.size)
+
+pub slice_bounds-fold-end : goal.slice_bounds-fold-end
+slice_bounds-fold-end c = (next_room _ c.requires.walked.1 _ c.partial-a.ensures.size c.args.m.0 c.requires.index.0 c.requires.pairs.long).p_room
+
+pub slice_bounds-fold-end-2 : goal.slice_bounds-fold-end-2
+slice_bounds-fold-end-2 c = sym (length-take-le _ _ (next_room _ c.requires.walked.1 _ c.partial-a.ensures.size c.args.m.0 c.requires.index.0 c.requires.pairs.long).p_room)
+
+pub slice_bounds-fold-end-3 : goal.slice_bounds-fold-end-3
+slice_bounds-fold-end-3 c = (next_room _ c.requires.walked.1 _ c.partial-a.ensures.size c.args.m.0 c.requires.index.0 c.requires.pairs.long).x_room
+
+pub slice_bounds-fold-end-4 : goal.slice_bounds-fold-end-4
+slice_bounds-fold-end-4 c = sym (length-take-le _ _ (next_room _ c.requires.walked.1 _ c.partial-a.ensures.size c.args.m.0 c.requires.index.0 c.requires.pairs.long).x_room)
+
+pub fold-requires-clause-fits : goal.fold-requires-clause-fits
+fold-requires-clause-fits c = quotient_fits _ c.requires.walked.1 _ c.partial-a.ensures.size c.args.m.0 c.requires.index.0 c.requires.index.1 _ c.partial-a.ensures.places
+
+pub fold-requires-clause-bounded : goal.fold-requires-clause-bounded
+fold-requires-clause-bounded c = (first_bounded _ _ c.requires.pairs _).0
+
+pub slice_bounds-fold-end-5 : goal.slice_bounds-fold-end-5
+slice_bounds-fold-end-5 c = (next_room _ c.requires.walked.1 _ c.partial-a.ensures.size c.args.m.0 c.requires.index.0 c.requires.pairs.long).s_room
+
+pub slice_bounds-fold-end-6 : goal.slice_bounds-fold-end-6
+slice_bounds-fold-end-6 c = sym (length-take-le _ _ (next_room _ c.requires.walked.1 _ c.partial-a.ensures.size c.args.m.0 c.requires.index.0 c.requires.pairs.long).s_room)
+
+pub slice_bounds-fold-end-7 : goal.slice_bounds-fold-end-7
+slice_bounds-fold-end-7 c = (next_room _ c.requires.walked.1 _ c.partial-a.ensures.size c.args.m.0 c.requires.index.0 c.requires.pairs.long).y_room
+
+pub slice_bounds-fold-end-8 : goal.slice_bounds-fold-end-8
+slice_bounds-fold-end-8 c = sym (length-take-le _ _ (next_room _ c.requires.walked.1 _ c.partial-a.ensures.size c.args.m.0 c.requires.index.0 c.requires.pairs.long).y_room)
+
+pub fold-requires-2-clause-fits : goal.fold-requires-2-clause-fits
+fold-requires-2-clause-fits c = quotient_fits _ c.requires.walked.1 _ c.partial-a.ensures.size c.args.m.0 c.requires.index.0 c.requires.index.1 _ c.partial-a.ensures.places
+
+pub fold-requires-2-clause-bounded : goal.fold-requires-2-clause-bounded
+fold-requires-2-clause-bounded c = (first_bounded _ _ c.requires.pairs _).1
 
 pub returns : goal.returns
 returns c =
-    let v = c.requires.division in
-    let pos : 0 < c.args.f.q = (let h = c.requires.field.1 in omega arith) in
-    let room = c.requires.room in
-    let low = c.requires.reduced in
-    record {
-      p_folded = folded_cong c.args.f.q pos _ _ _ _ _ _ _ _ c.partial.ensures.at c.fold.ensures;
-      s_folded = folded_cong c.args.f.q pos _ _ _ _ _ _ _ _ c.partial.ensures.at c.fold-2.ensures;
-    }
+    let room = next_room _ c.requires.walked.1 _ c.partial-a.ensures.size c.args.m.0 c.requires.index.0 c.requires.pairs.long in
+    pairs_next _ c.requires.walked.1 _ c.partial-a.ensures.size c.args.m.0 c.requires.index.0 c.requires.pairs c.partial-a.ensures.places.at c.fold.ensures c.fold-2.ensures
+    (record {
+      p_long = c.fold.auto.p ∙ length-take-le _ _ room.p_room;
+      s_long = c.fold-2.auto.p ∙ length-take-le _ _ room.s_room;
+      x_long = c.fold.auto.x ∙ length-take-le _ _ room.x_room;
+      y_long = c.fold-2.auto.x ∙ length-take-le _ _ room.y_room;
+    })

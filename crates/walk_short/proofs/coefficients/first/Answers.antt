@@ -1,13 +1,9 @@
 -- What stands at the top place over the leading coefficient of Q.
-use Rattle.std.proofs.Common.{ℕ, ◌%◌, arith, ap, ◌∙◌}
-use Rattle.walk_short.specs.Short.{inverse_less, first_at}
+use Rattle.std.proofs.Common.{ℕ, ◌%◌, ap, ◌∙◌}
+use Rattle.walk_short.specs.Start.{divided}
+use Rattle.walk_short.specs.Short.{first_at}
 use Rattle.walk_short.proofs.coefficients.first.Goals as goal
-
-pub dividend_at-requires : goal.dividend_at-requires
-dividend_at-requires c =
-    let d = c.requires.size_nonzero.3 in
-    (c.requires.field, inverse_less c.requires.field.0 d c.args.lead_inverse c.requires.lead_inverse_value, omega arith, d.twice_within.reduced, d.rest_within.reduced)
 
 pub returns : goal.returns
 returns c =
-    c.reduce.ensures ∙ ap (λ (t : ℕ). t % c.args.f.q) c.dividend_at.ensures.value ∙ first_at c.requires.field.0 c.requires.size_nonzero.3 c.args.lead_inverse c.requires.lead_inverse_value c.requires.size_nonzero.1
+    c.reduce.ensures ∙ ap (λ (t : ℕ). t % c.args.s.now.field.q) c.dividend_at.ensures.value ∙ first_at c.args.s.now.field.is_field.0 (divided c.args.s.now) c.args.s.now.lead_inverse c.args.s.now.inverse (c.args.s.now.sizes.1)

@@ -1,32 +1,26 @@
 -- What the top coefficient leaves at the place below, over the leading coefficient of Q.
 use Rattle.std.proofs.Common.{ℕ, ◌+◌, ◌-◌, ◌*◌, ◌%◌, ◌≤◌, ◌<◌, mod-lt, mul-le-mul, arith, ap, ◌∙◌}
 use Rattle.walk_short.specs.Sizes.{positive, quo_reduced}
-use Rattle.walk_short.specs.Short.{inverse_less, second_at}
+use Rattle.walk_short.specs.Start.{divided}
+use Rattle.walk_short.specs.Short.{second_at}
 use Rattle.walk_short.proofs.coefficients.second.Goals as goal
+use Rattle.walk_short.proofs.coefficients.second.Goals.{After-dividend_at-t}
 
-above_less : (c : goal.After-dividend_at-t) → c.args.a1 < c.args.f.q
-above_less c = rw c.requires.a1_value (quo_reduced c.requires.field.0 c.requires.size_nonzero.3 (c.args.top - c.args.size))
+above_less : (c : After-dividend_at-t) → c.args.a1 < c.args.s.now.field.q
+above_less c = rw c.requires.a1_value (quo_reduced c.args.s.now.field.is_field.0 (divided c.args.s.now) (c.args.s.now.top - c.args.s.now.size))
 
-small : (c : goal.After-dividend_at-t) → (c.args.f.q - c.args.a1) * c.args.h ≤ 4095 * 4095
+small : (c : After-dividend_at-t) → (c.args.s.now.field.q - c.args.a1) * c.args.h ≤ 4095 * 4095
 small c =
-    let h : c.args.h < c.args.f.q = rw c.requires.h_value (mod-lt _ (positive c.requires.field.0 c.requires.size_nonzero.3)) in
+    let h : c.args.h < c.args.s.now.field.q = rw c.requires.h_value (mod-lt _ (positive c.args.s.now.field.is_field.0 (divided c.args.s.now))) in
     mul-le-mul {n₂ = 4095} {m₂ = 4095} (omega arith) (omega arith)
 
-pub dividend_at-t-requires : goal.dividend_at-t-requires
-dividend_at-t-requires c =
-    let d = c.requires.size_nonzero.3 in
-    (c.requires.field, inverse_less c.requires.field.0 d c.args.lead_inverse c.requires.lead_inverse_value, omega arith, d.twice_within.reduced, d.rest_within.reduced)
-
 pub overflow_sub-q : goal.overflow_sub-q
-overflow_sub-q c = omega (arith, above_less c)
-
-pub overflow_mul-q : goal.overflow_mul-q
-overflow_mul-q c = omega (arith, small c)
+overflow_sub-q c = omega (arith, above_less (goal.at.overflow_sub-q c).After-dividend_at-t)
 
 pub overflow_add-t : goal.overflow_add-t
-overflow_add-t c = omega (arith, small c)
+overflow_add-t c = omega (arith, small (goal.at.overflow_add-t c).After-dividend_at-t)
 
 pub returns : goal.returns
 returns c =
-    c.reduce.ensures ∙ ap (λ (t : ℕ). (t + (c.args.f.q - c.args.a1) * c.args.h) % c.args.f.q) c.dividend_at-t.ensures.value
-    ∙ second_at c.requires.field.0 c.requires.size_nonzero.3 c.args.lead_inverse c.requires.lead_inverse_value c.args.a1 c.args.h c.requires.h_value c.requires.size_nonzero.1 c.requires.a1_value
+    c.reduce.ensures ∙ ap (λ (t : ℕ). (t + (c.args.s.now.field.q - c.args.a1) * c.args.h) % c.args.s.now.field.q) c.dividend_at-t.ensures.value
+    ∙ second_at c.args.s.now.field.is_field.0 (divided c.args.s.now) c.args.s.now.lead_inverse c.args.s.now.inverse c.args.a1 c.args.h c.requires.h_value c.requires.longer c.requires.a1_value

@@ -1,50 +1,41 @@
 -- What the two coefficients above leave at the next place, over the leading coefficient of Q.
 use Rattle.std.proofs.Common.{ℕ, ◌+◌, ◌-◌, ◌*◌, ◌%◌, ◌≤◌, ◌<◌, mod-lt, mul-le-mul, arith, ap, ◌∙◌}
 use Rattle.walk_short.specs.Sizes.{positive, quo_reduced}
-use Rattle.walk_short.specs.Short.{inverse_less, third_at}
+use Rattle.walk_short.specs.Start.{divided}
+use Rattle.walk_short.specs.Short.{third_at}
 use Rattle.walk_short.proofs.coefficients.third.Goals as goal
+use Rattle.walk_short.proofs.coefficients.third.Goals.{After-dividend_at-t}
 
-above_less : (c : goal.After-dividend_at-t) → (c.args.a1 < c.args.f.q) × (c.args.a2 < c.args.f.q)
+above_less : (c : After-dividend_at-t) → (c.args.a1 < c.args.s.now.field.q) × (c.args.a2 < c.args.s.now.field.q)
 above_less c =
-    let p = c.requires.field.0 in
-    let d = c.requires.size_nonzero.3 in
-    (rw c.requires.a1_value (quo_reduced p d (c.args.top - c.args.size - 1)), rw c.requires.a2_value (quo_reduced p d (c.args.top - c.args.size)))
+    let p = c.args.s.now.field.is_field.0 in
+    let d = (divided c.args.s.now) in
+    (rw c.requires.a1_value (quo_reduced p d (c.args.s.now.top - c.args.s.now.size - 1)), rw c.requires.a2_value (quo_reduced p d (c.args.s.now.top - c.args.s.now.size)))
 
-first : (c : goal.After-dividend_at-t) → (c.args.f.q - c.args.a1) * c.args.h ≤ 4095 * 4095
+first : (c : After-dividend_at-t) → (c.args.s.now.field.q - c.args.a1) * c.args.h ≤ 4095 * 4095
 first c =
-    let h : c.args.h < c.args.f.q = rw c.requires.h_value (mod-lt _ (positive c.requires.field.0 c.requires.size_nonzero.3)) in
+    let h : c.args.h < c.args.s.now.field.q = rw c.requires.h_value (mod-lt _ (positive c.args.s.now.field.is_field.0 (divided c.args.s.now))) in
     mul-le-mul {n₂ = 4095} {m₂ = 4095} (omega arith) (omega arith)
 
-second : (c : goal.After-dividend_at-t) → (c.args.f.q - c.args.a2) * c.args.g ≤ 4095 * 4095
+second : (c : After-dividend_at-t) → (c.args.s.now.field.q - c.args.a2) * c.args.g ≤ 4095 * 4095
 second c =
-    let g : c.args.g < c.args.f.q = rw c.requires.g_value (mod-lt _ (positive c.requires.field.0 c.requires.size_nonzero.3)) in
+    let g : c.args.g < c.args.s.now.field.q = rw c.requires.g_value (mod-lt _ (positive c.args.s.now.field.is_field.0 (divided c.args.s.now))) in
     mul-le-mul {n₂ = 4095} {m₂ = 4095} (omega arith) (omega arith)
-
-pub dividend_at-t-requires : goal.dividend_at-t-requires
-dividend_at-t-requires c =
-    let d = c.requires.size_nonzero.3 in
-    (c.requires.field, inverse_less c.requires.field.0 d c.args.lead_inverse c.requires.lead_inverse_value, omega arith, d.twice_within.reduced, d.rest_within.reduced)
 
 pub overflow_sub-q : goal.overflow_sub-q
-overflow_sub-q c = omega (arith, (above_less c).0)
-
-pub overflow_mul-q : goal.overflow_mul-q
-overflow_mul-q c = omega (arith, first c)
+overflow_sub-q c = omega (arith, (above_less (goal.at.overflow_sub-q c).After-dividend_at-t).0)
 
 pub overflow_add-t : goal.overflow_add-t
-overflow_add-t c = omega (arith, first c)
+overflow_add-t c = omega (arith, first (goal.at.overflow_add-t c).After-dividend_at-t)
 
 pub overflow_sub-q-2 : goal.overflow_sub-q-2
-overflow_sub-q-2 c = omega (arith, (above_less c).1)
-
-pub overflow_mul-q-2 : goal.overflow_mul-q-2
-overflow_mul-q-2 c = omega (arith, second c)
+overflow_sub-q-2 c = omega (arith, (above_less (goal.at.overflow_sub-q-2 c).After-dividend_at-t).1)
 
 pub overflow_add-t-2 : goal.overflow_add-t-2
-overflow_add-t-2 c = omega (arith, first c, second c)
+overflow_add-t-2 c = omega (arith, first (goal.at.overflow_add-t-2 c).After-dividend_at-t, second (goal.at.overflow_add-t-2 c).After-dividend_at-t)
 
 pub returns : goal.returns
 returns c =
-    let q = c.args.f.q in
+    let q = c.args.s.now.field.q in
     c.reduce.ensures ∙ ap (λ (x : ℕ). (x + (q - c.args.a1) * c.args.h + (q - c.args.a2) * c.args.g) % q) c.dividend_at-t.ensures.value
-    ∙ third_at c.requires.field.0 c.requires.size_nonzero.3 c.args.lead_inverse c.requires.lead_inverse_value c.args.a1 c.args.h c.requires.h_value c.args.a2 c.args.g c.requires.g_value c.requires.size_nonzero.1 c.requires.a1_value c.requires.a2_value
+    ∙ third_at c.args.s.now.field.is_field.0 (divided c.args.s.now) c.args.s.now.lead_inverse c.args.s.now.inverse c.args.a1 c.args.h c.requires.h_value c.args.a2 c.args.g c.requires.g_value c.requires.longer c.requires.a1_value c.requires.a2_value

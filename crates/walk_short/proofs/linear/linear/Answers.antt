@@ -1,83 +1,21 @@
--- The two coefficients, then the two passes.
-use Rattle.std.proofs.Common.{ℕ, ◌+◌, ◌<◌, arith, ◌≡◌, ap, ◌∙◌, get_or}
-use Rattle.spec_arithmetic.specs.Field.{prime}
-use Rattle.walk_short.specs.Step.{step_quo, Linear, Division, division}
-use Rattle.walk_short.specs.Short.{inverse_less}
+-- The coefficients, each at its place, for the two passes.
+use Rattle.std.proofs.Common.{◌≡◌, ◌-◌, arith, sym}
+use Rattle.base_field.specs.Named.{name}
+use Rattle.walk_short.specs.Step.{Quadratic}
+use Rattle.walk_short.specs.Start.{divided}
+use Rattle.walk_short.specs.Sizes.{quo_past}
 use Rattle.walk_short.proofs.linear.linear.Goals as goal
+use Rattle.walk_short.proofs.linear.linear.Goals.{After-second}
 
--- the division that a step starts with
-divided : (c : goal.Start) → Division (prime c.args.f.q) (c.args.size + 1) c.args.size c.args.twice.now c.args.current.now c.args.rest.now
-divided c = division c.requires.size_nonzero.2
-
--- the division that a step starts with
-divided_2 : (c : goal.After-first) → Division (prime c.args.f.q) (c.args.size + 1) c.args.size c.args.twice.now c.args.current.now c.args.rest.now
-divided_2 c = division c.requires.size_nonzero.2
-
--- the division that a step starts with
-divided_3 : (c : goal.After-over_lead-h) → Division (prime c.args.f.q) (c.args.size + 1) c.args.size c.args.twice.now c.args.current.now c.args.rest.now
-divided_3 c = division c.requires.size_nonzero.2
-
--- the division that a step starts with
-divided_4 : (c : goal.After-remainder-arg-1) → Division (prime c.args.f.q) (c.args.size + 1) c.args.size c.args.twice.now c.args.current.now c.args.rest.now
-divided_4 c = division c.requires.size_nonzero.2
-
-lead_less : (c : goal.After-first) → c.args.lead_inverse < c.args.f.q
-lead_less c = inverse_less c.requires.field.0 (divided_2 c) c.args.lead_inverse c.requires.lead_inverse_value
-
--- the same coefficient of the quotient
-same : (c : goal.After-remainder-arg-1) (i j : ℕ) → i ≡ j → get_or (step_quo (prime c.args.f.q) c.args.twice.now c.args.current.now c.args.rest.now) i 0 ≡ get_or (step_quo (prime c.args.f.q) c.args.twice.now c.args.current.now c.args.rest.now) j 0
-same c i j = ap (λ (k : ℕ). get_or (step_quo (prime c.args.f.q) c.args.twice.now c.args.current.now c.args.rest.now) k 0)
-
--- the same coefficient of the quotient
-same_2 : (c : goal.After-next-arg-1) (i j : ℕ) → i ≡ j → get_or (step_quo (prime c.args.f.q) c.args.twice.now c.args.current.now c.args.rest.now) i 0 ≡ get_or (step_quo (prime c.args.f.q) c.args.twice.now c.args.current.now c.args.rest.now) j 0
-same_2 c i j = ap (λ (k : ℕ). get_or (step_quo (prime c.args.f.q) c.args.twice.now c.args.current.now c.args.rest.now) k 0)
-
--- both coefficients
-coefficients : (c : goal.After-remainder-arg-1) → Linear (prime c.args.f.q) c.args.twice.now c.args.current.now c.args.rest.now c.second.result c.first.result
+coefficients : (c : After-second) → Quadratic (name c.args.s.now.field) c.args.s.now.twice.now c.args.s.now.current.now c.args.s.now.rest.now c.second.result c.first.result 0
 coefficients c =
-    (c.second.ensures ∙ same c _ 0 (omega arith), c.first.ensures ∙ same c _ 1 (omega arith))
+    let s = c.args.s.now in
+    let i : s.top - s.size ≡ 1 = omega arith in
+    let j : s.top - s.size - 1 ≡ 0 = omega arith in
+    (cc, cc, sym (quo_past s.field.is_field.0 (divided s) 2 (omega arith)))
 
--- both coefficients
-coefficients_2 : (c : goal.After-next-arg-1) → Linear (prime c.args.f.q) c.args.twice.now c.args.current.now c.args.rest.now c.second.result c.first.result
-coefficients_2 c =
-    (c.second.ensures ∙ same_2 c _ 0 (omega arith), c.first.ensures ∙ same_2 c _ 1 (omega arith))
+pub remainder-requires-clause-quadratic : goal.remainder-requires-clause-quadratic
+remainder-requires-clause-quadratic c = coefficients (goal.at.remainder-requires-clause-quadratic c).After-second
 
-pub first-requires : goal.first-requires
-first-requires c = record {
-  field = c.requires.field;
-  lead_inverse_value = c.requires.lead_inverse_value;
-  size_nonzero = (c.requires.size_nonzero.0, omega arith, omega arith, divided c);
-}
-
-pub over_lead-h-requires : goal.over_lead-h-requires
-over_lead-h-requires c = (c.requires.field, lead_less c, omega arith, (divided_2 c).current_within.reduced)
-
-pub second-requires : goal.second-requires
-second-requires c =
-    record {
-      field = c.requires.field;
-      lead_inverse_value = c.requires.lead_inverse_value;
-      size_nonzero = (c.requires.size_nonzero.0, omega arith, omega arith, divided_3 c);
-      a1_value = c.first.ensures;
-      h_value = c.over_lead-h.ensures;
-    }
-
-pub remainder-requires : goal.remainder-requires
-remainder-requires c =
-    record {
-      field = c.requires.field;
-      size_nonzero = (c.requires.size_nonzero.0, c.requires.size_nonzero.1, divided_4 c);
-      linear = coefficients c;
-    }
-
-pub next-requires : goal.next-requires
-next-requires c =
-    record {
-      field = c.requires.field;
-      size_nonzero = c.requires.size_nonzero;
-      linear = coefficients_2 c;
-      places = c.remainder.ensures;
-    }
-
-pub returns : goal.returns
-returns c = record { rem_places = c.remainder.ensures; q_places = c.next.ensures }
+pub next-requires-clause-quadratic : goal.next-requires-clause-quadratic
+next-requires-clause-quadratic c = coefficients (goal.at.next-requires-clause-quadratic c).After-second

@@ -1,11 +1,7 @@
 -- The table below a holds inverses; the entry at q mod a, which is below a, is one of them. A product is
 -- below 4,095², which fits.
-use Rattle.std.proofs.Common.{◌≤◌, ◌<◌, ◌-◌}
 use Rattle.walk_state.specs.Table.{Table}
 use Rattle.walk_state.proofs.start.fill_inverses.Given as goal
 
 abbrev pub invariant-loop-a : goal.invariant-loop-a
-invariant-loop-a l = (1 < l.a) × (l.a ≤ l.q) × Table l.q l.inverses l.a
-
-abbrev pub decreases-loop-a : goal.decreases-loop-a
-decreases-loop-a l = l.q - l.a
+invariant-loop-a l = Table l.q l.inverses l.a

@@ -1,29 +1,22 @@
-use Rattle.std.proofs.Common.{◌≤◌, arith, length}
-use lib.ListN.{get_or-eq_default}
-use Rattle.spec_arithmetic.specs.Field.{modulo}
-use Rattle.spec_arithmetic.specs.Polynomials.{add, sub, mul}
-use Rattle.base_polynomial.specs.Places.{filled_none, filled_more, filled_all}
+use Rattle.std.proofs.Common.{ℕ, List, get_or, rules, ap, ◌∙◌}
+use Rattle.std.proofs.iter.Serving.{serving}
+use Rattle.base_places.specs.Places.{places_of}
+use Rattle.walk_short.specs.Step.{next_past}
+use Rattle.walk_short.specs.Start.{divided}
+use Rattle.walk_short.specs.Sizes.{quo_within, rem_within}
+use Rattle.walk_short.specs.Quotient.{next_cong}
 use Rattle.walk_step.proofs.step.next.Goals as goal
 
-pub loop-k-init : goal.loop-k-init
-loop-k-init c = (omega arith, filled_none _)
-
-pub next_at-requires : goal.next_at-requires
-next_at-requires c = record {
-  field = c.requires.field;
-  k_bound = omega arith;
-  bounded = c.requires.bounded;
-  within = c.requires.within;
-}
-
-pub loop-k-preserved : goal.loop-k-preserved
-loop-k-preserved c =
-    let l = c.loop-k in
-    (omega arith, filled_more _ l.after l.k _ l.invariant.1 (omega arith) c.next_at.ensures)
+pub fill_places-requires-clause-called : goal.fill_places-requires-clause-called
+fill_places-requires-clause-called c =
+    let s = c.args.s.now in
+    let p = s.field.is_field.0 in
+    let w = quo_within p (divided s) c.requires.quotient in
+    let r = rem_within p (divided s) s.sizes.1 c.requires.remainder in
+    grind serving
 
 pub returns : goal.returns
 returns c =
-    let l = c.loop-k in
-    let o = modulo c.args.f.q in
-    let short : length (add o c.args.before.now (mul o c.args.a.now (sub o c.args.remains.now c.args.rest.now))) ≤ c.args.top = c.requires.rest_len_bound in
-    filled_all _ l.after l.k l.invariant.1 (λ i h. get_or-eq_default (add o c.args.before.now (mul o c.args.a.now (sub o c.args.remains.now c.args.rest.now))) 0 {n = i} (omega arith))
+    let s = c.args.s.now in
+    let e = next_cong s.field.is_field.0 (divided s) c.args.a.now c.requires.quotient.at s.before.now c.args.remains.now c.requires.remainder.at in
+    places_of c.fill_places.ensures (λ i v h e'. (search rules) ∙ ap (λ (l : List ℕ). get_or l i 0) e) (λ i h. next_past s.ready i h)

@@ -11,25 +11,24 @@ use Rattle.walk_step.proofs.step.quotient.Goals as goal
 
 pub loop-k-init : goal.loop-k-init
 loop-k-init c =
-    let p = c.requires.field.0 in
+    let p = c.args.f.is_field.0 in
     let d = c.requires.division in
-    (omega arith, down_none _ _ _ length_zeros (λ i h. at_zeros i) (quo_past p d))
+    down_none _ _ _ length_zeros (λ i h. at_zeros i) (quo_past p d)
 
 pub rest_at-v-requires : goal.rest_at-v-requires
 rest_at-v-requires c =
-    let p = c.requires.field.0 in
+    let p = c.args.f.is_field.0 in
     let d = c.requires.division in
     let l = c.loop-k in
     record {
-      field = c.requires.field;
       k_bound = (omega arith, omega arith);
       bounded = (d.twice_within.reduced, d.rest_within.reduced, d.current_within.reduced);
-      within = (quo_within_down p d l.a l.k l.invariant.0 l.invariant.1, λ i h. l.invariant.1.rest i (omega arith));
+      within = (quo_within_down p d l.a l.k (omega arith) l.invariant, λ i h. l.invariant.rest i (omega arith));
     }
 
 pub overflow_mul-v : goal.overflow_mul-v
 overflow_mul-v c =
-    let p = c.requires.field.0 in
+    let p = c.args.f.is_field.0 in
     let d = c.requires.division in
     let q = c.args.f.q in
     let pos = positive p d in
@@ -38,24 +37,16 @@ overflow_mul-v c =
     let small : c.rest_at-v.result * c.args.lead_inverse ≤ 4095 * 4095 = mul-le-mul {n₂ = 4095} {m₂ = 4095} (omega arith) (omega arith) in
     omega arith
 
-pub reduce-requires : goal.reduce-requires
-reduce-requires c =
-    let p = c.requires.field.0 in
-    let d = c.requires.division in
-    c.requires.field
-
 pub loop-k-preserved : goal.loop-k-preserved
 loop-k-preserved c =
-    let p = c.requires.field.0 in
+    let p = c.args.f.is_field.0 in
     let d = c.requires.division in
     let l = c.loop-k in
-    let v = c.rest_at-v.result in (
-      omega arith,
-      down_more _ l.a l.k (l.k - 1) _ l.invariant.1 (omega arith) (omega arith)
-          (c.reduce.ensures ∙ ap (λ (u : ℕ). (v * u) % c.args.f.q) c.requires.lead_inverse_value ∙ quo_at p d l.a (l.k - 1) (λ i h. l.invariant.1.done i (omega arith)) (λ i h. l.invariant.1.rest i (omega arith)) (l.k - 1 + c.args.size - 1) v (omega arith) c.rest_at-v.ensures),
-    )
+    let v = c.rest_at-v.result in
+    down_more _ l.a l.k (l.k - 1) _ l.invariant (omega arith) (omega arith)
+    (c.reduce.ensures ∙ ap (λ (u : ℕ). (v * u) % c.args.f.q) c.requires.lead_inverse_value ∙ quo_at p d l.a (l.k - 1) (λ i h. l.invariant.done i (omega arith)) (λ i h. l.invariant.rest i (omega arith)) (l.k - 1 + c.args.size - 1) v (omega arith) c.rest_at-v.ensures)
 
 pub returns : goal.returns
 returns c =
     let l = c.loop-k in
-    down_all _ l.a l.k l.invariant.1 (omega arith)
+    down_all _ l.a l.k l.invariant (omega arith)

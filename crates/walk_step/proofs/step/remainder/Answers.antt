@@ -1,33 +1,20 @@
-use Rattle.std.proofs.Common.{arith}
-use Rattle.base_polynomial.specs.Places.{filled_none, filled_more, filled_all}
+use Rattle.std.proofs.Common.{arith, rules}
+use Rattle.std.proofs.iter.Serving.{serving}
+use Rattle.base_places.specs.Places.{places_of}
+use Rattle.walk_short.specs.Start.{divided}
 use Rattle.walk_short.specs.Sizes.{rem_past, quo_within}
 use Rattle.walk_short.specs.Quotient.{rem_at}
 use Rattle.walk_step.proofs.step.remainder.Goals as goal
 
-pub loop-k-init : goal.loop-k-init
-loop-k-init c = (omega arith, filled_none _)
-
-pub rest_at-requires : goal.rest_at-requires
-rest_at-requires c =
-    let p = c.requires.field.0 in
-    let d = c.requires.division in
-    record {
-      field = c.requires.field;
-      k_bound = (omega arith, omega arith);
-      bounded = (d.twice_within.reduced, d.rest_within.reduced, d.current_within.reduced);
-      within = (quo_within p d c.requires.places, λ i h. absurd (omega arith));
-    }
-
-pub loop-k-preserved : goal.loop-k-preserved
-loop-k-preserved c =
-    let p = c.requires.field.0 in
-    let d = c.requires.division in
-    let l = c.loop-k in
-    (omega arith, filled_more _ l.remains l.k _ l.invariant.1 (omega arith) (rem_at p d c.args.a.now c.requires.places.at l.k _ c.rest_at.ensures))
+pub fill_places-requires-clause-called : goal.fill_places-requires-clause-called
+fill_places-requires-clause-called c =
+    let s = c.args.s.now in
+    let d = divided s in
+    let w = quo_within s.field.is_field.0 d c.requires in
+    grind serving
 
 pub returns : goal.returns
 returns c =
-    let p = c.requires.field.0 in
-    let d = c.requires.division in
-    let l = c.loop-k in
-    filled_all _ l.remains l.k l.invariant.1 (λ i h. rem_past p d i (omega arith))
+    let s = c.args.s.now in
+    let p = s.field.is_field.0 in
+    places_of c.fill_places.ensures (λ i v h e. rem_at p (divided s) c.args.a.now c.requires.at i v (search rules)) (λ i h. rem_past p (divided s) i (omega arith))

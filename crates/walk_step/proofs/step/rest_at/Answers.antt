@@ -1,6 +1,6 @@
 use Rattle.std.proofs.Common.{◌≤◌, ◌-◌, ◌+◌, ◌*◌, arith, ◌∙◌, get_or}
 use Rattle.spec_bridge.specs.Product.{dots}
-use Rattle.base_polynomial.specs.Product.{dots_all}
+use Rattle.base_places.specs.Dots.{dots_all}
 use Rattle.walk_short.specs.Coefficients.{rest_is}
 use Rattle.walk_step.specs.Terms.{less_none, less_term, less_next}
 use Rattle.walk_step.proofs.step.rest_at.Goals as goal
@@ -9,24 +9,12 @@ use Rattle.walk_step.proofs.step.rest_at.Goals as goal
 term : (c : goal.After-t-in-loop-i-2-1)
     → (c.args.f.q - get_or c.args.x.now c.loop-i.i 0) * get_or c.args.current.now (c.args.k - c.loop-i.i) 0 ≤ 16769025
 term c =
-    less_term c.args.f.q 0 c.args.x.now c.args.current.now c.args.k c.requires.field.2 c.requires.within.0.reduced c.requires.bounded.2 c.loop-i.i
-
-pub overflow_sub-t : goal.overflow_sub-t
-overflow_sub-t c = omega (arith, c.requires.bounded.1 c.args.k)
-
-pub overflow_add-t : goal.overflow_add-t
-overflow_add-t c = omega (arith, c.requires.bounded.0 c.args.k)
+    less_term c.args.f.q 0 c.args.x.now c.args.current.now c.args.k c.args.f.is_field.2 c.requires.within.0.reduced c.requires.bounded.2 c.loop-i.i
 
 pub loop-i-init : goal.loop-i-init
 loop-i-init c =
     let h = c.requires.bounded.0 c.args.k in
     (omega arith, less_none c.args.f.q (get_or c.args.twice.now c.args.k 0 + (c.args.f.q - get_or c.args.rest.now c.args.k 0)) c.args.x.now c.args.current.now c.args.k c.args.from c.requires.within.1 (omega arith))
-
-pub overflow_sub-t-in-loop-i : goal.overflow_sub-t-in-loop-i
-overflow_sub-t-in-loop-i c = omega (arith, c.requires.within.0.reduced c.loop-i.i)
-
-pub overflow_mul-t : goal.overflow_mul-t
-overflow_mul-t c = omega (arith, term c)
 
 pub overflow_add-t-in-loop-i : goal.overflow_add-t-in-loop-i
 overflow_add-t-in-loop-i c = let m = c.loop-i.invariant.1.small in omega (arith, term c)
@@ -34,10 +22,7 @@ overflow_add-t-in-loop-i c = let m = c.loop-i.invariant.1.small in omega (arith,
 pub loop-i-preserved : goal.loop-i-preserved
 loop-i-preserved c =
     let l = c.loop-i in
-    (omega arith, less_next c.args.f.q _ c.args.x.now c.args.current.now c.args.k c.requires.field.2 c.requires.within.0.reduced c.requires.bounded.2 l.i l.t l.invariant.1)
-
-pub reduce-requires : goal.reduce-requires
-reduce-requires c = c.requires.field
+    (omega arith, less_next c.args.f.q _ c.args.x.now c.args.current.now c.args.k c.args.f.is_field.2 c.requires.within.0.reduced c.requires.bounded.2 l.i l.t l.invariant.1)
 
 pub returns : goal.returns
 returns c =

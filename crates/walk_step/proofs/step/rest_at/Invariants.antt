@@ -5,6 +5,3 @@ use Rattle.walk_step.proofs.step.rest_at.Given as goal
 
 abbrev pub invariant-loop-i : goal.invariant-loop-i
 invariant-loop-i v = (v.i ≤ v.k + 1) × Less v.q (get_or v.twice v.k 0 + (v.q - get_or v.rest v.k 0)) v.x v.current v.k v.i v.t
-
-abbrev pub decreases-loop-i : goal.decreases-loop-i
-decreases-loop-i v = v.k + 1 - v.i

@@ -1,24 +1,7 @@
--- The leading coefficient is below q, so its inverse is in the table.
-use Rattle.std.proofs.Common.{◌-◌, arith}
+-- The next Q has no places from top on, and its size is found from there down.
+use Rattle.std.proofs.Common.{arith}
+use Rattle.walk_step.specs.Result.{stepped}
 use Rattle.walk_step.proofs.step.step.Goals as goal
 
-pub overflow_cast-lead_inverse : goal.overflow_cast-lead_inverse
-overflow_cast-lead_inverse c = omega (arith, c.requires.ready.current_within.reduced (c.args.size - 1))
-
-pub offset_bounds-inverses-current : goal.offset_bounds-inverses-current
-offset_bounds-inverses-current c = omega (arith, c.requires.ready.current_within.reduced (c.args.size - 1))
-
-pub bounds-inverses-current : goal.bounds-inverses-current
-bounds-inverses-current c = omega (arith, c.requires.ready.current_within.reduced (c.args.size - 1))
-
-pub step_by-requires : goal.step_by-requires
-step_by-requires c =
-    record {
-      field = c.requires.field;
-      lead_inverse_value = c.requires.inverses _ (c.requires.ready.current_within.reduced (c.args.size - 1));
-      size_nonzero = c.requires.size_nonzero;
-      ready = c.requires.ready;
-    }
-
 pub returns : goal.returns
-returns c = c.step_by.ensures
+returns c = stepped c.args.s.now.field.is_field.0 c.args.s.now.ready (omega arith) c.fill.ensures c.top.ensures

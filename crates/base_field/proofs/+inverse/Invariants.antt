@@ -1,5 +1,0 @@
--- The second argument falls.
-use Rattle.base_field.proofs.+inverse.Given as goal
-
-abbrev pub decreases-inverse : goal.decreases-inverse
-decreases-inverse l = l.a

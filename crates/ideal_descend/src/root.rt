@@ -1,0 +1,32 @@
+// √D with what each step from an ideal goes by: the root d of D, and 2d.
+ghost use Rattle.std.specs.Prelude.{◌≡◌};
+ghost use Rattle.spec_arithmetic.specs.Polynomials.{pad, add as add_of};
+ghost use Rattle.base_surd.specs.Surd as surds;
+ghost use Rattle.walk_state.specs.State.{root_d};
+
+use base_places::linear::add_places;
+use base_surd::Surd;
+use walk_state::start::root_of;
+
+// √D with the root d of D and twice = 2d.
+#[derive(Drop)]
+pub struct Root {
+    pub surd: Surd,
+    pub d: [u32; 129],
+    pub twice: [u32; 129],
+    pub ghost d_is: { d ≡ pad (surds.ops surd) 129 (root_d (surds.name surd) (surds.g surd) (surds.D surd)) },
+    pub ghost twice_is: { twice ≡ pad (surds.ops surd) 129 (add_of (surds.ops surd) (root_d (surds.name surd) (surds.g surd) (surds.D surd)) (root_d (surds.name surd) (surds.g surd) (surds.D surd))) },
+}
+
+impl Root {
+    // The root d of D, and 2d.
+    pub fn new(s: &Surd) -> Self
+        ensures { result.surd ≡ s.now }
+    {
+        let mut d = [0u32; 129];
+        let mut twice = [0u32; 129];
+        root_of(s, &mut d);
+        add_places(s.field, &d, &d, s.n / 2 + 1, &mut twice);
+        Root { surd: *s, d, twice }
+    }
+}

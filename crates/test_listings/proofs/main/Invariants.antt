@@ -1,6 +1,0 @@
--- At most one job differs for each that was read.
-use Rattle.std.proofs.Common.{◌≤◌}
-use Rattle.test_listings.proofs.main.Given as goal
-
-abbrev pub invariant-loop-i : goal.invariant-loop-i
-invariant-loop-i l = l.differ ≤ l.i

@@ -1,0 +1,34 @@
+-- The values that are read are the job's.
+use Rattle.std.proofs.Common.{arith, rules, sym}
+use Rattle.ticket_read.specs.Accepted.{radicand_admitted, radicand_held, n_even, degree_two, budget_few, read_size, read_itself, read_refusal, are_read}
+use Rattle.ticket_several.proofs.job.read_reduced.Goals as goal
+
+pub reduced-radicand-requires : goal.reduced-radicand-requires
+reduced-radicand-requires c = (c.requires.past.n_most, omega arith)
+
+pub radicand_refusal-requires : goal.radicand_refusal-requires
+radicand_refusal-requires c =
+    record {
+      n_bound = (c.requires.past.n_most, read_size c.requires.past c.reduced-radicand.ensures);
+      is = read_itself c.requires.past c.reduced-radicand.ensures;
+    }
+
+pub returns-in_err-radicand_refusal-clause-refused : goal.returns-in_err-radicand_refusal-clause-refused
+returns-in_err-radicand_refusal-clause-refused c =
+    let e = read_refusal c.requires.past c.reduced-radicand.ensures c.in_err-radicand_refusal.ensures in
+    search (rules, e)
+
+pub invariant_of-result : goal.invariant_of-result
+invariant_of-result c =
+    let r = are_read c.requires.past c.reduced-radicand.ensures c.in_ok-radicand_refusal.ensures c.value.ensures in
+    record { admitted = radicand_admitted r; held = radicand_held r; degree_two = degree_two r }
+
+pub invariant_of-result-2 : goal.invariant_of-result-2
+invariant_of-result-2 c =
+    let r = are_read c.requires.past c.reduced-radicand.ensures c.in_ok-radicand_refusal.ensures c.value.ensures in
+    record { even = n_even r; few = budget_few r }
+
+pub returns : goal.returns
+returns c =
+    let r = are_read c.requires.past c.reduced-radicand.ensures c.in_ok-radicand_refusal.ensures c.value.ensures in
+    record { refused = sym r.passes; read = r.ticket_is }
