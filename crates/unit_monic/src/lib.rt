@@ -21,6 +21,7 @@ fn multiply(f: Field, u: u32, list: &mut [u32])
 }
 
 // p and s are divided by the leading coefficient of p, which stands at its last place: p becomes monic.
+#[tactic(auto, using(crate::specs::Multiple::inverse_ok))]
 pub fn divide_by_lead(f: Field, p: &mut [u32], s: &mut [u32])
     requires nonempty { 0 < length p.old }
     requires bounded { Bounded f.q p.old × Bounded f.q s.old }
