@@ -36,6 +36,7 @@ impl From<WordKind> for u32 {
 }
 
 // The kind of a word.
+#[tactic(auto, unfolding(spec_arithmetic::specs::Words::kind))]
 pub fn kind(word: u32) -> u32
     ensures { result ≡ kind_of word }
 {
@@ -43,6 +44,7 @@ pub fn kind(word: u32) -> u32
 }
 
 // The value of a word.
+#[tactic(auto, unfolding(spec_arithmetic::specs::Words::value))]
 pub fn value(word: u32) -> u32
     ensures { result ≡ value_of word }
 {
@@ -50,6 +52,7 @@ pub fn value(word: u32) -> u32
 }
 
 // The word of a kind with a value.
+#[tactic(auto, unfolding(spec_arithmetic::specs::Words::word))]
 pub fn word(kind: u32, value: u32) -> u32
     requires { (kind < kinds) × (value < values) }
     ensures { result ≡ word_of kind value }
@@ -58,6 +61,7 @@ pub fn word(kind: u32, value: u32) -> u32
 }
 
 // The high 28 bits of a number of two words.
+#[tactic(auto, unfolding(spec_arithmetic::specs::Words::high))]
 pub fn high(x: u64) -> u32
     requires { x < pairs }
     ensures { (result ≡ high_of x) × (result < values) }
@@ -66,6 +70,7 @@ pub fn high(x: u64) -> u32
 }
 
 // The low 28 bits.
+#[tactic(auto, unfolding(spec_arithmetic::specs::Words::low))]
 pub fn low(x: u64) -> u32
     ensures { (result ≡ low_of x) × (result < values) }
 {
@@ -73,6 +78,7 @@ pub fn low(x: u64) -> u32
 }
 
 // The number of two words with these values.
+#[tactic(auto, unfolding(spec_arithmetic::specs::Words::joined))]
 pub fn joined(high: u32, low: u32) -> u64
     ensures { result ≡ joined_of high low }
 {

@@ -4,35 +4,13 @@
 
 pub mod turns;
 
-ghost use Rattle.std.specs.Prelude.{◌≡◌, IfOk, IfErr};
+ghost use Rattle.std.specs.Prelude.{◌≡◌};
 ghost use Rattle.ideal_pair.specs.Pair.{pair_of};
-ghost use Rattle.bench_ideals.specs.Turns.{product_turns, giant_turns, AreRead, AreRefused};
+ghost use Rattle.bench_ideals.specs.Turns.{product_turns, giant_turns};
 
 use crate::turns::{giants, products};
-use base_refusals::Refusal;
-use base_surd::Surd;
-use ideal_operand::Ideal;
-use ideal_pair::pair;
-use ticket_read::read_ticket;
-
-// √D, and two ideals of it.
-#[derive(Clone, Copy)]
-pub struct Operands {
-    pub surd: Surd,
-    pub x: Ideal,
-    pub y: Ideal,
-}
-
-// √D of the ticket and the ideals of the two pairs.
-fn read(ticket: &[u32], q1: &[u32], p1: &[u32], q2: &[u32], p2: &[u32]) -> Result<Operands, Refusal>
-    ensures read { IfOk result (AreRead ticket.now q1.now p1.now q2.now p2.now) }
-    ensures refused { IfErr result (AreRefused ticket.now q1.now p1.now q2.now p2.now) }
-{
-    let t = read_ticket(ticket)?;
-    let x = pair(&t.surd, q1, p1)?;
-    let y = pair(&t.surd, q2, p2)?;
-    Ok(Operands { surd: t.surd, x, y })
-}
+use call_product::Pair;
+use call_product::operands::read_operands;
 
 // The size of the product's P, made `times` times over; 0 where the ticket or a pair is refused and where `times`
 // is 0.
@@ -47,7 +25,7 @@ pub extern "C" fn bench_product(
 ) -> u64
     ensures { result ≡ product_turns ticket.now (pair_of q1.now p1.now) (pair_of q2.now p2.now) times }
 {
-    match read(ticket, q1, p1, q2, p2) {
+    match read_operands(ticket, Pair { q: q1, p: p1 }, Pair { q: q2, p: p2 }) {
         Ok(o) => products(&o.surd, &o.x, &o.y, times),
         Err(_) => 0,
     }
@@ -66,7 +44,7 @@ pub extern "C" fn bench_giant_step(
 ) -> u64
     ensures { result ≡ giant_turns ticket.now (pair_of q1.now p1.now) (pair_of q2.now p2.now) times }
 {
-    match read(ticket, q1, p1, q2, p2) {
+    match read_operands(ticket, Pair { q: q1, p: p1 }, Pair { q: q2, p: p2 }) {
         Ok(o) => giants(&o.surd, &o.x, &o.y, times),
         Err(_) => 0,
     }

@@ -1,19 +1,19 @@
 // The same product or giant step of two ideals, made again and again.
 ghost use Rattle.std.specs.Prelude.{◌≡◌, ◌<◌};
 ghost use Rattle.base_polynomial.specs.declared.Poly.{Poly};
-ghost use Rattle.ideal_operand.specs.declared.Ideal.{Ideal};
+ghost use Rattle.base_ideal.specs.declared.Ideal.{Ideal};
 ghost use Rattle.ideal_operand.specs.Ideal.{Operand, Multiplied};
 ghost use Rattle.ideal_giant.specs.declared.Shift.{Shift};
 ghost use Rattle.ideal_giant.specs.Stepped.{Stepped};
 
 use base_counters::Distance;
+use base_ideal::Ideal;
 use base_polynomial::Poly;
 use base_surd::Surd;
 use call_product::IdealProduct;
-use ideal_descend::root::Root;
 use ideal_giant::step::giant;
-use ideal_operand::Ideal;
 use ideal_product::product;
+use walk_state::root::Root;
 
 // `turn` is called `times` times over, each with the same room.
 fn repeat<T, F: Fn(&mut T)>(times: u64, room: &mut T, turn: F)
@@ -34,10 +34,7 @@ pub fn products(s: &Surd, x: &Ideal, y: &Ideal, times: u64) -> u64
 {
     let mut room = IdealProduct {
         s: Poly::zero(),
-        ideal: Ideal {
-            q: Poly::zero(),
-            p: Poly::zero(),
-        },
+        ideal: Ideal::zeros(),
     };
     repeat(
         times,
@@ -54,10 +51,7 @@ pub fn giants(s: &Surd, x: &Ideal, y: &Ideal, times: u64) -> u64
     ensures some { 0 < times → (z : Ideal) × (to : Shift) × Stepped s.now x.now 0 y.now 0 z to × (result ≡ z.p.size) }
 {
     let r = Root::new(s);
-    let mut room = Ideal {
-        q: Poly::zero(),
-        p: Poly::zero(),
-    };
+    let mut room = Ideal::zeros();
     repeat(times, &mut room, |room| {
         giant(&r, x, Distance(0), y, Distance(0), room);
     });

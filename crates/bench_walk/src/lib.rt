@@ -10,6 +10,7 @@ ghost use Rattle.bench_walk.specs.Steps.{degree_after, product_after, Asked, Not
 
 use crate::advance::{Made, run_on};
 use crate::half::{Tried, half_on};
+use base_counters::Budget;
 use base_surd::Surd;
 use ticket_read::read_ticket;
 
@@ -35,7 +36,7 @@ pub extern "C" fn bench_walk(ticket: &[u32], steps: u64) -> Made
     ensures product { result.product ≡ product_after ticket.now steps }
 {
     match asked(ticket, steps) {
-        Some(s) => run_on(&s, steps),
+        Some(s) => run_on(&s, Budget { steps }),
         None => Made::default(),
     }
 }
@@ -47,7 +48,7 @@ pub extern "C" fn bench_half(ticket: &[u32], steps: u64) -> Tried
     ensures few { result.stops ≤ steps }
 {
     match asked(ticket, steps) {
-        Some(s) => half_on(&s, steps),
+        Some(s) => half_on(&s, Budget { steps }),
         None => Tried::default(),
     }
 }

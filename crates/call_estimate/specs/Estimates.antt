@@ -18,15 +18,11 @@ use Rattle.base_refusals.specs.Number.{number_of}
 use Rattle.estimate_counts.specs.declared.Counts.{Counts}
 use Rattle.ticket_read.specs.Refusal.{number_some}
 use Rattle.call_estimate.specs.declared.Estimated.{Estimated}
-use Rattle.call_estimate.specs.declared.EstimateAnswer as code
 
 -- what is said of an estimate, or of a refusal: its number, and zeros
 abbrev pub estimate_said : Result Estimated Refusal → EstimateAnswer
 estimate_said (Ok e) = record { number = 0; numerator = e.numerator; denominator = e.denominator; nearest = e.nearest }
 estimate_said (Err r) = record { number = number_of r; numerator = 0; denominator = 0; nearest = 0 }
-
-abbrev pub estimate_in : code.EstimateAnswer → EstimateAnswer
-estimate_in a = estimate_said a.result
 
 -- q and n are estimated, and each element counts once at most
 pub record Small (q n : ℕ) (c : Counts) : Type 0 where

@@ -5,8 +5,9 @@
 ghost use Rattle.std.specs.Prelude.{◌≡◌, length};
 ghost use Rattle.spec_definitions.specs.Ticket.{genus};
 ghost use Rattle.spec_estimate.specs.Estimate.{numerator_of, denominator_of, estimate_is, estimate_answer};
-ghost use Rattle.call_estimate.specs.Estimates.{Small, estimate_said, estimate_in};
+ghost use Rattle.call_estimate.specs.Estimates.{Small, estimate_said};
 
+use base_answers::Answer;
 use base_refusals::Refusal;
 use estimate_counts::{Counts, count_values};
 use estimate_fraction::nearest;
@@ -25,12 +26,8 @@ pub struct Estimated {
     pub nearest: u64,
 }
 
-// The number of words handed in, and the estimate.
-#[derive(Clone, Copy)]
-pub struct EstimateAnswer {
-    pub words: u64,
-    pub result: Result<Estimated, Refusal>,
-}
+// The number of words handed in, and the estimate or a refusal.
+pub type EstimateAnswer = Answer<Result<Estimated, Refusal>>;
 
 // The fraction for the field of q elements and a D of degree n with these counts.
 fn fraction(q: u32, n: usize, counts: Counts) -> Estimated
@@ -65,10 +62,10 @@ fn estimate_of(ticket: &[u32]) -> Result<Estimated, Refusal>
 // The estimate for a ticket of any words and any length. The ticket's budget has no effect.
 pub fn estimate(ticket: &[u32]) -> EstimateAnswer
     ensures words { result.words ≡ length ticket.now }
-    ensures says { estimate_in result ≡ estimate_answer ticket.now }
+    ensures says { estimate_said result.outcome ≡ estimate_answer ticket.now }
 {
-    EstimateAnswer {
+    Answer {
         words: ticket.len() as u64,
-        result: estimate_of(ticket),
+        outcome: estimate_of(ticket),
     }
 }

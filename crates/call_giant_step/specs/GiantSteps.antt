@@ -1,11 +1,11 @@
 -- The answer of the call `giant_step`, case by case, and what its polynomials are.
-use Prim.Native.Nat.{ℕ, zero, suc, ◌+◌, ◌≤◌, ◌<◌}
+use Prim.Native.Nat.{ℕ, zero, suc, ◌+◌, ◌≤◌}
 use Rattle.std.proofs.Common.{arith, sym, ◌∙◌, subst, ltb-false}
-use Rattle.std.specs.Prelude.{◌≡◌, refl, Bool, true, false, ◌||◌, List, [], Result, Ok, Err, IfOk, IfErr, ltb, ℤ, ◌+ℤ◌}
-use Rattle.std.proofs.Math.Path.{ap}
+use Rattle.std.specs.Prelude.{◌≡◌, refl, Bool, true, false, ◌||◌, List, [], Result, Ok, Err, IfOk, IfErr, ltb, ◌+ℤ◌}
+use Rattle.std.proofs.Math.Path.{ap, ap₂}
 use Rattle.std.proofs.Math.IntN.{pos}
 use Rattle.std.specs.Result.{IsErrAnd}
-use Rattle.spec_definitions.specs.Ticket.{Ticket, genus, ticket_of, refusal_of}
+use Rattle.spec_definitions.specs.Ticket.{Ticket, genus, ticket_of}
 use Rattle.spec_definitions.specs.Walk.{Ideal as Pair, steps}
 use Rattle.spec_definitions.specs.Answers.{ops_of, root_of}
 use Rattle.spec_definitions.specs.Listing.{ideal_of}
@@ -13,45 +13,40 @@ use Rattle.spec_definitions.specs.Products.{Product, GiantStepAnswer as Answer, 
 use Rattle.base_refusals.specs.declared.Refusal.{Refusal}
 use Rattle.base_refusals.specs.Number.{number_of, refused_by, number_some}
 use Rattle.base_polynomial.specs.Over.{Holds, holds}
-use Rattle.base_surd.specs.declared.Surd.{Surd}
 use Rattle.base_surd.specs.Surd.{ticket_with}
-use Rattle.ideal_operand.specs.declared.Ideal.{Ideal}
-use Rattle.ideal_pair.specs.Pair.{pair_of, pair_refusal, Paired}
-use Rattle.ideal_pair.specs.Words.{first_wrong, second_wrong, pairs_right, paired_product}
+use Rattle.base_ideal.specs.declared.Ideal.{Ideal}
+use Rattle.ideal_pair.specs.Words.{pairs_right, paired_product}
 use Rattle.ideal_giant.specs.declared.Shift.{Shift}
 use Rattle.ideal_giant.specs.Signed.{farthest}
 use Rattle.ideal_giant.specs.Stepped.{Stepped}
+use Rattle.call_product.specs.declared.operands.Operands.{Operands}
+use Rattle.call_product.specs.Operands.{operands_refusal, answer_refused, AreRead}
 use Rattle.call_giant_step.specs.declared.GiantStep.{GiantStep}
-use Rattle.call_giant_step.specs.declared.GiantStepAnswer.{GiantStepAnswer}
 
 -- Q, P, f and the distance are those of the answer a
 pub record GiantStepIs (t : GiantStep) (a : Answer) : Type 0 where
   pub q_is : Holds t.ideal.q a.q
   pub p_is : Holds t.ideal.p a.p
-  pub f_is : t.f ≡ a.f
-  pub distance_is : t.distance ≡ a.distance
+  pub f_is : t.shift.f ≡ a.f
+  pub distance_is : t.shift.distance ≡ a.distance
 
 -- the number is that of the answer a, and so is the giant step where there is no refusal; in a refusal a has zeros
-pub record ResultSays (r : Result GiantStep Refusal) (a : Answer) : Type 0 where
+pub record GiantStepSays (r : Result GiantStep Refusal) (a : Answer) : Type 0 where
   pub number_is : refused_by r ≡ a.number
   pub giant_step_is : IfOk r (λ t. GiantStepIs t a)
   pub zeros : IfErr r (λ _. (a.q ≡ []) × (a.p ≡ []) × (a.f ≡ pos 0) × (a.distance ≡ pos 0))
 
--- r is the answer a
-abbrev pub GiantStepSays : GiantStepAnswer → Answer → Type 0
-GiantStepSays r a = ResultSays r.result a
+says_path : {r : Result GiantStep Refusal} {a b : Answer} → a ≡ b → GiantStepSays r b → GiantStepSays r a
+says_path {r} e h = subst (GiantStepSays r) (sym e) h
 
-says_path : {r : Result GiantStep Refusal} {a b : Answer} → a ≡ b → ResultSays r b → ResultSays r a
-says_path {r} e h = subst (ResultSays r) (sym e) h
-
-refused_says : {r : Refusal} {k : ℕ} → number_of r ≡ k → ResultSays (Err r) (giant_refused k)
+refused_says : {r : Refusal} {k : ℕ} → number_of r ≡ k → GiantStepSays (Err r) (giant_refused k)
 unfolding giant_refused
 refused_says e = record { number_is = e; giant_step_is = tt; zeros = (refl, refl, refl, refl) }
 
 -- a refusal that is passed on
-pub passed_on : {r : Result GiantStep Refusal} {e : Refusal} {a : Answer} → IsErrAnd r (λ k. k ≡ e) → ResultSays (Err e) a → ResultSays r a
+pub passed_on : {r : Result GiantStep Refusal} {e : Refusal} {a : Answer} → IsErrAnd r (λ k. k ≡ e) → GiantStepSays (Err e) a → GiantStepSays r a
 passed_on {r = Ok t} h s = absurd h
-passed_on {r = Err k} {a = a} h s = subst (λ (i : Refusal). ResultSays (Err i) a) (sym h) s
+passed_on {r = Err k} {a = a} h s = subst (λ (i : Refusal). GiantStepSays (Err i) a) (sym h) s
 
 -- neither distance is far
 pub both_near : (d e : ℕ) → wrong_distance d e ≡ false → (d ≤ farthest) × (e ≤ farthest)
@@ -77,66 +72,32 @@ giant_same t x y x' y' same d e = ap (λ (r : Product ℕ). record {
 -- ---- the answers
 module _ (w : List ℕ) (x : Pair ℕ) (d : ℕ) (y : Pair ℕ) (e : ℕ) where
   -- for two pairs that are not refused
-  unfoldable by_distances : Ticket → Answer
-  by_distances t = elim (wrong_distance d e) [ true ↦ giant_refused 10 | false ↦ giant_done t x d y e ]
+  abbrev by_distances : Ticket → Bool → Answer
+  by_distances t far = elim far as (λ _. Answer) [ true ↦ giant_refused 10 | false ↦ giant_done t x d y e ]
 
-  -- for a ticket that is not refused
-  unfoldable by_pairs : Ticket → Answer
-  by_pairs t = elim (wrong_pair t x y) [ true ↦ giant_refused 9 | false ↦ by_distances t ]
+  -- the ticket or a pair is refused
+  pub refused : {r : Refusal} → number_of r ≡ operands_refusal w x y → GiantStepSays (Err r) (giant_answer w x d y e)
+  unfolding giant_answer
+  refused {r} h =
+      says_path (answer_refused w x y Answer giant_refused (by_distances (ticket_of w) (wrong_distance d e)) (let o = number_some r in omega arith)) (refused_says h)
 
-  abbrev by_ticket : ℕ → Answer
-  by_ticket n = elim n [ zero ↦ by_pairs (ticket_of w) | suc k ↦ giant_refused (suc k) ]
+  module _ {o : Operands} (t : AreRead w x y o) where
+    tested : giant_answer w x d y e ≡ by_distances (ticket_with o.surd t.budget) (wrong_distance d e)
+    unfolding giant_answer
+    tested =
+        ap₂ (λ (n : ℕ) (t : Ticket). elim n as (λ _. Answer) [ zero ↦ elim (wrong_pair t x y) as (λ _. Answer) [ true ↦ giant_refused 9 | false ↦ by_distances t (wrong_distance d e) ] | suc k ↦ giant_refused (suc k) ]) t.passes t.is
+        ∙ ap (λ (b : Bool). elim b as (λ _. Answer) [ true ↦ giant_refused 9 | false ↦ by_distances (ticket_with o.surd t.budget) (wrong_distance d e) ]) (pairs_right t.first t.second t.budget)
 
-  -- the ticket is refused
-  pub ticket_refused : {r : Refusal} → number_of r ≡ refusal_of w → ResultSays (Err r) (giant_answer w x d y e)
-  unfolding giant_answer by_pairs by_distances
-  ticket_refused {r} h = go (refusal_of w) h
-    where
-      go : (n : ℕ) → number_of r ≡ n → ResultSays (Err r) (by_ticket n)
-      go zero z = absurd (let o = number_some r in omega arith)
-      go (suc k) z = refused_says z
+    pub far_refused : {r : Refusal} → wrong_distance d e ≡ true → number_of r ≡ 10 → GiantStepSays (Err r) (giant_answer w x d y e)
+    far_refused h k = says_path (tested ∙ ap (by_distances (ticket_with o.surd t.budget)) h) (refused_says k)
 
-  module _ {t : Ticket} (passes : refusal_of w ≡ 0) (is : ticket_of w ≡ t) where
-    tested : giant_answer w x d y e ≡ by_pairs t
-    unfolding giant_answer by_pairs by_distances
-    tested = ap by_ticket passes ∙ ap by_pairs is
+    -- the giant step, which depends on the pairs' polynomials alone
+    done : {z : Ideal} {to : Shift} → Stepped o.surd o.x d o.y e z to → GiantStepSays (Ok (record { ideal = z; shift = to })) (giant_done (ticket_with o.surd t.budget) x d y e)
+    unfolding giant_done
+    done {z} m =
+        let b = t.budget in
+        says_path (giant_same (ticket_with o.surd b) x y _ _ (sym (paired_product t.first t.second)) d e)
+        (record { number_is = refl; giant_step_is = record { q_is = holds {a = z.q} (m.q_is b); p_is = holds {a = z.p} (m.p_is b); f_is = m.f_is b; distance_is = m.distance_is b }; zeros = tt })
 
-    pairs_refused : {r : Refusal} → (wrong_pair t x y ≡ true) × (number_of r ≡ 9) → ResultSays (Err r) (giant_answer w x d y e)
-    unfolding by_pairs
-    pairs_refused h = says_path (tested ∙ ap (λ (b : Bool). elim b [ true ↦ giant_refused 9 | false ↦ by_distances t ]) h.0) (refused_says h.1)
-
-    module _ (right : wrong_pair t x y ≡ false) where
-      pairs_right_is : giant_answer w x d y e ≡ by_distances t
-      unfolding by_pairs
-      pairs_right_is = tested ∙ ap (λ (b : Bool). elim b [ true ↦ giant_refused 9 | false ↦ by_distances t ]) right
-
-      distances_refused : {r : Refusal} → wrong_distance d e ≡ true → number_of r ≡ 10 → ResultSays (Err r) (giant_answer w x d y e)
-      unfolding by_distances
-      distances_refused h k = says_path (pairs_right_is ∙ ap (λ (b : Bool). elim b [ true ↦ giant_refused 10 | false ↦ giant_done t x d y e ]) h) (refused_says k)
-
-      distances_done : wrong_distance d e ≡ false → giant_answer w x d y e ≡ giant_done t x d y e
-      unfolding by_distances
-      distances_done h = pairs_right_is ∙ ap (λ (b : Bool). elim b [ true ↦ giant_refused 10 | false ↦ giant_done t x d y e ]) h
-
--- ---- what the code finds of a ticket that is not refused, √D with a budget, and of the two pairs
-module _ (w : List ℕ) (s : Surd) {b : ℕ} (passes : 0 ≡ refusal_of w) (is : ticket_of w ≡ ticket_with s b) (d e : ℕ) (u v : List ℕ) where
-  pub first_refused : (y : Pair ℕ) {r : Refusal} → ((k : ℕ) → number_of r ≡ pair_refusal (ticket_with s k) (pair_of u v)) → ResultSays (Err r) (giant_answer w (pair_of u v) d y e)
-  first_refused y {r} h = pairs_refused w (pair_of u v) d y e (sym passes) is (first_wrong (ticket_with s b) (pair_of u v) y (number_some r) (h b))
-
-  module _ {x : Ideal} (first : Paired s u v x) (u' v' : List ℕ) where
-    pub second_refused : {r : Refusal} → ((k : ℕ) → number_of r ≡ pair_refusal (ticket_with s k) (pair_of u' v')) → ResultSays (Err r) (giant_answer w (pair_of u v) d (pair_of u' v') e)
-    second_refused {r} h = pairs_refused w (pair_of u v) d (pair_of u' v') e (sym passes) is (second_wrong (ticket_with s b) (pair_of u v) (pair_of u' v') (number_some r) (first.passes b) (h b))
-
-    module _ {y : Ideal} (second : Paired s u' v' y) where
-      pub far_refused : {r : Refusal} → wrong_distance d e ≡ true → number_of r ≡ 10 → ResultSays (Err r) (giant_answer w (pair_of u v) d (pair_of u' v') e)
-      far_refused h k = distances_refused w (pair_of u v) d (pair_of u' v') e (sym passes) is (pairs_right first second b) h k
-
-      -- the giant step, which depends on the pairs' polynomials alone
-      done : {z : Ideal} {to : Shift} → Stepped s x d y e z to → {i j : ℤ} → i ≡ to.f → j ≡ to.distance → ResultSays (Ok (record { ideal = z; f = i; distance = j })) (giant_done (ticket_with s b) (pair_of u v) d (pair_of u' v') e)
-      unfolding giant_done
-      done {z} m f_is distance_is =
-          says_path (giant_same (ticket_with s b) (pair_of u v) (pair_of u' v') _ _ (sym (paired_product first second)) d e)
-          (record { number_is = refl; giant_step_is = record { q_is = holds {a = z.q} (m.q_is b); p_is = holds {a = z.p} (m.p_is b); f_is = f_is ∙ m.f_is b; distance_is = distance_is ∙ m.distance_is b }; zeros = tt })
-
-      pub stepped : wrong_distance d e ≡ false → {z : Ideal} {to : Shift} → Stepped s x d y e z to → {i j : ℤ} → i ≡ to.f → j ≡ to.distance → ResultSays (Ok (record { ideal = z; f = i; distance = j })) (giant_answer w (pair_of u v) d (pair_of u' v') e)
-      stepped near m f_is distance_is = says_path (distances_done w (pair_of u v) d (pair_of u' v') e (sym passes) is (pairs_right first second b) near) (done m f_is distance_is)
+    pub stepped : wrong_distance d e ≡ false → {z : Ideal} {to : Shift} → Stepped o.surd o.x d o.y e z to → GiantStepSays (Ok (record { ideal = z; shift = to })) (giant_answer w x d y e)
+    stepped near m = says_path (tested ∙ ap (by_distances (ticket_with o.surd t.budget)) near) (done m)

@@ -3,88 +3,72 @@
 
 ghost use Rattle.std.specs.Prelude.{◌≡◌, length};
 ghost use Rattle.spec_definitions.specs.Products.{giant_answer, wrong_distance};
-ghost use Rattle.ideal_pair.specs.Pair.{pair_of};
-ghost use Rattle.call_giant_step.specs.GiantSteps.{GiantStepSays, ResultSays};
+ghost use Rattle.ideal_pair.specs.Pair.{words_of};
+ghost use Rattle.call_giant_step.specs.GiantSteps.{GiantStepSays};
 
+use base_answers::Answer;
 use base_counters::Distance;
-use base_polynomial::Poly;
+use base_ideal::Ideal;
 use base_refusals::Refusal;
-use ideal_descend::root::Root;
+use call_product::Pair;
+use call_product::operands::read_operands;
 use ideal_giant::FARTHEST;
+pub use ideal_giant::Shift;
 use ideal_giant::step::giant;
-use ideal_operand::Ideal;
-use ideal_pair::pair;
-use ticket_read::read_ticket;
+use walk_state::root::Root;
 
 // The giant step of two ideals: the reduced ideal (Q, P), f and the distance.
 #[derive(Clone, Copy)]
 pub struct GiantStep {
     pub ideal: Ideal,
-    pub f: i64,
-    pub distance: i64,
+    pub shift: Shift,
 }
 
 // The number of words handed in, and the giant step or a refusal.
-#[derive(Clone, Copy)]
-pub struct GiantStepAnswer {
-    pub words: u64,
-    pub result: Result<GiantStep, Refusal>,
-}
+pub type GiantStepAnswer = Answer<Result<GiantStep, Refusal>>;
 
 // A distance is above the largest.
+#[tactic(auto, unfolding(spec_definitions::specs::Products::wrong_distance))]
 fn far(d1: Distance, d2: Distance) -> bool
     ensures { result ≡ wrong_distance d1.0 d2.0 }
 {
-    d1.0 > FARTHEST || d2.0 > FARTHEST
+    d1 > FARTHEST || d2 > FARTHEST
 }
 
 // The giant step of two pairs of any words for a ticket of any words, each tested, and so are the distances.
 fn stepped(
     ticket: &[u32],
-    q1: &[u32],
-    p1: &[u32],
+    x: Pair<'_>,
     d1: Distance,
-    q2: &[u32],
-    p2: &[u32],
+    y: Pair<'_>,
     d2: Distance,
 ) -> Result<GiantStep, Refusal>
-    ensures { ResultSays result (giant_answer ticket.now (pair_of q1.now p1.now) d1.0 (pair_of q2.now p2.now) d2.0) }
+    ensures { GiantStepSays result (giant_answer ticket.now (words_of x.entry) d1.0 (words_of y.entry) d2.0) }
 {
-    let t = read_ticket(ticket)?;
-    let x = pair(&t.surd, q1, p1)?;
-    let y = pair(&t.surd, q2, p2)?;
+    let o = read_operands(ticket, x, y)?;
     if far(d1, d2) {
         return Err(Refusal::Distance);
     }
-    let r = Root::new(&t.surd);
-    let mut ideal = Ideal {
-        q: Poly::zero(),
-        p: Poly::zero(),
-    };
-    let shift = giant(&r, &x, d1, &y, d2, &mut ideal);
-    Ok(GiantStep {
-        ideal,
-        f: shift.f,
-        distance: shift.distance,
-    })
+    let r = Root::new(&o.surd);
+    let mut ideal = Ideal::zeros();
+    let shift = giant(&r, &o.x, d1, &o.y, d2, &mut ideal);
+    Ok(GiantStep { ideal, shift })
 }
 
 // The giant step of two ideals for a ticket of any words and any length; the pairs are lists of any words and
 // any length. The ticket's budget has no effect.
 pub fn giant_step(
     ticket: &[u32],
-    q1: &[u32],
-    p1: &[u32],
+    x: Pair<'_>,
     d1: Distance,
-    q2: &[u32],
-    p2: &[u32],
+    y: Pair<'_>,
     d2: Distance,
 ) -> GiantStepAnswer
     ensures words { result.words ≡ length ticket.now }
-    ensures says { GiantStepSays result (giant_answer ticket.now (pair_of q1.now p1.now) d1.0 (pair_of q2.now p2.now) d2.0) }
+    ensures says { GiantStepSays result.outcome (giant_answer ticket.now (words_of x.entry) d1.0 (words_of y.entry) d2.0) }
 {
-    GiantStepAnswer {
+    Answer {
         words: ticket.len() as u64,
-        result: stepped(ticket, q1, p1, d1, q2, p2, d2),
+        outcome: stepped(ticket, x, d1, y, d2),
     }
 }

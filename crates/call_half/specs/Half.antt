@@ -24,12 +24,12 @@ module _ (w : List ℕ) where
   refused_half zero e h = absurd (h refl)
   refused_half (suc j) e h = sym (demands.refused_half w j (sym e))
 
-  pub accepted_half : {t : code.Ticket} (x : HalfOutcome) → Accepted w t → x ≡ half_of (ticket_with t.surd t.budget) → x ≡ words_half w
+  pub accepted_half : {t : code.Ticket} (x : HalfOutcome) → Accepted w t → x ≡ half_of (ticket_with t.surd t.budget.steps) → x ≡ words_half w
   accepted_half x a e = e ∙ ap half_of (sym a.ticket_is) ∙ sym (past_half w a.passes)
 
-  pub half_said_lem : (x : HalfOutcome) → x ≡ words_half w → half_said x ≡ half_answer w
+  pub half_outcome_said : (x : HalfOutcome) → x ≡ words_half w → half_said x ≡ half_answer w
   unfolding half_answer
-  half_said_lem x e = ap half_said e
+  half_outcome_said x e = ap half_said e
 
   -- what is said fixes the outcome, and T3 holds of it
   pub least_half : (x : HalfOutcome) → half_said x ≡ half_answer w → LeastHalf w x

@@ -7,10 +7,14 @@ ghost use Rattle.spec_half.specs.HalfWalk.{LeastHalf};
 ghost use Rattle.walk_half.specs.Outcome.{half_meaning};
 ghost use Rattle.call_half.specs.Half.{HalfOutcomeOf};
 
+use base_answers::Answer;
 use base_refusals::Refusal;
 use ticket_read::{Ticket, read_ticket};
+pub use walk_half::HalfOutcome;
 use walk_half::run_half;
-pub use walk_half::{HalfAnswer, HalfOutcome};
+
+// The number of words handed in, and one of three outcomes.
+pub type HalfAnswer = Answer<HalfOutcome>;
 
 // The outcome of words that are read as a ticket or refused: what half its walk finds within its budget, or the
 // refusal.
@@ -19,7 +23,7 @@ fn half_outcome(read: Result<Ticket, Refusal>) -> HalfOutcome
 {
     match read {
         Ok(t) => run_half(&t.surd, t.budget),
-        Err(refusal) => HalfOutcome::Refused(refusal.into()),
+        Err(refusal) => refusal.into(),
     }
 }
 
@@ -29,7 +33,7 @@ pub fn half(ticket: &[u32]) -> HalfAnswer
     ensures says { half_said (half_meaning result.outcome) ≡ half_answer ticket.now }
     ensures least { LeastHalf ticket.now (half_meaning result.outcome) }
 {
-    HalfAnswer {
+    Answer {
         words: ticket.len() as u64,
         outcome: half_outcome(read_ticket(ticket)),
     }

@@ -4,15 +4,15 @@
 
 ghost use Rattle.std.specs.Prelude.{◌≡◌, length};
 ghost use Rattle.spec_ideal_at.specs.Halving.{ideal_at_answer};
-ghost use Rattle.call_ideal_at.specs.IdealsAt.{IdealAtSays, ResultSays};
+ghost use Rattle.call_ideal_at.specs.IdealsAt.{IdealAtSays};
 
+use base_answers::Answer;
 use base_counters::Distance;
-use base_polynomial::Poly;
+use base_ideal::Ideal;
 use base_refusals::Refusal;
 use ideal_at::ideal_below;
 use ideal_climb::next_distance;
 use ideal_giant::FARTHEST;
-use ideal_operand::Ideal;
 use ticket_read::read_ticket;
 
 // The ideal (Q, P) at or below a distance, its own distance and that of the next.
@@ -24,24 +24,17 @@ pub struct IdealAt {
 }
 
 // The number of words handed in, and the ideal or a refusal.
-#[derive(Clone, Copy)]
-pub struct IdealAtAnswer {
-    pub words: u64,
-    pub result: Result<IdealAt, Refusal>,
-}
+pub type IdealAtAnswer = Answer<Result<IdealAt, Refusal>>;
 
 // The ideal at or below the distance y for a ticket of any words, which is tested, and so is y.
 fn below(ticket: &[u32], y: Distance) -> Result<IdealAt, Refusal>
-    ensures { ResultSays result (ideal_at_answer ticket.now y.0) }
+    ensures { IdealAtSays result (ideal_at_answer ticket.now y.0) }
 {
     let t = read_ticket(ticket)?;
-    if y.0 > FARTHEST {
+    if y > FARTHEST {
         return Err(Refusal::Distance);
     }
-    let mut ideal = Ideal {
-        q: Poly::zero(),
-        p: Poly::zero(),
-    };
+    let mut ideal = Ideal::zeros();
     let distance = ideal_below(&t.surd, y, &mut ideal);
     let next = next_distance(&t.surd, ideal.q.size, distance);
     Ok(IdealAt {
@@ -54,10 +47,10 @@ fn below(ticket: &[u32], y: Distance) -> Result<IdealAt, Refusal>
 // The ideal at or below the distance y for a ticket of any words and any length. The ticket's budget has no effect.
 pub fn ideal_at(ticket: &[u32], y: Distance) -> IdealAtAnswer
     ensures words { result.words ≡ length ticket.now }
-    ensures says { IdealAtSays result (ideal_at_answer ticket.now y.0) }
+    ensures says { IdealAtSays result.outcome (ideal_at_answer ticket.now y.0) }
 {
-    IdealAtAnswer {
+    Answer {
         words: ticket.len() as u64,
-        result: below(ticket, y),
+        outcome: below(ticket, y),
     }
 }

@@ -5,17 +5,18 @@ use Rattle.std.proofs.Math.Path.{subst}
 use Rattle.spec_definitions.specs.Ticket.{Ticket, ticket_of}
 use Rattle.spec_definitions.specs.Answers.{Outcome, found, spent, refused, words_outcome}
 use Rattle.spec_definitions.specs.Listing.{listing_from, listing_answer}
+use Rattle.walk_run.specs.Found.{NotFound}
 use Rattle.listing_found.specs.Answers.{Answers}
 
 -- an outcome that is not found is the answer, and the list keeps every word
-pub kept : (t : Ticket) (x : Outcome) (l : List ℕ) → ((R m c : ℕ) → x ≡ found R m c → ⊥) → Answers (listing_from t x l) x l
+pub kept : (t : Ticket) (x : Outcome) (l : List ℕ) → NotFound x → Answers (listing_from t x l) x l
 unfolding listing_from
 kept t (found R m c) l h = absurd (h R m c refl)
 kept t (spent k e) l h = record { says = refl; list = refl }
 kept t (refused j) l h = record { says = refl; list = refl }
 
-pub kept_refused : (t : Ticket) (j : ℕ) (l : List ℕ) → Answers (listing_from t (refused j) l) (refused j) l
-kept_refused t j l = kept t (refused j) l (λ R m c e. let v : ◌≡◌ {A = ℕ} 0 1 = cc in omega arith)
+pub kept_refused : (t : Ticket) (x : Outcome) (j : ℕ) (l : List ℕ) → x ≡ refused j → Answers (listing_from t x l) x l
+kept_refused t x j l e = kept t x l (λ R m c f. let v : ◌≡◌ {A = ℕ} 0 1 = cc in omega arith)
 
 -- the outcome goes by its meaning
 pub from_outcome : (t : Ticket) (l : List ℕ) (x y z : Outcome) {out : List ℕ} → x ≡ z → Answers (listing_from t x l) y out → Answers (listing_from t z l) y out

@@ -11,24 +11,24 @@ ghost use Rattle.walk_outcome.specs.Outcome.{meaning};
 ghost use Rattle.listing_found.specs.Answers.{Answers};
 ghost use Rattle.call_regulator.specs.Regulator.{IsReadAs};
 
+use base_answers::Answer;
 use base_refusals::Refusal;
 use listing_found::list_found;
 use ticket_read::{Ticket, read_ticket};
-use walk_outcome::{Answer, Outcome};
-use walk_seek::seek;
+use walk_outcome::Outcome;
+use walk_run::search;
 use walk_state::Walk;
 
 // The listing of a ticket that is not refused.
 fn listing_of(t: &Ticket, out: &mut [u32]) -> Outcome
-    ensures { Answers (listing_from (ticket_with t.now.surd t.now.budget) (outcome_of (ticket_with t.now.surd t.now.budget)) out.old) (meaning result) out.new }
+    ensures { Answers (listing_from (ticket_with t.now.surd t.now.budget.steps) (outcome_of (ticket_with t.now.surd t.now.budget.steps)) out.old) (meaning result) out.new }
 {
     let mut inverses = [0u32; 4096];
     let w = Walk::new(&t.surd, &mut inverses);
-    let outcome = seek(&w, t.budget);
-    let Outcome::Found(r, m, c) = outcome else {
-        return outcome;
-    };
-    list_found(&w, t.budget, r, m, c, out)
+    match search(&w, t.budget) {
+        Ok(found) => list_found(&found, out),
+        Err(outcome) => outcome,
+    }
 }
 
 // The listing of words that are read as a ticket or refused.
@@ -37,12 +37,12 @@ fn listing_outcome(read: Result<Ticket, Refusal>, out: &mut [u32]) -> Outcome
 {
     match read {
         Ok(t) => listing_of(&t, out),
-        Err(refusal) => Outcome::Refused(refusal.into()),
+        Err(refusal) => refusal.into(),
     }
 }
 
 // The listing of a ticket of any words and any length, in a lent list of any length.
-pub fn listing(ticket: &[u32], out: &mut [u32]) -> Answer
+pub fn listing(ticket: &[u32], out: &mut [u32]) -> Answer<Outcome>
     ensures words { result.words ≡ length ticket.now }
     ensures says { said (meaning result.outcome) ≡ (listing_answer ticket.now out.old).says }
     ensures list { out.new ≡ (listing_answer ticket.now out.old).list }

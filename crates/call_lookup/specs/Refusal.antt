@@ -2,9 +2,9 @@
 -- distances.
 use Rattle.std.specs.Prelude.{ℕ, ◌+◌, ◌-◌, ◌%◌, ◌≡◌, refl, Bool, true, false, not, ◌||◌, ◌&&◌, List, eqb, length}
 use Rattle.std.proofs.Common.{arith}
+use Rattle.std.proofs.lemmas.Bool.{or_parts}
 use borrow.Author.Tests.{eq-eqb, ne_eqb, eqb-true, eqb-false, not-false}
 use Rattle.spec_definitions.specs.Lookup.{wrong_listing, right_kinds, rising, record_count, distance_at}
-use Rattle.spec_laws.specs.FirstTest.{neither}
 use Rattle.listing_whole.specs.Records.{Records}
 
 module _ (l : List ℕ) (n : ℕ) where
@@ -28,8 +28,8 @@ module _ (l : List ℕ) (n : ℕ) where
   records_of : wrong_listing l n ≡ false → Records l n
   unfolding wrong_listing
   records_of h =
-      let a = neither _ _ (first_of _ _ h) in
-      let b = neither _ _ a.0 in
+      let a = or_parts _ _ (first_of _ _ h) in
+      let b = or_parts _ _ a.0 in
       let z : length l ≡ 0 → ⊥ = eqb-false (length l) 0 b.1 in
       record { degree = b.0; some = omega arith; whole = eqb-true (length l % (n + 4)) 0 (not-false _ a.1) }
 

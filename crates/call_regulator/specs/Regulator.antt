@@ -3,7 +3,7 @@
 use Prim.Native.Nat.{ℕ, zero, suc}
 use Rattle.std.proofs.Common.{arith, sym, ◌∙◌, subst}
 use Rattle.std.proofs.Math.Path.{◌≡◌, refl, ap}
-use Rattle.std.specs.Prelude.{List, Result, Ok, Err, IfOk}
+use Rattle.std.specs.Prelude.{List, Result, IfOk}
 use Rattle.spec_definitions.specs.Ticket.{ticket_of, refusal_of}
 use Rattle.spec_definitions.specs.Answers.{Outcome, refused, said, said_injective, outcome_of, words_outcome, regulator_of}
 use Rattle.spec_demands.specs.LeastDegree.{Least}
@@ -17,7 +17,7 @@ use Rattle.ticket_read.specs.Accepted.{Accepted}
 -- the words w are read as r says
 pub record IsReadAs (w : List ℕ) (r : Result code.Ticket Refusal) : Type 0 where
   pub refused : refused_by r ≡ refusal_of w
-  pub read : IfOk r (λ t. ticket_of w ≡ ticket_with t.surd t.budget)
+  pub read : IfOk r (λ t. ticket_of w ≡ ticket_with t.surd t.budget.steps)
 
 -- x is the outcome of all words that are read as r says
 abbrev pub OutcomeOf : Result code.Ticket Refusal → Outcome → Type 0
@@ -32,7 +32,7 @@ module _ (w : List ℕ) where
       go zero z = absurd (h z)
       go (suc j) z = ap refused z
 
-  pub accepted_outcome : {t : code.Ticket} (x : Outcome) → Accepted w t → x ≡ outcome_of (ticket_with t.surd t.budget) → x ≡ words_outcome w
+  pub accepted_outcome : {t : code.Ticket} (x : Outcome) → Accepted w t → x ≡ outcome_of (ticket_with t.surd t.budget.steps) → x ≡ words_outcome w
   unfolding words_outcome
   accepted_outcome x a e = e ∙ ap outcome_of (sym a.ticket_is) ∙ go (refusal_of w) a.passes
     where

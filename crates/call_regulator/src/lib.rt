@@ -7,9 +7,9 @@ ghost use Rattle.spec_demands.specs.LeastDegree.{Least};
 ghost use Rattle.walk_outcome.specs.Outcome.{meaning};
 ghost use Rattle.call_regulator.specs.Regulator.{OutcomeOf};
 
+use base_answers::Answer;
 use base_refusals::Refusal;
 use ticket_read::{Ticket, read_ticket};
-pub use walk_outcome::Answer;
 use walk_outcome::Outcome;
 use walk_run::run;
 
@@ -19,12 +19,12 @@ pub fn outcome_of(read: Result<Ticket, Refusal>) -> Outcome
 {
     match read {
         Ok(t) => run(&t.surd, t.budget),
-        Err(refusal) => Outcome::Refused(refusal.into()),
+        Err(refusal) => refusal.into(),
     }
 }
 
 // The regulator of a ticket of any words and any length.
-pub fn regulator(ticket: &[u32]) -> Answer
+pub fn regulator(ticket: &[u32]) -> Answer<Outcome>
     ensures words { result.words ≡ length ticket.now }
     ensures says { said (meaning result.outcome) ≡ regulator_of ticket.now }
     ensures least { Least ticket.now (meaning result.outcome) }

@@ -8,7 +8,7 @@ use Rattle.std.proofs.Math.Seq.{append_snoc, set-append_seam}
 use Rattle.spec_arithmetic.specs.Words.{value}
 use Rattle.spec_definitions.specs.Answers.{Outcome, refused, words_outcome}
 use Rattle.spec_several.specs.Several.{most_primes, degree_of, several_refusal, job_words, several_of, sixteen_places}
-use Rattle.spec_several.proofs.Laws.{several_refused, most_primes_lem, length_words, count_outcomes, outcome_at_lem}
+use Rattle.spec_several.proofs.Laws.{several_refused, primes_most, length_words, count_outcomes, several_outcome}
 use Rattle.walk_outcome.specs.Outcome.{meaning}
 use Rattle.walk_outcome.specs.declared.Outcome as code
 use Rattle.call_regulators.specs.Regulators.{meanings}
@@ -50,7 +50,7 @@ refused_only w (suc j) e h = several_refused w j (sym e)
 
 module _ (w : List ℕ) (none : several_refusal w ≡ 0) where
   pub count_most : length (several_of w) ≤ most_primes
-  count_most = omega (arith, count_outcomes w none, most_primes_lem w none)
+  count_most = omega (arith, count_outcomes w none, primes_most w none)
 
   pub words_are : length w ≡ value (get_or w 0 0) + 4 + length (several_of w)
   unfolding degree_of
@@ -80,7 +80,7 @@ module _ (w : List ℕ) (none : several_refusal w ≡ 0) where
   next_outcome i h =
       rw add-one
       (take-suc (several_of w) i (refused 0) h
-      ∙ ap (λ (x : Outcome). take i (several_of w) ++ (x ∷ [])) (outcome_at_lem w none i (omega (arith, count_outcomes w none)) (refused 0)))
+      ∙ ap (λ (x : Outcome). take i (several_of w) ++ (x ∷ [])) (several_outcome w none i (omega (arith, count_outcomes w none)) (refused 0)))
 
   -- place i gets the outcome at the prime q in word i after the budget
   pub filled_more : (places : List code.Outcome) (x : code.Outcome) {n q : ℕ} (i : ℕ) → i < length (several_of w) →

@@ -51,7 +51,7 @@ fn refused_ticket(refusal: Refusal, ticket: &[u32]) -> SeveralAnswer
     ensures { Answers ticket.now result }
 {
     let mut places = [NO_OUTCOME; 16];
-    places[0] = Outcome::Refused(refusal.into());
+    places[0] = refusal.into();
     SeveralAnswer {
         words: ticket.len() as u64,
         count: 1,

@@ -7,17 +7,18 @@ use Rattle.spec_definitions.specs.Answers.{Outcome, found, spent, refused, words
 use Rattle.spec_definitions.specs.Units.{Lists, unit_from, unit_answer}
 use Rattle.spec_demands.specs.LeastAnswers.{LeastWritten}
 use Rattle.spec_demands.proofs.LeastAnswers.{t3_written}
+use Rattle.walk_run.specs.Found.{NotFound}
 use Rattle.unit_found.specs.Answers.{Answers}
 
 -- an outcome that is not found is the answer, and every list keeps every place
-pub kept : (t : Ticket) (x : Outcome) (l : Lists) → ((R m c : ℕ) → x ≡ found R m c → ⊥) → Answers (unit_from t x l) x l
+pub kept : (t : Ticket) (x : Outcome) (l : Lists) → NotFound x → Answers (unit_from t x l) x l
 unfolding unit_from
 kept t (found R m c) l h = absurd (h R m c refl)
 kept t (spent k e) l h = record { says = refl; lists_are = refl }
 kept t (refused j) l h = record { says = refl; lists_are = refl }
 
-pub kept_refused : (t : Ticket) (j : ℕ) (l : Lists) → Answers (unit_from t (refused j) l) (refused j) l
-kept_refused t j l = kept t (refused j) l (λ R m c e. let v : ◌≡◌ {A = ℕ} 0 1 = cc in omega arith)
+pub kept_refused : (t : Ticket) (x : Outcome) (j : ℕ) (l : Lists) → x ≡ refused j → Answers (unit_from t x l) x l
+kept_refused t x j l e = kept t x l (λ R m c f. let v : ◌≡◌ {A = ℕ} 0 1 = cc in omega arith)
 
 -- the outcome goes by its meaning
 pub from_outcome : (t : Ticket) (l : Lists) (x y z : Outcome) {out : Lists} → x ≡ z → Answers (unit_from t x l) y out → Answers (unit_from t z l) y out

@@ -12,27 +12,33 @@ ghost use Rattle.walk_outcome.specs.Outcome.{meaning};
 ghost use Rattle.unit_room.specs.Room.{lists};
 ghost use Rattle.unit_found.specs.Answers.{Answers};
 
+use base_answers::Answer;
 use ticket_read::{Ticket, read_ticket};
 use unit_found::unit_found;
-use walk_outcome::{Answer, Outcome};
-use walk_seek::seek;
+use walk_outcome::Outcome;
+use walk_run::search;
 use walk_state::Walk;
 
 // The unit of a ticket that is not refused.
 fn unit_of(t: &Ticket, p: &mut [u32], s: &mut [u32], x: &mut [u32], y: &mut [u32]) -> Outcome
-    ensures { Answers (unit_from (ticket_with t.now.surd t.now.budget) (outcome_of (ticket_with t.now.surd t.now.budget)) (lists p.old s.old x.old y.old)) (meaning result) (lists p.new s.new x.new y.new) }
+    ensures { Answers (unit_from (ticket_with t.now.surd t.now.budget.steps) (outcome_of (ticket_with t.now.surd t.now.budget.steps)) (lists p.old s.old x.old y.old)) (meaning result) (lists p.new s.new x.new y.new) }
 {
     let mut inverses = [0u32; 4096];
     let w = Walk::new(&t.surd, &mut inverses);
-    let outcome = seek(&w, t.budget);
-    let Outcome::Found(r, m, c) = outcome else {
-        return outcome;
-    };
-    unit_found(&w, r, m, c, p, s, x, y)
+    match search(&w, t.budget) {
+        Ok(found) => unit_found(&found, p, s, x, y),
+        Err(outcome) => outcome,
+    }
 }
 
 // The unit of a ticket of any words and any length, in four lent lists of any lengths.
-pub fn unit(ticket: &[u32], p: &mut [u32], s: &mut [u32], x: &mut [u32], y: &mut [u32]) -> Answer
+pub fn unit(
+    ticket: &[u32],
+    p: &mut [u32],
+    s: &mut [u32],
+    x: &mut [u32],
+    y: &mut [u32],
+) -> Answer<Outcome>
     ensures words { result.words ≡ length ticket.now }
     ensures says { said (meaning result.outcome) ≡ (unit_answer ticket.now (lists p.old s.old x.old y.old)).says }
     ensures lists { lists p.new s.new x.new y.new ≡ (unit_answer ticket.now (lists p.old s.old x.old y.old)).lists }
@@ -40,7 +46,7 @@ pub fn unit(ticket: &[u32], p: &mut [u32], s: &mut [u32], x: &mut [u32], y: &mut
 {
     let outcome = match read_ticket(ticket) {
         Ok(t) => unit_of(&t, p, s, x, y),
-        Err(refusal) => Outcome::Refused(refusal.into()),
+        Err(refusal) => refusal.into(),
     };
     Answer {
         words: ticket.len() as u64,

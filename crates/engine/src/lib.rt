@@ -2,11 +2,13 @@
 // answer, and every lent list is said at exit.
 #![tactic(auto)]
 
+pub use base_answers::Answer;
 pub use base_counters::{Distance, Index};
 pub use base_polynomial::Poly;
 pub use base_refusals::Refusal;
 pub use call_lookup::lookup;
-pub use call_regulator::{Answer, regulator};
+pub use call_product::Pair;
+pub use call_regulator::regulator;
 pub use walk_outcome::Outcome;
 
 pub mod regulators {
@@ -30,7 +32,7 @@ pub mod product {
 }
 
 pub mod giant_step {
-    pub use call_giant_step::{GiantStep, GiantStepAnswer, giant_step};
+    pub use call_giant_step::{GiantStep, GiantStepAnswer, Shift, giant_step};
 }
 
 pub mod at_distance {

@@ -7,6 +7,7 @@ ghost use Rattle.out_polynomials.specs.GiantSteps.{GiantStepWritten};
 ghost use Rattle.out_polynomials.specs.Products.{ProductWritten};
 
 use base_counters::Distance;
+use engine::Pair;
 use engine::giant_step::giant_step;
 use engine::product::product;
 use out_polynomials::{GiantStepNumbers, ProductNumbers, put_giant_step, put_product};
@@ -26,7 +27,9 @@ pub extern "C" fn foskadoin_product(
     ensures words { result.words ≡ length ticket.now }
     ensures says { ProductWritten result s.new q.new p.new (product_answer ticket.now (pair_of q1.now p1.now) (pair_of q2.now p2.now)) }
 {
-    let a = product(ticket, q1, p1, q2, p2);
+    let x = Pair { q: q1, p: p1 };
+    let y = Pair { q: q2, p: p2 };
+    let a = product(ticket, x, y);
     put_product(a, s, q, p)
 }
 
@@ -46,6 +49,8 @@ pub extern "C" fn foskadoin_giant_step(
     ensures words { result.words ≡ length ticket.now }
     ensures says { GiantStepWritten result q.new p.new (giant_answer ticket.now (pair_of q1.now p1.now) d1 (pair_of q2.now p2.now) d2) }
 {
-    let a = giant_step(ticket, q1, p1, Distance(d1), q2, p2, Distance(d2));
+    let x = Pair { q: q1, p: p1 };
+    let y = Pair { q: q2, p: p2 };
+    let a = giant_step(ticket, x, Distance(d1), y, Distance(d2));
     put_giant_step(a, q, p)
 }

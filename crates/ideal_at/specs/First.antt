@@ -20,7 +20,7 @@ use Rattle.base_polynomial.specs.declared.Poly.{Poly}
 use Rattle.base_polynomial.specs.Over.{Is, Holds}
 use Rattle.base_surd.specs.declared.Surd.{Surd}
 use Rattle.base_surd.specs.Surd.{name, D, ticket_with}
-use Rattle.ideal_operand.specs.declared.Ideal.{Ideal}
+use Rattle.base_ideal.specs.declared.Ideal.{Ideal}
 use Rattle.ideal_climb.specs.Located.{IsLast}
 
 one_list : (l : List ℕ) → length l ≡ 1 → get_or l 0 0 ≡ 1 → l ≡ 1 ∷ []

@@ -1,6 +1,6 @@
 -- From the last ideal for y div 2 to that for y: what a giant step with itself asks for, and where it lands, an ideal of
 -- the walk at a distance of at most y.
-use Rattle.std.specs.Prelude.{ℕ, ◌/◌, ◌≤◌, ◌≡◌, List, T, ℤ, pos, nat_abs}
+use Rattle.std.specs.Prelude.{ℕ, ◌/◌, ◌≤◌, ◌≡◌, T, ℤ, pos, nat_abs}
 use Rattle.std.proofs.Common.{arith, sym, ap, ap₂, ◌∙◌, subst, Fits, to_z, of_z}
 use Rattle.std.specs.Int.Signed.{non_neg}
 use Rattle.std.specs.Int.{w64}
@@ -17,7 +17,7 @@ use Rattle.base_counters.specs.declared.Distance.{Distance}
 use Rattle.base_polynomial.specs.Over.{Is}
 use Rattle.base_surd.specs.declared.Surd.{Surd}
 use Rattle.base_surd.specs.Surd.{name, ticket_with}
-use Rattle.ideal_operand.specs.declared.Ideal.{Ideal}
+use Rattle.base_ideal.specs.declared.Ideal.{Ideal}
 use Rattle.ideal_operand.specs.Ideal.{Operand, held_pair}
 use Rattle.ideal_giant.specs.declared.Shift.{Shift}
 use Rattle.ideal_giant.specs.Stepped.{Stepped}

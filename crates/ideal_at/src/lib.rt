@@ -9,12 +9,11 @@ ghost use Rattle.base_polynomial.specs.Whole.{Holds};
 ghost use Rattle.ideal_climb.specs.Located.{IsLast};
 
 use base_counters::Distance;
-use base_polynomial::Poly;
+use base_ideal::Ideal;
 use base_surd::Surd;
 use ideal_climb::climb;
-use ideal_descend::root::Root;
 use ideal_giant::step::giant;
-use ideal_operand::Ideal;
+use walk_state::root::Root;
 
 // How many binary digits y has.
 fn digits(y: Distance) -> u32
@@ -28,10 +27,9 @@ fn digits(y: Distance) -> u32
 fn first(z: &mut Ideal)
     ensures { Holds z.new.q (1 ∷ []) × Holds z.new.p [] }
 {
-    z.q = Poly::zero();
+    *z = Ideal::zeros();
     z.q.c[0] = 1;
     z.q.size = 1;
-    z.p = Poly::zero();
 }
 
 // z becomes the last ideal at a distance of at most y, from the last one for y div 2, which it holds, at the distance
@@ -41,10 +39,7 @@ fn from_half(r: &Root, z: &mut Ideal, at: Distance, y: Distance) -> Distance
     requires y_le_farthest { y.0 ≤ farthest }
     ensures { IsLast r.now.surd y.0 z.new result }
 {
-    let mut a = Ideal {
-        q: Poly::zero(),
-        p: Poly::zero(),
-    };
+    let mut a = Ideal::zeros();
     let t = giant(r, z, at, z, at, &mut a);
     climb(r, &mut a, Distance(t.distance as u64), y, z)
 }

@@ -1,14 +1,14 @@
 -- Single steps from the ideal of an index i of the endless walk: after j of them the arrays are those of the steps
 -- from that ideal, and the ideal and the distance are those of index i + j. What a step asks for and what it
 -- leaves; where the steps start, and the ideal that they end in.
-use Prim.Native.Nat.{ℕ, zero, suc, ◌+◌, ◌-◌, ◌/◌, ◌≤◌, ◌<◌}
+use Prim.Native.Nat.{ℕ, zero, suc, ◌+◌, ◌-◌, ◌≤◌, ◌<◌}
 use Rattle.std.proofs.Common.{zero-add, suc-add, sym, ◌∙◌, subst}
 use native.Mathlib.Omega.{arith}
 use Rattle.std.specs.Prelude.{◌≡◌, List, get_or}
 use Rattle.std.proofs.Math.Path.{ap, ap₂}
 use Rattle.std.proofs.Math.ListN.{length, get_or-eq_default}
 use Rattle.spec_arithmetic.specs.Field.{FieldName, ops}
-use Rattle.spec_arithmetic.specs.Polynomials.{trim, pad, monic, add, sub, rem}
+use Rattle.spec_arithmetic.specs.Polynomials.{trim, monic, sub, rem}
 use Rattle.spec_definitions.specs.Ticket.{Ticket, genus, ticket}
 use Rattle.spec_definitions.specs.Walk.{Ideal as Pair, steps}
 use Rattle.spec_definitions.specs.Answers.{root_of}
@@ -27,11 +27,10 @@ use Rattle.base_surd.specs.Surd as surds
 use Rattle.base_surd.specs.Surd.{ticket_with}
 use Rattle.walk_step.specs.Step.{Ready, Stepped}
 use Rattle.walk_state.specs.State.{root_d}
-use Rattle.walk_state.specs.Start.{top_is}
-use Rattle.ideal_operand.specs.declared.Ideal.{Ideal}
+use Rattle.base_ideal.specs.declared.Ideal.{Ideal}
 use Rattle.ideal_operand.specs.Operand.{held_pair, M, operand_q, operand_p, operand_ideal, operand_q_size, operand_p_size}
-use Rattle.ideal_descend.specs.declared.root.Root.{Root}
-use Rattle.ideal_descend.specs.Root as roots
+use Rattle.walk_state.specs.declared.root.Root.{Root}
+use Rattle.walk_state.specs.Root as roots
 use Rattle.ideal_descend.specs.Recurrence.{left}
 use Rattle.ideal_descend.specs.Stands.{Stands, Begun}
 use Rattle.ideal_descend.proofs.Stands.{root_length, left_less, padded_at, rest_reduced, ready, stands_next, q_held, difference_is}
@@ -42,7 +41,7 @@ use Rattle.ideal_climb.specs.Located.{IsAt, IsLast, on_walk_operand, on_walk_pai
 pub record Turned (r : Root) (before_poly current : Poly) (rest : List ℕ) (before' current' : Poly) (rest' : List ℕ) (at to : Distance) : Type 0 where
   pub moved : before' ≡ current
   pub stepped : Stepped (roots.name r) r.twice before_poly.c current.c rest rest' current'.c current'.size
-  pub distance_is : to.0 ≡ at.0 + (r.surd.n / 2 + 1 - current.size)
+  pub distance_is : to.0 ≡ at.0 + (roots.top r - current.size)
 
 -- the steps stand so many `turns` past the index `from`, with the distance reached
 pub record Climbs (r : Root) (before_poly current : Poly) (rest : List ℕ) (at : Distance) : Type 0 where
@@ -83,6 +82,9 @@ module _ {r : Root} {before_poly current : Poly} {rest : List ℕ} {at : Distanc
   abbrev n : ℕ
   n = r.surd.n
 
+  abbrev top : ℕ
+  top = roots.top r
+
   abbrev f : FieldName
   f = roots.name r
 
@@ -104,33 +106,29 @@ module _ {r : Root} {before_poly current : Poly} {rest : List ℕ} {at : Distanc
   abbrev begun : Begun h (ideal T' i)
   begun = entry_begun n h i
 
-  top_path : n / 2 + 1 ≡ suc (suc (genus n))
-  top_path = top_is n r.surd.degree_two
-
   size_is : current.size ≡ length (ideal T' (j + i)).q
   size_is = t.stands.size_is ∙ turned_length n h i j
 
-  pub climbs_sizes : (0 < current.size) × (current.size < n / 2 + 1) × (n / 2 + 1 ≤ 33)
-  climbs_sizes = let e = size_is in let a = q_length T' h (j + i) in let b = top_path in let g = h.genus_most in (omega arith, omega arith, omega arith)
+  pub climbs_sizes : (0 < current.size) × (current.size < top) × (top ≤ 33)
+  climbs_sizes = let e = size_is in let a = q_length T' h (j + i) in let g = h.genus_most in (omega arith, omega arith, omega arith)
 
-  pub rest_within : {top : ℕ} → suc (suc (genus n)) ≤ top → Within f rest top
-  rest_within {top} above =
+  pub rest_within : {k : ℕ} → top ≤ k → Within f rest k
+  rest_within {k} above =
       let g = h.genus_most in
       let e = left_most n h i j in
-      record { reduced = rest_reduced begun t.stands; past = λ k l. padded_at begun rest _ t.stands.left_is (omega arith) k ∙ get_or-eq_default (left (ops f) D (root_d f (genus n) D) (ideal T' i) j) 0 {n = k} (omega arith) }
+      record { reduced = rest_reduced begun t.stands; past = λ m l. padded_at begun rest _ t.stands.left_is (omega arith) m ∙ get_or-eq_default (left (ops f) D (root_d f (genus n) D) (ideal T' i) j) 0 {n = m} (omega arith) }
 
   -- what a step asks for
-  pub climbs_ready : Ready f (n / 2 + 1) current.size r.twice before_poly.c current.c rest
+  pub climbs_ready : Ready f top current.size r.twice before_poly.c current.c rest
   climbs_ready =
       let g = h.genus_most in
-      let b = top_path in
       let e = turned_length n h i (suc j) in
       let a = q_length T' h (suc j + i) in
       ready begun t.stands r.twice_is (omega arith) (omega arith) (rest_within (omega arith)) (omega arith)
 
   -- ---- the next distance
-  next_is : δ T' (suc (j + i)) ≡ at.0 + (n / 2 + 1 - current.size)
-  next_is = let a = distance_next T' h (j + i) in let e = size_is in let b = top_path in let c = t.distance_is in omega arith
+  next_is : δ T' (suc (j + i)) ≡ at.0 + (top - current.size)
+  next_is = let a = distance_next T' h (j + i) in let e = size_is in let c = t.distance_is in omega arith
 
   -- what it leaves
   pub climbs_next : {before' current' : Poly} {rest' : List ℕ} {to : Distance} → Turned r before_poly current rest before' current' rest' at to → Climbs r before' current' rest' to
@@ -153,7 +151,7 @@ module _ {r : Root} {before_poly current : Poly} {rest : List ℕ} {at : Distanc
   unfolding ideal_of root_of
   ended_p = ap₂ (rem (ops f)) (difference_is begun t.stands r.d_is) (ap (monic (ops f)) (q_held begun t.stands).is) ∙ ap (λ (x : Pair ℕ). x.p) (steps_entry T' h i j)
 
-  pub climbs_last : {y : ℕ} → at.0 ≤ y → y < at.0 + (n / 2 + 1 - current.size) → {z : Ideal} → Is f z.q (monic (ops f) (poly current)) → Is f z.p (rem (ops f) (sub (ops f) r.d rest) (monic (ops f) (poly current))) → IsLast r.surd y z at
+  pub climbs_last : {y : ℕ} → at.0 ≤ y → y < at.0 + (top - current.size) → {z : Ideal} → Is f z.q (monic (ops f) (poly current)) → Is f z.p (rem (ops f) (sub (ops f) r.d rest) (monic (ops f) (poly current))) → IsLast r.surd y z at
   climbs_last {y} low high {z} q_is p_is = record {
     at = j + i;
     is = record { q_is = subst (Is f z.q) ended_q q_is; p_is = subst (Is f z.p) ended_p p_is; distance_is = t.distance_is };
@@ -163,12 +161,11 @@ module _ {r : Root} {before_poly current : Poly} {rest : List ℕ} {at : Distanc
 -- ---- where the steps start
 module _ {s : Surd} {i : ℕ} {z : Ideal} {at : Distance} (t : IsAt s i z at) where
   -- no step is made
-  pub stays_last : {y : ℕ} → at.0 ≤ y → y < at.0 + (s.n / 2 + 1 - z.q.size) → IsLast s y z at
+  pub stays_last : {y : ℕ} → at.0 ≤ y → y < at.0 + (suc (suc (surds.g s)) - z.q.size) → IsLast s y z at
   stays_last low high =
       let e = t.distance_is in
       let a = distance_next (ticket_with s 0) s.admitted i in
       let b = t.q_is.size_is in
-      let c = top_is s.n s.degree_two in
       record { at = i; is = t; last = record { low = omega arith; high = omega arith } }
 
   pub start : Start s z

@@ -9,7 +9,7 @@ use Rattle.base_counters.specs.declared.Distance.{Distance}
 use Rattle.base_polynomial.specs.Over.{Is, is_poly}
 use Rattle.base_surd.specs.declared.Surd.{Surd}
 use Rattle.base_surd.specs.Surd.{name, ticket_with}
-use Rattle.ideal_operand.specs.declared.Ideal.{Ideal}
+use Rattle.base_ideal.specs.declared.Ideal.{Ideal}
 use Rattle.ideal_operand.specs.Ideal.{Operand, held_pair}
 
 -- z is the ideal of index i of the endless walk, and stands at its distance

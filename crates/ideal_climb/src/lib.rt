@@ -2,27 +2,28 @@
 // steps are those of the walk, by the recurrence (2-7) of source 000.
 #![tactic(auto)]
 
-ghost use Rattle.std.specs.Prelude.{◌≡◌, ◌+◌, ◌-◌, ◌/◌, ◌<◌, ◌≤◌};
+ghost use Rattle.std.specs.Prelude.{◌≡◌, suc, ◌+◌, ◌-◌, ◌<◌, ◌≤◌};
 ghost use Rattle.spec_definitions.specs.Products.{farthest};
 ghost use Rattle.walk_step.specs.Step.{Ready};
-ghost use Rattle.ideal_descend.specs.Root.{name};
+ghost use Rattle.base_surd.specs.Surd.{g};
+ghost use Rattle.walk_state.specs.Root.{name, top};
 ghost use Rattle.ideal_climb.specs.Located.{OnWalk, IsLast};
 ghost use Rattle.ideal_climb.specs.Climbs.{Turned, Climbs};
 
 use base_counters::Distance;
+use base_ideal::{Ideal, ideal_of};
 use base_places::linear::sub_places;
 use base_polynomial::Poly;
 use base_surd::Surd;
-use ideal_descend::ended;
-use ideal_descend::root::Root;
-use ideal_operand::Ideal;
+use ideal_descend::advance;
 use ideal_operand::cofactor::cofactor;
-use walk_step::step::step_by;
+use walk_state::root::Root;
 
 // The distance of the next index, where Q has `size` places.
+#[tactic(auto, unfolding(spec_definitions::specs::Ticket::genus))]
 pub fn next_distance(s: &Surd, size: usize, distance: Distance) -> Distance
-    requires { (size ≤ s.now.n / 2 + 1) × (distance.0 ≤ farthest) }
-    ensures { result.0 ≡ distance.0 + (s.now.n / 2 + 1 - size) }
+    requires { (size ≤ suc (suc (g s.now))) × (distance.0 ≤ farthest) }
+    ensures { result.0 ≡ distance.0 + (suc (suc (g s.now)) - size) }
 {
     Distance(distance.0 + (s.n / 2 + 1 - size) as u64)
 }
@@ -36,28 +37,14 @@ fn turn(
     rest: &mut [u32; 129],
     at: Distance,
 ) -> Distance
-    requires sizes { (0 < current.old.size) × (current.old.size ≤ r.now.surd.n / 2 + 1) × (r.now.surd.n / 2 + 1 ≤ 128) × (at.0 ≤ farthest) }
-    requires ready { Ready (name r.now) (r.now.surd.n / 2 + 1) current.old.size r.now.twice before.old.c current.old.c rest.old }
+    requires sizes { (0 < current.old.size) × (current.old.size ≤ top r.now) × (top r.now ≤ 128) × (at.0 ≤ farthest) }
+    requires ready { Ready (name r.now) (top r.now) current.old.size r.now.twice before.old.c current.old.c rest.old }
     ensures { Turned r.now before.old current.old rest.old before.new current.new rest.new at result }
 {
-    let f = r.surd.field;
     let size = current.size;
-    let w = f.inverse(current.c[size - 1]);
-    let top = r.surd.n / 2 + 1;
     let mut remains = [0u32; 129];
     let mut after = Poly::zero();
-    after.size = step_by(
-        f,
-        w,
-        &r.twice,
-        top,
-        &before.c,
-        &current.c,
-        size,
-        rest,
-        &mut remains,
-        &mut after.c,
-    );
+    advance(r, r.top(), before, current, rest, &mut remains, &mut after);
     *before = *current;
     *current = after;
     *rest = remains;
@@ -76,10 +63,10 @@ fn ascend(
     requires distances { (from.0 ≤ y.0) × (y.0 ≤ farthest) }
     requires climbs { Climbs r.now before.old current.old rest.old from }
     ensures climbs { Climbs r.now before.new current.new rest.new result }
-    ensures last { (result.0 ≤ y.0) × (y.0 < result.0 + (r.now.surd.n / 2 + 1 - current.new.size)) }
+    ensures last { (result.0 ≤ y.0) × (y.0 < result.0 + (top r.now - current.new.size)) }
 {
     let mut at = from;
-    while next_distance(&r.surd, current.size, at).0 <= y.0 {
+    while next_distance(&r.surd, current.size, at) <= y {
         at = turn(r, before, current, rest, at);
     }
     at
@@ -92,13 +79,13 @@ fn by_steps(r: &Root, a: &mut Ideal, at: Distance, y: Distance, z: &mut Ideal) -
     ensures { IsLast r.now.surd y.0 z.new result }
 {
     let f = r.surd.field;
-    let top = r.surd.n / 2 + 1;
+    let top = r.top();
     let mut before = Poly::zero();
     cofactor(f, &r.surd.radicand, a, &mut before);
     let mut rest = [0u32; 129];
     sub_places(f, &r.d, &a.p.c, top, &mut rest);
     let reached = ascend(r, &mut before, &mut a.q, &mut rest, at, y);
-    ended(f, &r.d, top, &a.q, &rest, z);
+    ideal_of(f, &r.d, top, &a.q, &rest, z);
     reached
 }
 
@@ -109,7 +96,7 @@ pub fn climb(r: &Root, a: &mut Ideal, at: Distance, y: Distance, z: &mut Ideal) 
     requires distances { (at.0 ≤ y.0) × (y.0 ≤ farthest) }
     ensures { IsLast r.now.surd y.0 z.new result }
 {
-    if y.0 < next_distance(&r.surd, a.q.size, at).0 {
+    if y < next_distance(&r.surd, a.q.size, at) {
         *z = *a;
         at
     } else {

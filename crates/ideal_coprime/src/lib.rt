@@ -10,9 +10,9 @@ ghost use Rattle.base_polynomial.specs.Whole.{poly, Held, Is};
 use base_division::difference::subtract_product;
 use base_division::division::remainder;
 use base_field::Field;
+use base_ideal::Ideal;
 use base_polynomial::Poly;
 use base_polynomial::ring::{multiply, subtract};
-use ideal_operand::Ideal;
 
 // z becomes u·(x − y) modulo b, which is not 0.
 fn factor(f: Field, u: &Poly, x: &Poly, y: &Poly, b: &Poly, z: &mut Poly)

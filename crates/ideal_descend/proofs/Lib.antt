@@ -1,4 +1,3 @@
-pub mod DifferenceLaws
 pub mod HeightLaws
 pub mod Recurrence
 pub mod Stands

@@ -124,10 +124,10 @@ module _ {A B : Type 0} {o : Ops A} {K : Field B} {M : Model o (F K)} {g : ℕ} 
 
   -- ---- the next Q
   -- D = P_j² + Q_j-as-Q_{j−1}
-  norm_at_lem : (j : ℕ) → series M D ≡ series M (P j) * series M (P j) + series M (Q j) * series M (B' j)
+  norm_of_pair : (j : ℕ) → series M D ≡ series M (P j) * series M (P j) + series M (Q j) * series M (B' j)
   unfolding before steps
-  norm_at_lem zero = st.norm
-  norm_at_lem (suc j) = (follows_at z x st j).norm
+  norm_of_pair zero = st.norm
+  norm_of_pair (suc j) = (follows_at z x st j).norm
 
   finite : (f : List A) → Finite K (series M f)
   finite f = record { size = length f; low = below_length M f }
@@ -140,7 +140,7 @@ module _ {A B : Type 0} {o : Ops A} {K : Field B} {M : Model o (F K)} {g : ℕ} 
 
       product : series M (Q j) * series M (Q (suc j)) ≡ series M (Q j) * (series M (B' j) + series M (a j) * (series M (l (suc j)) - series M (l j)))
       product = ring_from R[x] (series M D ∷ series M (P j) ∷ series M (P (suc j)) ∷ series M (Q j) ∷ series M (Q (suc j)) ∷ series M (B' j) ∷ series M (a j) ∷ series M (l j) ∷ series M (l (suc j)) ∷ series M d ∷ [])
-          (plus R[x] (times R[x] (- 𝟙) after_norm) (plus R[x] (times R[x] 𝟙 (norm_at_lem j)) (plus R[x] (times R[x] (series M (P j) + series M (P (suc j))) (P_series j))
+          (plus R[x] (times R[x] (- 𝟙) after_norm) (plus R[x] (times R[x] 𝟙 (norm_of_pair j)) (plus R[x] (times R[x] (series M (P j) + series M (P (suc j))) (P_series j))
           (plus R[x] (times R[x] (series M (l (suc j)) - series M (l j) - (series M (P j) + series M (P (suc j)))) (P_series (suc j))) (times R[x] (series M (l (suc j)) - series M (l j)) (divide j))))))
           (search quote depth 40 fits 9999) tt
 

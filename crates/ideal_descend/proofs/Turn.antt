@@ -1,5 +1,5 @@
 -- The proofs of specs/Turn.
-use Rattle.std.specs.Prelude.{ℕ, suc, ◌+◌, ◌-◌, ◌/◌, ◌≤◌, ◌<◌, ◌≡◌, get_or}
+use Rattle.std.specs.Prelude.{ℕ, suc, ◌+◌, ◌-◌, ◌≤◌, ◌<◌, ◌≡◌, get_or}
 use native.Mathlib.Omega.{arith}
 use Rattle.std.proofs.Common.{sym, ap₂, ◌∙◌, ⊎_elim}
 use Rattle.std.proofs.Math.Path.{ap, subst}
@@ -7,7 +7,7 @@ use mathlib.Core.List.{List}
 use Rattle.std.proofs.Math.ListN.{length, get_or-eq_default}
 use Rattle.math_ring.specs.Order.{le_or_lt}
 use Rattle.math_surd.specs.Step.{State}
-use Rattle.math_ideals.specs.Steps.{shift_most, height_more, degree_sum_lem}
+use Rattle.math_ideals.specs.Steps.{shift_most, height_more, sum_of_degrees}
 use Rattle.spec_arithmetic.specs.Field.{FieldName, ops}
 use Rattle.spec_arithmetic.specs.Polynomials.{trim, pad, size, deg, monic, add, sub, rem}
 use Rattle.spec_definitions.specs.Walk.{Ideal as Pair, steps}
@@ -25,17 +25,16 @@ use Rattle.base_places.specs.Places.{Within}
 use Rattle.base_polynomial.specs.declared.Poly.{Poly}
 use Rattle.base_polynomial.specs.Over.{poly, Held, Is}
 use Rattle.walk_step.specs.Step.{Ready, Stepped}
-use Rattle.walk_state.specs.Start.{half_degree}
 use Rattle.walk_state.specs.State.{root_d, pad_within}
-use Rattle.ideal_operand.specs.declared.Ideal.{Ideal}
+use Rattle.base_ideal.specs.declared.Ideal.{Ideal}
 use Rattle.ideal_operand.specs.Operand.{K, M, I}
-use Rattle.ideal_descend.specs.declared.root.Root.{Root}
+use Rattle.walk_state.specs.declared.root.Root.{Root}
 use Rattle.ideal_descend.specs.declared.Stage.{Stage}
 use Rattle.ideal_descend.specs.Height.{Height}
 use Rattle.ideal_descend.proofs.HeightLaws.{height_length}
 use Rattle.ideal_descend.specs.Recurrence.{left}
 use Rattle.ideal_descend.proofs.Recurrence.{dividend, height_size}
-use Rattle.ideal_descend.specs.Root.{name, g, D, root, top}
+use Rattle.walk_state.specs.Root.{name, g, D, root, top}
 use Rattle.ideal_descend.specs.Stands.{Stands, Begun}
 use Rattle.ideal_descend.proofs.Stands.{start_q, start_p, q_same, left_less, padded_series, padded_at, twice_within, twice_series, q_some, left_short, rest_reduced, ready, stands_next, q_held, difference_is}
 use Rattle.ideal_descend.specs.Turn.{At, Going, Taken, Reduces}
@@ -129,7 +128,7 @@ module _ {f : FieldName} {g : ℕ} {D : List ℕ} {h : Admitted f g D} {x : Pair
               omega arith
 
           sum_next : sum + (top' - m') ≡ degree_sum (ops f) D d g x (suc j)
-          unfolding degree_sum_lem
+          unfolding sum_of_degrees
           sum_next =
               let a = top_is in
               let v = height_size (surd_of h) x st j in
@@ -167,9 +166,6 @@ module _ {r : Root} {before_poly current : Poly} {rest : List ℕ} {at : Stage} 
   abbrev j' : ℕ
   j' = t.stands.index
 
-  abbrev half : r.surd.n / 2 ≡ suc (g r)
-  half = half_degree r.surd.n r.surd.degree_two
-
   pub going_held : Held f' current
   going_held = (q_held t.begun t.stands.stands).held
 
@@ -177,9 +173,9 @@ module _ {r : Root} {before_poly current : Poly} {rest : List ℕ} {at : Stage} 
   going_some = q_some t.begun t.stands.stands
 
   -- ---- the degree is at most g, with P_k = d − rest
-  module _ (low : current.size ≤ r.surd.n / 2) where
+  module _ (low : current.size < top r) where
     turns_are : turns_of (ops f') (D r) (root r) (g r) t.x ≡ j'
-    turns_are = turns_unique (surd_of h') t.x (st t.begun) j' (let w = q_same t.begun j' in let z = t.stands.stands.size_is in let e = half in omega arith) t.stands.above
+    turns_are = turns_unique (surd_of h') t.x (st t.begun) j' (let w = q_same t.begun j' in let z = t.stands.stands.size_is in omega arith) t.stands.above
 
     monic_length : length (monic (ops f') (pair t.begun j').q) ≡ current.size
     monic_length = let w = length_monic (M h') (I h') (pair t.begun j').q in let v = q_same t.begun j' in let z = t.stands.stands.size_is in omega arith
@@ -199,9 +195,9 @@ module _ {r : Root} {before_poly current : Poly} {rest : List ℕ} {at : Stage} 
         }
 
   -- ---- a step
-  module _ (high : r.surd.n / 2 < current.size) where
+  module _ (high : top r ≤ current.size) where
     pub above : suc (g r) < current.size
-    above = let e = half in omega arith
+    above = omega arith
 
     module _ {remains : List ℕ} {after : Poly} {to : Stage} (u : Taken r before_poly current rest remains after at to) where
       pub going_less : after.size < current.size

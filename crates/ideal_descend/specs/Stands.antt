@@ -4,7 +4,7 @@ use Prim.Native.Nat.{ℕ, suc, ◌+◌, ◌≤◌}
 use Rattle.std.specs.Prelude.{◌≡◌, List, get_or}
 use Rattle.std.proofs.Math.ListN.{length}
 use Rattle.spec_arithmetic.specs.Field.{FieldName, ops}
-use Rattle.spec_arithmetic.specs.Polynomials.{trim, pad, size}
+use Rattle.spec_arithmetic.specs.Polynomials.{trim, pad}
 use Rattle.spec_definitions.specs.Walk.{Ideal, steps}
 use Rattle.spec_fields.specs.Named.{Ok}
 use Rattle.spec_laws.specs.Admitted.{Admitted}

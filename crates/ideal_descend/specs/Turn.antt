@@ -15,10 +15,10 @@ use Rattle.base_surd.specs.declared.Surd.{Surd}
 use Rattle.base_surd.specs.Surd as surds
 use Rattle.walk_step.specs.Step.{Stepped}
 use Rattle.walk_state.specs.State.{root_d}
-use Rattle.ideal_operand.specs.declared.Ideal.{Ideal}
-use Rattle.ideal_descend.specs.declared.root.Root.{Root}
+use Rattle.base_ideal.specs.declared.Ideal.{Ideal}
+use Rattle.walk_state.specs.declared.root.Root.{Root}
 use Rattle.ideal_descend.specs.declared.Stage.{Stage}
-use Rattle.ideal_descend.specs.Root.{name, g, D}
+use Rattle.walk_state.specs.Root.{name, g, D}
 use Rattle.ideal_descend.specs.Height.{Height}
 use Rattle.ideal_descend.specs.Stands.{Stands, Begun}
 

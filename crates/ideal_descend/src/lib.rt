@@ -3,25 +3,21 @@
 // step, so that none is copied.
 #![tactic(auto)]
 
-pub mod root;
-
-ghost use Rattle.std.specs.Prelude.{◌≡◌, ℕ, ◌/◌, ◌<◌, ◌≤◌, get_or};
+ghost use Rattle.std.specs.Prelude.{◌≡◌, ℕ, ◌<◌, ◌≤◌, get_or};
 ghost use Rattle.spec_arithmetic.specs.Polynomials.{sub as sub_of, rem as rem_of, monic as monic_of};
 ghost use Rattle.base_field.specs.Named.{name, ops};
 ghost use Rattle.base_places.specs.Places.{Within};
 ghost use Rattle.base_polynomial.specs.Whole.{poly, Held, Is};
-ghost use Rattle.ideal_descend.specs.Root.{top, field};
+ghost use Rattle.walk_step.specs.Step.{Ready, Stepped};
+ghost use Rattle.walk_state.specs.Root.{top, field};
 ghost use Rattle.ideal_descend.specs.Height.{Height};
 ghost use Rattle.ideal_descend.specs.Turn.{Going, Taken, Reduces};
 
-use crate::root::Root;
-use base_division::division::remainder;
-use base_field::Field;
-use base_places::linear::{sub_places, top};
+use base_ideal::{Ideal, ideal_of};
 use base_polynomial::Poly;
-use base_polynomial::ring::monic;
-use ideal_operand::Ideal;
-use walk_step::step::step_by;
+use walk_state::root::Root;
+use walk_step::Step;
+use walk_step::step::step;
 
 // Where the reduction stands, at an index j: how many places P_j + d may have, and the sum of deg a_i for i from 1
 // to j.
@@ -45,46 +41,6 @@ pub fn height(twice: &[u32; 129], rest: &[u32; 129], from: usize) -> usize
     0
 }
 
-// z becomes x − y, of at most n places.
-fn difference(f: Field, x: &[u32; 129], y: &[u32; 129], n: usize, z: &mut Poly)
-    requires n_bound { n ≤ 129 }
-    requires within { Within (name f) x.now n × Within (name f) y.now n }
-    ensures { Is f z.new (sub_of (ops f) x.now y.now) }
-{
-    sub_places(f, x, y, n, &mut z.c);
-    z.size = top(&z.c, n);
-}
-
-// Q of z becomes a over its leading coefficient, and P its remainder by that.
-pub fn normal(f: Field, a: &Poly, z: &mut Ideal)
-    requires some { 0 < a.now.size }
-    requires held { Held f a.now × Held f z.old.p }
-    ensures q { Is f z.new.q (monic_of (ops f) (poly a.now)) }
-    ensures p { Is f z.new.p (rem_of (ops f) (poly z.old.p) (monic_of (ops f) (poly a.now))) }
-{
-    monic(f, a, &mut z.q);
-    remainder(f, &mut z.p, &z.q);
-}
-
-// z becomes the ideal whose Q is `current` and whose P is d − rest, each of at most `places` places: Q over its leading
-// coefficient, P modulo that.
-pub fn ended(
-    f: Field,
-    d: &[u32; 129],
-    places: usize,
-    current: &Poly,
-    rest: &[u32; 129],
-    z: &mut Ideal,
-)
-    requires sizes { (0 < current.now.size) × (places ≤ 129) }
-    requires held { Held f current.now × Within (name f) d.now places × Within (name f) rest.now places }
-    ensures q { Is f z.new.q (monic_of (ops f) (poly current.now)) }
-    ensures p { Is f z.new.p (rem_of (ops f) (sub_of (ops f) d.now rest.now) (monic_of (ops f) (poly current.now))) }
-{
-    difference(f, d, rest, places, &mut z.p);
-    normal(f, current, z);
-}
-
 // z becomes the reduced ideal, where the degree of Q is at most g: Q is `current`, and P is d − rest. The sum of the
 // degrees of a.
 fn finish(r: &Root, current: &Poly, rest: &[u32; 129], at: Stage, z: &mut Ideal) -> u64
@@ -95,13 +51,43 @@ fn finish(r: &Root, current: &Poly, rest: &[u32; 129], at: Stage, z: &mut Ideal)
     ensures p { Is (field r.now) z.new.p (rem_of (ops (field r.now)) (sub_of (ops (field r.now)) r.now.d rest.now) (monic_of (ops (field r.now)) (poly current.now))) }
     ensures sum { result ≡ at.sum }
 {
-    let places = at.top.max(r.surd.n / 2 + 1);
-    ended(r.surd.field, &r.d, places, current, rest, z);
+    let places = at.top.max(r.top());
+    ideal_of(r.surd.field, &r.d, places, current, rest, z);
     at.sum
 }
 
-// One step: `remains` and `after` become the next remainder and the next Q. deg a is the degree of
-// P + d = twice − remains less that of Q, at the next index.
+// One step: `remains` and `after` become the next remainder and the next Q, where P + d and both Q have at most `top`
+// places.
+pub fn advance(
+    r: &Root,
+    top: usize,
+    before: &Poly,
+    current: &Poly,
+    rest: &[u32; 129],
+    remains: &mut [u32; 129],
+    after: &mut Poly,
+)
+    requires sizes { (0 < current.now.size) × (current.now.size ≤ top) × (top ≤ 128) }
+    requires ready { Ready (name (field r.now)) top current.now.size r.now.twice before.now.c current.now.c rest.now }
+    ensures { Stepped (name (field r.now)) r.now.twice before.now.c current.now.c rest.now remains.new after.new.c after.new.size }
+{
+    let f = r.surd.field;
+    let size = current.size;
+    let s = Step {
+        field: f,
+        twice: &r.twice,
+        before: &before.c,
+        current: &current.c,
+        rest,
+        top,
+        size,
+        lead_inverse: f.inverse(current.c[size - 1]),
+    };
+    after.size = step(&s, remains, &mut after.c);
+}
+
+// The same, from where the reduction stands to where it stands then. deg a is the degree of P + d = twice − remains
+// less that of Q, at the next index.
 fn stride(
     r: &Root,
     before: &Poly,
@@ -111,26 +97,12 @@ fn stride(
     after: &mut Poly,
     at: Stage,
 ) -> Stage
-    requires high { r.now.surd.n / 2 < current.now.size }
+    requires high { top r.now ≤ current.now.size }
     requires going { Going r.now before.now current.now rest.now at }
     ensures { Taken r.now before.now current.now rest.now remains.new after.new at result }
 {
-    let f = r.surd.field;
-    let size = current.size;
-    let w = f.inverse(current.c[size - 1]);
-    after.size = step_by(
-        f,
-        w,
-        &r.twice,
-        at.top,
-        &before.c,
-        &current.c,
-        size,
-        rest,
-        remains,
-        &mut after.c,
-    );
-    let top = height(&r.twice, remains, size);
+    advance(r, at.top, before, current, rest, remains, after);
+    let top = height(&r.twice, remains, current.size);
     Stage {
         top,
         sum: at.sum + (top - after.size) as u64,
@@ -153,7 +125,7 @@ fn take_turns(
     requires { Going r.now a.old b.old x.old at }
     ensures { (t : Going r.now a.old b.old x.old at) → Reduces r.now.surd t.x z.new result }
 {
-    if b.size <= r.surd.n / 2 {
+    if b.size < r.top() {
         return finish(r, b, x, at, z);
     }
     let to = stride(r, a, b, x, y, c, at);

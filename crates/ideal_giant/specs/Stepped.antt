@@ -26,7 +26,7 @@ use Rattle.base_surd.specs.declared.Surd.{Surd}
 use Rattle.base_surd.specs.Surd as surds
 use Rattle.base_surd.specs.Surd.{ticket_with}
 use Rattle.walk_state.specs.State.{root_d}
-use Rattle.ideal_operand.specs.declared.Ideal.{Ideal}
+use Rattle.base_ideal.specs.declared.Ideal.{Ideal}
 use Rattle.ideal_operand.specs.Ideal.{Operand, Multiplied}
 use Rattle.ideal_operand.specs.Operand.{held_pair, K, M, I, operand_ideal, operand_degree}
 use Rattle.ideal_descend.specs.Turn.{Reduces}

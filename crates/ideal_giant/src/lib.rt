@@ -4,8 +4,10 @@
 
 pub mod step;
 
+use base_counters::Distance;
+
 // The largest distance that a giant step takes: 2⁴⁰.
-pub const FARTHEST: u64 = 1099511627776;
+pub const FARTHEST: Distance = Distance(1099511627776);
 
 // f, and the distance that the giant step comes to.
 #[derive(Clone, Copy)]

@@ -6,11 +6,11 @@ ghost use Rattle.ideal_giant.specs.Stepped.{Stepped};
 
 use crate::Shift;
 use base_counters::Distance;
+use base_ideal::Ideal;
 use base_polynomial::Poly;
-use ideal_descend::root::Root;
-use ideal_operand::Ideal;
 use ideal_product::product;
 use ideal_reduce::reduce;
+use walk_state::root::Root;
 
 // total − lower.
 fn signed(total: u64, lower: u64) -> i64
@@ -35,10 +35,7 @@ pub fn giant(r: &Root, x: &Ideal, d1: Distance, y: &Ideal, d2: Distance, z: &mut
     ensures { Stepped r.now.surd x.now d1.0 y.now d2.0 z.new result }
 {
     let mut s = Poly::zero();
-    let mut a = Ideal {
-        q: Poly::zero(),
-        p: Poly::zero(),
-    };
+    let mut a = Ideal::zeros();
     product(&r.surd, x, y, &mut s, &mut a);
     let size = a.q.size;
     let sum = reduce(r, &mut a, z);

@@ -26,7 +26,7 @@ use Rattle.base_polynomial.specs.declared.Poly.{Poly}
 use Rattle.base_polynomial.specs.Over.{poly, Held, Is, at_poly, held_size}
 use Rattle.base_polynomial.specs.Linear.{held_within, is_result, lead_place}
 use Rattle.walk_step.specs.Step.{step_quo, Division}
-use Rattle.ideal_operand.specs.declared.Ideal.{Ideal}
+use Rattle.base_ideal.specs.declared.Ideal.{Ideal}
 use Rattle.ideal_operand.specs.Operand.{held_pair}
 use Rattle.ideal_operand.specs.Upper.{upper, upper_at, upper_zero, upper_less}
 

@@ -1,7 +1,7 @@
 -- What a caller keeps of v − w·u, x − y and a modulo b: it is held, its polynomial is the definition's, and how long
 -- it is.
-use Rattle.std.specs.Prelude.{ℕ, suc, ◌+◌, ◌≤◌, ◌<◌, ◌≡◌, List, length}
-use Rattle.std.proofs.Common.{arith, subst}
+use Rattle.std.specs.Prelude.{ℕ, suc, ◌+◌, ◌≤◌, ◌<◌, List, length}
+use Rattle.std.proofs.Common.{arith}
 use Rattle.spec_arithmetic.specs.Field.{FieldName, ops}
 use Rattle.spec_arithmetic.specs.Polynomials.{sub, mul, rem}
 use Rattle.spec_bridge.specs.Trim.{length_trim}
@@ -11,6 +11,7 @@ use Rattle.spec_bridge.specs.Division.{rem_less, trim_rem, oks_rem}
 use Rattle.spec_bridge.specs.Prime.{Prime}
 use Rattle.spec_bridge.specs.Residues.{model, inverts}
 use Rattle.base_polynomial.specs.declared.Poly.{Poly}
+pub use Rattle.base_ideal.specs.Difference.{is_path}
 use Rattle.base_polynomial.specs.Over.{poly, Held, Is, held_positive, Result, result, held_size}
 
 module _ {f : FieldName} (v w u : Poly) (held_v : Held f v) (held_w : Held f w) (held_u : Held f u) where
@@ -57,6 +58,3 @@ module _ {f : FieldName} (p : Prime f.q) (a : List ℕ) (b : Poly) (held_b : Hel
 
   pub remainder_result : Result f z (rem (ops f) a (poly b))
   remainder_result = result {a = z} is (let r = remainder_less in let e = is.size_is in let s = held_b.short in omega arith) (trim_rem (model f.q positive) a (poly b)) (oks_rem (model f.q positive) a (poly b))
-
-pub is_path : {f : FieldName} {z : Poly} {l l' : List ℕ} → l ≡ l' → Is f z l → Is f z l'
-is_path {f} {z} e h = subst (λ (l : List ℕ). Is f z l) e h

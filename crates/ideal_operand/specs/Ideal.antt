@@ -3,7 +3,7 @@ use Rattle.std.specs.Prelude.{}
 use Rattle.base_surd.specs.declared.Surd.{Surd}
 use Rattle.base_surd.specs.Surd.{name, g, D}
 use Rattle.base_polynomial.specs.declared.Poly.{Poly}
-use Rattle.ideal_operand.specs.declared.Ideal.{Ideal}
+use Rattle.base_ideal.specs.declared.Ideal.{Ideal}
 use Rattle.ideal_operand.specs.Operand as operands
 use Rattle.ideal_operand.specs.Product as products
 pub use Rattle.ideal_operand.specs.Operand.{held_pair}

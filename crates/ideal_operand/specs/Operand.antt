@@ -16,7 +16,7 @@ use Rattle.spec_laws.specs.Pairs.{IsIdeal}
 use Rattle.spec_laws.specs.PairTest.{Passes, pair_q_below, pair_p_below, pair_ideal}
 use Rattle.spec_laws.specs.ProductCong.{SamePair, trimmed, trimmed_same, ideal_cong}
 use Rattle.base_polynomial.specs.Over.{poly, Held, Is, Result, result, held_size}
-use Rattle.ideal_operand.specs.declared.Ideal.{Ideal}
+use Rattle.base_ideal.specs.declared.Ideal.{Ideal}
 
 -- the pair of polynomials that it is
 abbrev pub held_pair : Ideal → Pair ℕ

@@ -5,7 +5,7 @@ use Rattle.spec_definitions.specs.Walk.{Ideal as Pair}
 use Rattle.spec_definitions.specs.Products.{product_of}
 use Rattle.base_polynomial.specs.declared.Poly.{Poly}
 use Rattle.base_polynomial.specs.Over.{Is}
-use Rattle.ideal_operand.specs.declared.Ideal.{Ideal}
+use Rattle.base_ideal.specs.declared.Ideal.{Ideal}
 
 -- `common` is S and z is (Q, P) of the product of x and y
 pub record Multiplied (f : FieldName) (D : List ℕ) (x y : Pair ℕ) (common : Poly) (z : Ideal) : Type 0 where

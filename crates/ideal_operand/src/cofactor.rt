@@ -8,8 +8,8 @@ ghost use Rattle.base_polynomial.specs.Whole.{poly, Fits, Held, Is};
 ghost use Rattle.ideal_operand.specs.Upper.{upper};
 ghost use Rattle.ideal_operand.specs.Operand.{held_pair};
 
-use crate::Ideal;
 use base_field::Field;
+use base_ideal::Ideal;
 use base_places::linear::top;
 use base_places::product::dot;
 use base_polynomial::Poly;

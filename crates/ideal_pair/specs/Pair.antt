@@ -25,13 +25,17 @@ use Rattle.base_places.specs.Places.{Places, zeros, length_zeros, at_zeros}
 use Rattle.base_polynomial.specs.Over.{poly, Is, Result, result}
 use Rattle.base_surd.specs.declared.Surd.{Surd}
 use Rattle.base_surd.specs.Surd.{name, ops as ops_of, g, D, ticket_with}
-use Rattle.ideal_operand.specs.declared.Ideal.{Ideal}
+use Rattle.base_ideal.specs.declared.Ideal.{Ideal}
 use Rattle.ideal_operand.specs.Operand.{held_pair, M, I}
 use Rattle.ideal_operand.specs.Ideal.{Operand}
+use Rattle.ideal_pair.specs.declared.Pair.{Pair as Words}
 
 -- a pair as it is handed in
 abbrev pub pair_of : List ℕ → List ℕ → Pair ℕ
 pair_of u v = record { q = u; p = v }
+
+abbrev pub words_of : Words → Pair ℕ
+words_of x = pair_of x.q.now x.p.now
 
 -- the number of refusal 9 where the test is not passed, else 0
 unfoldable pub pair_refusal : Ticket → Pair ℕ → ℕ
@@ -91,11 +95,11 @@ module _ (s : Surd) (u v : List ℕ) where
       go true e = absurd (h (pair_passes (ticket_with s b) (pair_of u v) e))
       go false e = refusal_is false b e
 
-  words_of : Passes (name s) (g s) (D s) (pair_of u v) → AreWords (name s) (g s) u v
-  words_of t = (t.q_length, t.p_length, none_below (name s) (ok_zero (name s) (is_field s.admitted)) u t.q_below, none_below (name s) (ok_zero (name s) (is_field s.admitted)) v t.p_below)
+  are_words : Passes (name s) (g s) (D s) (pair_of u v) → AreWords (name s) (g s) u v
+  are_words t = (t.q_length, t.p_length, none_below (name s) (ok_zero (name s) (is_field s.admitted)) u t.q_below, none_below (name s) (ok_zero (name s) (is_field s.admitted)) v t.p_below)
 
   pub refused_words : {r : Bool} → (AreWords (name s) (g s) u v → IsTrue r) → r ≡ false → (b : ℕ) → 9 ≡ pair_refusal (ticket_with s b) (pair_of u v)
-  refused_words h e = refused (λ t. true≢false (sym (h (words_of t)) ∙ e))
+  refused_words h e = refused (λ t. true≢false (sym (h (are_words t)) ∙ e))
 
   module _ (w : AreWords (name s) (g s) u v) where
     u_oks : (i : ℕ) → Ok (name s) (at (ops_of s) u i)

@@ -8,7 +8,7 @@ use Rattle.spec_definitions.specs.Products.{product_of, is_pair, wrong_pair}
 use Rattle.spec_laws.specs.ProductCong.{product_cong}
 use Rattle.base_surd.specs.declared.Surd.{Surd}
 use Rattle.base_surd.specs.Surd.{ops, D, ticket_with}
-use Rattle.ideal_operand.specs.declared.Ideal.{Ideal}
+use Rattle.base_ideal.specs.declared.Ideal.{Ideal}
 use Rattle.ideal_operand.specs.Operand.{held_pair, K, M, I, operand_same}
 use Rattle.ideal_pair.specs.Pair.{pair_of, pair_refusal, Paired, paired_operand}
 

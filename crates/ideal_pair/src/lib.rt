@@ -14,16 +14,23 @@ ghost use Rattle.base_polynomial.specs.Whole.{poly, Held};
 ghost use Rattle.base_polynomial.specs.Over.{Is};
 ghost use Rattle.base_surd.specs.Surd.{g, ticket_with};
 ghost use Rattle.ideal_operand.specs.Ideal.{held_pair};
-ghost use Rattle.ideal_pair.specs.Pair.{pair_of, pair_refusal, AreWords, IsIdealOf, Paired};
+ghost use Rattle.ideal_pair.specs.Pair.{words_of, pair_refusal, AreWords, IsIdealOf, Paired};
 
 use base_division::difference::subtract_product;
 use base_division::division::remainder;
 use base_field::Field;
+use base_ideal::Ideal;
 use base_places::linear::top;
 use base_polynomial::Poly;
 use base_refusals::Refusal;
 use base_surd::Surd;
-use ideal_operand::Ideal;
+
+// The words of Q and those of P, of any number and any values.
+#[derive(Clone, Copy)]
+pub struct Pair<'a> {
+    pub q: &'a [u32],
+    pub p: &'a [u32],
+}
 
 // Each word is below q.
 fn all_below(f: Field, words: &[u32]) -> bool
@@ -34,11 +41,11 @@ fn all_below(f: Field, words: &[u32]) -> bool
 
 // g + 1 words and g words, each below q.
 #[tactic(auto, unfolding(spec_definitions::specs::Ticket::genus))]
-fn words_fit(s: &Surd, u: &[u32], v: &[u32]) -> bool
-    ensures { IsTrue result ↔ AreWords (name s.now.field) (g s.now) u.now v.now }
+fn words_fit(s: &Surd, x: Pair<'_>) -> bool
+    ensures { IsTrue result ↔ AreWords (name s.now.field) (g s.now) x.entry.q.now x.entry.p.now }
 {
     let g = s.n / 2 - 1;
-    u.len() == g + 1 && v.len() == g && all_below(s.field, u) && all_below(s.field, v)
+    x.q.len() == g + 1 && x.p.len() == g && all_below(s.field, x.q) && all_below(s.field, x.p)
 }
 
 // The polynomial whose coefficients are the words.
@@ -76,20 +83,20 @@ fn is_ideal(f: Field, radicand: &Poly, x: &Ideal) -> bool
     x.q.lead() == 1 && x.p.size < x.q.size && divides(f, radicand, x)
 }
 
-// The ideal of the words u of Q and v of P, where they pass the test of refusal 9.
-pub fn pair(s: &Surd, u: &[u32], v: &[u32]) -> Result<Ideal, Refusal>
-    ensures refused { (b : ℕ) → refused_by result ≡ pair_refusal (ticket_with s.now b) (pair_of u.now v.now) }
-    ensures ideal { IfOk result (Paired s.now u.now v.now) }
+// The ideal of a pair, where this passes the test of refusal 9.
+pub fn read_pair(s: &Surd, x: Pair<'_>) -> Result<Ideal, Refusal>
+    ensures refused { (b : ℕ) → refused_by result ≡ pair_refusal (ticket_with s.now b) (words_of x.entry) }
+    ensures ideal { IfOk result (Paired s.now x.entry.q.now x.entry.p.now) }
 {
-    if !words_fit(s, u, v) {
+    if !words_fit(s, x) {
         return Err(Refusal::Ideal);
     }
-    let x = Ideal {
-        q: read(u),
-        p: read(v),
+    let ideal = Ideal {
+        q: read(x.q),
+        p: read(x.p),
     };
-    if is_ideal(s.field, &s.radicand, &x) {
-        Ok(x)
+    if is_ideal(s.field, &s.radicand, &ideal) {
+        Ok(ideal)
     } else {
         Err(Refusal::Ideal)
     }

@@ -6,7 +6,7 @@ use Rattle.math_ring.specs.Ring.{CRing}
 use Rattle.math_ring.specs.Identity.{ring_from, times, plus, quote}
 use Rattle.math_ring.specs.Series.{Series}
 use Rattle.math_algebra.specs.Field.{Field}
-use Rattle.math_algebra.specs.Polynomial.{F, Px, ◌≺◌ as Low, Monic, low_neg, monic_deg, monic_constant_lem}
+use Rattle.math_algebra.specs.Polynomial.{F, Px, ◌≺◌ as Low, Monic, low_neg, monic_deg, monic_constant_one}
 use Rattle.math_algebra.specs.Divides.{divides_le}
 use Rattle.math_algebra.specs.Gcd.{gcd_monic}
 use Rattle.spec_arithmetic.specs.Field.{Ops}
@@ -67,14 +67,14 @@ module _ {A B : Type 0} {o : Ops A} (K : Field B) (M : Model o (F K)) (I : Inver
       top = gcd_monic K (gcd_is K M I x.q y.q) (λ z. let e = ap length (zero_size K M G z) in let s = G_size in omega arith)
 
   G_one : series M G ≡ 𝟙
-  G_one = monic_constant_lem K (series M G) G_monic
+  G_one = monic_constant_one K (series M G) G_monic
 
   -- it divides the greatest common divisor of Q_1 and Q_2
   σ_none : (common K M I D hx hy).σ ≡ 0
   σ_none = let w = divides_le K (gcd_is K M I G (add o x.p y.p)).left (monic_deg K (common K M I D hx hy).monic) (monic_deg K G_monic) in omega arith
 
   S_one : series M S ≡ 𝟙
-  S_one = monic_constant_lem K (series M S) (subst (λ n. Monic K (series M S) n) σ_none (common K M I D hx hy).monic)
+  S_one = monic_constant_one K (series M S) (subst (λ n. Monic K (series M S) n) σ_none (common K M I D hx hy).monic)
 
   pub coprime_S : S ≡ G
   coprime_S = series_ext M _ _ (trim_gcd M I _ _) (trim_gcd M I _ _) (oks_gcd M I _ _) (oks_gcd M I _ _) (S_one ∙ sym G_one)

@@ -13,7 +13,7 @@ use Rattle.spec_laws.specs.Product.{product_is}
 use Rattle.spec_laws.specs.ProductSizes.{first_u_length}
 use Rattle.base_polynomial.specs.declared.Poly.{Poly}
 use Rattle.base_polynomial.specs.Over.{poly, Is, Result, result}
-use Rattle.ideal_operand.specs.declared.Ideal.{Ideal}
+use Rattle.base_ideal.specs.declared.Ideal.{Ideal}
 use Rattle.ideal_operand.specs.Operand.{held_pair, Operand, K, M, I, operand_ideal, operand_degree}
 use Rattle.ideal_operand.specs.Product.{Multiplied}
 use Rattle.ideal_operand.specs.Difference.{is_path}

@@ -4,10 +4,10 @@
 ghost use Rattle.ideal_operand.specs.Ideal.{Operand, Multiplied};
 
 use base_euclid::bezout::first_factor;
+use base_ideal::Ideal;
 use base_polynomial::Poly;
 use base_surd::Surd;
 use ideal_coprime::coprime;
-use ideal_operand::Ideal;
 use ideal_shared::shared;
 
 // `common` becomes S and z becomes (Q, P) of the product of x, (Q_1, P_1), and y, (Q_2, P_2). Most often Q_1 and Q_2

@@ -29,9 +29,9 @@ use Rattle.base_polynomial.specs.Pad.{length_pad, at_pad}
 use Rattle.base_surd.specs.Surd as surds
 use Rattle.walk_step.specs.Step.{step_quo, next_rem, next_q, Stepped}
 use Rattle.walk_state.specs.State.{pad_series}
-use Rattle.ideal_operand.specs.declared.Ideal.{Ideal}
+use Rattle.base_ideal.specs.declared.Ideal.{Ideal}
 use Rattle.ideal_operand.specs.Operand.{K, M, held_pair}
-use Rattle.ideal_descend.specs.declared.root.Root.{Root}
+use Rattle.walk_state.specs.declared.root.Root.{Root}
 use Rattle.ideal_descend.specs.Height.{Height}
 use Rattle.ideal_descend.specs.Turn.{At, Going}
 use Rattle.ideal_descend.proofs.Turn.{even_past, quotient_some, at_next}

@@ -4,7 +4,7 @@ use Rattle.std.proofs.Common.{arith, ap₂, ◌∙◌, ext_get_or}
 use Rattle.std.proofs.Math.Path.{sym, ap, subst}
 use Rattle.std.proofs.Math.ListN.{length, get_or-eq_default}
 use Rattle.spec_arithmetic.specs.Field.{FieldName, ops}
-use Rattle.spec_arithmetic.specs.Polynomials.{trim, pad, size, deg, monic, add, sub, mul, rem}
+use Rattle.spec_arithmetic.specs.Polynomials.{trim, pad, size, deg, monic, sub, mul, rem}
 use Rattle.spec_definitions.specs.Walk.{Ideal as Pair, steps}
 use Rattle.spec_definitions.specs.Products.{turns_of, degree_sum}
 use Rattle.spec_bridge.specs.Trim.{size_le, length_trim}
@@ -25,10 +25,10 @@ use Rattle.base_polynomial.specs.Linear.{held_within, sub_zeros}
 use Rattle.base_polynomial.specs.Pad.{length_pad, at_pad}
 use Rattle.base_surd.specs.declared.Surd.{Surd}
 use Rattle.base_surd.specs.Surd as surds
-use Rattle.walk_state.specs.State.{root_d, pad_within}
-use Rattle.ideal_operand.specs.declared.Ideal.{Ideal}
+use Rattle.walk_state.specs.State.{root_d}
+use Rattle.base_ideal.specs.declared.Ideal.{Ideal}
 use Rattle.ideal_operand.specs.Operand.{held_pair, K, M, I}
-use Rattle.ideal_descend.specs.declared.root.Root.{Root}
+use Rattle.walk_state.specs.declared.root.Root.{Root}
 use Rattle.ideal_descend.specs.Recurrence.{before, left}
 use Rattle.ideal_descend.specs.Stands.{Stands, Begun}
 use Rattle.ideal_descend.specs.Turn.{At, Going, Reduces}

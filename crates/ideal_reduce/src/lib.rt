@@ -2,22 +2,23 @@
 // Q before the first.
 #![tactic(auto)]
 
-ghost use Rattle.std.specs.Prelude.{◌/◌, ◌+◌, ◌<◌};
+ghost use Rattle.std.specs.Prelude.{◌<◌, ◌≤◌};
+ghost use Rattle.walk_state.specs.Root.{top};
 ghost use Rattle.ideal_operand.specs.Ideal.{held_pair};
 ghost use Rattle.ideal_descend.specs.Turn.{Reduces};
 ghost use Rattle.ideal_reduce.specs.Start.{Start};
 
+use base_ideal::{Ideal, normal};
 use base_places::linear::{add_places, sub_places};
 use base_polynomial::Poly;
-use ideal_descend::root::Root;
-use ideal_descend::{Stage, descend, height, normal};
-use ideal_operand::Ideal;
+use ideal_descend::{Stage, descend, height};
 use ideal_operand::cofactor::cofactor;
+use walk_state::root::Root;
 
 // z becomes the reduced ideal of a, whose Q has a degree above g, by one step or more. The Q before the first is
 // (D − P²)/Q, and the remainder before it d − P. What a holds is used up.
 fn from_first(r: &Root, a: &mut Ideal, z: &mut Ideal) -> u64
-    requires high { r.now.surd.n / 2 < a.old.q.size }
+    requires high { top r.now ≤ a.old.q.size }
     requires start { Start r.now.surd a.old }
     ensures { Reduces r.now.surd (held_pair a.old) z.new result }
 {
@@ -34,7 +35,7 @@ fn from_first(r: &Root, a: &mut Ideal, z: &mut Ideal) -> u64
 // The same where deg Q is above g + 1, the degree of d. Then a_0 is 0, the next Q is (D − P²)/Q and the remainder
 // P + d, so that the steps start at index 1.
 fn from_second(r: &Root, a: &mut Ideal, z: &mut Ideal) -> u64
-    requires high { r.now.surd.n / 2 + 1 < a.old.q.size }
+    requires high { top r.now < a.old.q.size }
     requires start { Start r.now.surd a.old }
     ensures { Reduces r.now.surd (held_pair a.old) z.new result }
 {
@@ -58,10 +59,10 @@ pub fn reduce(r: &Root, a: &mut Ideal, z: &mut Ideal) -> u64
     requires { Start r.now.surd a.old }
     ensures { Reduces r.now.surd (held_pair a.old) z.new result }
 {
-    let h = r.surd.n / 2;
-    if h + 1 < a.q.size {
+    let top = r.top();
+    if top < a.q.size {
         from_second(r, a, z)
-    } else if h < a.q.size {
+    } else if top == a.q.size {
         from_first(r, a, z)
     } else {
         z.p = a.p;

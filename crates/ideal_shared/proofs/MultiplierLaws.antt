@@ -10,7 +10,7 @@ use Rattle.spec_laws.specs.Admitted.{Admitted}
 use Rattle.spec_laws.specs.Product.{common_of, bezout_u, bezout_w}
 use Rattle.base_polynomial.specs.declared.Poly.{Poly}
 use Rattle.base_polynomial.specs.Over.{poly, Held, Is, held_positive, Result, result_add, result_u, result_factor_gcd}
-use Rattle.ideal_operand.specs.declared.Ideal.{Ideal}
+use Rattle.base_ideal.specs.declared.Ideal.{Ideal}
 use Rattle.ideal_operand.specs.Operand.{held_pair, Operand, operand_q, operand_q_size}
 use Rattle.ideal_operand.specs.Difference.{is_path}
 use Rattle.ideal_shared.proofs.Sizes.{size_add, size_u}

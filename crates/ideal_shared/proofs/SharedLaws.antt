@@ -18,12 +18,23 @@ use Rattle.spec_laws.specs.ProductSizes.{ideal_p_size, cofactor_length, common_l
 use Rattle.base_polynomial.specs.declared.Poly.{Poly}
 use Rattle.base_polynomial.specs.Over.{poly, Held, Is, Result, result}
 use Rattle.base_polynomial.specs.Result.{result_quo, size_quo}
-use Rattle.ideal_operand.specs.declared.Ideal.{Ideal}
+use Rattle.base_ideal.specs.declared.Ideal.{Ideal}
 use Rattle.ideal_operand.specs.Operand.{held_pair, Operand, K, M, I, operand_q, operand_q_size, operand_ideal, operand_degree}
 use Rattle.ideal_operand.specs.Product.{Multiplied}
 use Rattle.ideal_operand.specs.Difference.{is_path}
 use Rattle.ideal_shared.specs.Laws.{turned_bracket, product_of_quotients}
 use Rattle.ideal_shared.proofs.Laws.{turned}
+
+-- (D − P_1²)/Q_1
+module _ {f : FieldName} {g : ℕ} {D : List ℕ} (h : Admitted f g D) {i : Ideal} (t : Operand f g D i) {c : Poly} (c_is : Is f c (cofactor_at (ops f) D (held_pair i))) where
+  cofactor_most : length (cofactor_at (ops f) D (held_pair i)) ≤ suc (suc g + suc g)
+  cofactor_most = cofactor_length (K h) (M h) (I h) (operand_ideal h t) (operand_degree h t) (D_most h)
+
+  pub cofactor_result : Result f c (cofactor_at (ops f) D (held_pair i))
+  cofactor_result = result {a = c} c_is (let e = cofactor_most in let w = h.genus_most in omega arith) (trim_quo (M h) _ _) (oks_quo (M h) _ _)
+
+  pub cofactor_bound : c.size ≤ 65
+  cofactor_bound = let e = cofactor_most in let z = c_is.size_is in let w = h.genus_most in omega arith
 
 module _ {f : FieldName} {g : ℕ} {D : List ℕ} (h : Admitted f g D) {i i' : Ideal} (t : Operand f g D i) (t' : Operand f g D i') where
   abbrev x : Pair ℕ
@@ -41,7 +52,7 @@ module _ {f : FieldName} {g : ℕ} {D : List ℕ} (h : Admitted f g D) {i i' : I
   S_most : length (common_of (ops f) x y) ≤ suc g
   S_most = common_length (K h) (M h) (I h) (operand_ideal h t) (operand_ideal h t') (operand_degree h t) (operand_degree h t')
 
-  -- ---- S, U, W and (D − P_1²)/Q_1
+  -- ---- S, U and W
   module _ {s : Poly} (s_is : Is f s (common_of (ops f) x y)) where
     pub S_result : Result f s (common_of (ops f) x y)
     S_result = result {a = s} s_is (let e = S_most in let w = h.genus_most in omega arith) (trim_gcd (M h) (I h) _ _) (oks_gcd (M h) (I h) _ _)
@@ -82,8 +93,8 @@ module _ {f : FieldName} {g : ℕ} {D : List ℕ} (h : Admitted f g D) {i i' : I
       pub Q_positive : 0 < q.size
       Q_positive = let e = Q_length (K h) (M h) (I h) (operand_ideal h t) (operand_ideal h t') (operand_degree h t) (operand_degree h t') in let z = Q_is.size_is in omega arith
 
-      product_q_lem : Is f q (product_of (ops f) D x y).ideal.q
-      product_q_lem = is_path {z = q} (ap (λ (r : Product ℕ). r.ideal.q) (sym (product_is (K h) (M h) (I h) D x y))) Q_is
+      definition_q : Is f q (product_of (ops f) D x y).ideal.q
+      definition_q = is_path {z = q} (ap (λ (r : Product ℕ). r.ideal.q) (sym (product_is (K h) (M h) (I h) D x y))) Q_is
 
   module _ {u : Poly} (u_is : Is f u U) where
     U_most : length U ≤ g + g
@@ -105,21 +116,11 @@ module _ {f : FieldName} {g : ℕ} {D : List ℕ} (h : Admitted f g D) {i i' : I
     pub W_bound : w.size ≤ 65
     W_bound = let e = W_most in let z = w_is.size_is in let n = h.genus_most in omega arith
 
-  module _ {c : Poly} (c_is : Is f c (cofactor_at (ops f) D x)) where
-    cofactor_most : length (cofactor_at (ops f) D x) ≤ suc (suc g + suc g)
-    cofactor_most = cofactor_length (K h) (M h) (I h) (operand_ideal h t) (operand_degree h t) (D_most h)
-
-    pub cofactor_result : Result f c (cofactor_at (ops f) D x)
-    cofactor_result = result {a = c} c_is (let e = cofactor_most in let w = h.genus_most in omega arith) (trim_quo (M h) _ _) (oks_quo (M h) _ _)
-
-    pub cofactor_bound : c.size ≤ 65
-    cofactor_bound = let e = cofactor_most in let z = c_is.size_is in let w = h.genus_most in omega arith
-
   -- ---- P
-  module _ {u w c : Poly} (u_is : Is f u U) (w_is : Is f w W) (c_is : Is f c (cofactor_at (ops f) D x))
-      {b : Poly} (b_is : Is f b (sub (ops f) (mul (ops f) (poly u) (sub (ops f) (poly i.p) (poly i'.p))) (mul (ops f) (poly w) (poly c)))) where
+  module _ {u w : Poly} (u_is : Is f u U) (w_is : Is f w W)
+      {b : Poly} (b_is : Is f b (sub (ops f) (mul (ops f) (poly u) (sub (ops f) (poly i.p) (poly i'.p))) (mul (ops f) (poly w) (cofactor_at (ops f) D x)))) where
     bracket_is : Is f b (turned_bracket (ops f) D x y U W)
-    bracket_is = is_path {z = b} (ap₂ (sub (ops f)) (ap (λ (l : List ℕ). mul (ops f) l (sub (ops f) (poly i.p) (poly i'.p))) (U_result u_is).is) (ap₂ (mul (ops f)) (W_result w_is).is (cofactor_result c_is).is)) b_is
+    bracket_is = is_path {z = b} (ap₂ (sub (ops f)) (ap (λ (l : List ℕ). mul (ops f) l (sub (ops f) (poly i.p) (poly i'.p))) (U_result u_is).is) (ap (λ (l : List ℕ). mul (ops f) l (cofactor_at (ops f) D x)) (W_result w_is).is)) b_is
 
     bracket_most : length (turned_bracket (ops f) D x y U W) ≤ 3 + (g + g + g)
     bracket_most =
@@ -144,6 +145,6 @@ module _ {f : FieldName} {g : ℕ} {D : List ℕ} (h : Admitted f g D) {i i' : I
         → Is f z.p (rem (ops f) (sub (ops f) (poly i.p) (mul (ops f) (poly a) (poly b))) (poly z.q)) → Multiplied f D x y s z
     multiplied s_is a_is {z} q_is p_is = record {
       s_is = product_s s_is;
-      q_is = product_q_lem s_is q_is;
+      q_is = definition_q s_is q_is;
       p_is = is_path {z = z.p} (ap₂ (rem (ops f)) (ap (sub (ops f) (poly i.p)) (ap₂ (mul (ops f)) (first_is s_is a_is) bracket_result.is)) (Q_result s_is q_is).is ∙ turned (K h) (M h) (I h) D (operand_ideal h t) (operand_ideal h t') U W ∙ ap (λ (r : Product ℕ). r.ideal.p) (sym (product_is (K h) (M h) (I h) D x y))) p_is;
     }

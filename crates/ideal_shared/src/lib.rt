@@ -4,18 +4,19 @@
 
 ghost use Rattle.std.specs.Prelude.{◌+◌, ◌<◌, ◌≤◌};
 ghost use Rattle.spec_arithmetic.specs.Polynomials.{add as add_of, sub as sub_of, mul as mul_of, quo as quo_of, rem as rem_of, gcd as gcd_of, bezout as bezout_of};
+ghost use Rattle.spec_laws.specs.Pairs.{cofactor_at};
 ghost use Rattle.base_field.specs.Named.{ops};
 ghost use Rattle.base_polynomial.specs.Whole.{poly, Held, Is};
-ghost use Rattle.ideal_operand.specs.Ideal.{Operand, Multiplied};
+ghost use Rattle.ideal_operand.specs.Ideal.{held_pair, Operand, Multiplied};
 
 use base_division::difference::subtract_product;
 use base_division::division::{quotient, remainder};
 use base_euclid::bezout::bezout;
 use base_field::Field;
+use base_ideal::Ideal;
 use base_polynomial::Poly;
 use base_polynomial::ring::{add, multiply, subtract};
 use base_surd::Surd;
-use ideal_operand::Ideal;
 use ideal_operand::cofactor::cofactor;
 
 // s becomes S = gcd(h, P_1 + P_2) = x·h + W·(P_1 + P_2), u becomes x·y and w W. In the product h is
@@ -56,16 +57,20 @@ fn norm(f: Field, q1: &Poly, q2: &Poly, s: &Poly, first: &mut Poly, q: &mut Poly
     multiply(f, first, &second, q);
 }
 
-// z becomes U·(P_1 − P_2) − W·c.
-fn bracket(f: Field, p1: &Poly, p2: &Poly, u: &Poly, w: &Poly, c: &Poly, z: &mut Poly)
-    requires sizes { (p1.now.size ≤ 65) × (p2.now.size ≤ 65) × (u.now.size ≤ 65) × (w.now.size ≤ 65) × (c.now.size ≤ 65) }
-    requires held { Held f p1.now × Held f p2.now × Held f u.now × Held f w.now × Held f c.now }
-    ensures { Is f z.new (sub_of (ops f) (mul_of (ops f) (poly u.now) (sub_of (ops f) (poly p1.now) (poly p2.now))) (mul_of (ops f) (poly w.now) (poly c.now))) }
+// z becomes U·(P_1 − P_2) − W·(D − P_1²)/Q_1, where x is (Q_1, P_1).
+fn bracket(s: &Surd, x: &Ideal, p2: &Poly, u: &Poly, w: &Poly, z: &mut Poly)
+    requires operand { Operand s.now x.now }
+    requires sizes { (p2.now.size ≤ 65) × (u.now.size ≤ 65) × (w.now.size ≤ 65) }
+    requires held { Held s.now.field p2.now × Held s.now.field u.now × Held s.now.field w.now }
+    ensures { Is s.now.field z.new (sub_of (ops s.now.field) (mul_of (ops s.now.field) (poly u.now) (sub_of (ops s.now.field) (poly x.now.p) (poly p2.now))) (mul_of (ops s.now.field) (poly w.now) (cofactor_at (ops s.now.field) (poly s.now.radicand) (held_pair x.now)))) }
 {
+    let f = s.field;
     let mut difference = Poly::zero();
-    subtract(f, p1, p2, &mut difference);
+    subtract(f, &x.p, p2, &mut difference);
     multiply(f, u, &difference, z);
-    subtract_product(f, z, w, c);
+    let mut c = Poly::zero();
+    cofactor(f, &s.radicand, x, &mut c);
+    subtract_product(f, z, w, &c);
 }
 
 // p becomes P_1 − a·b modulo Q, which is not 0.
@@ -101,9 +106,7 @@ pub fn shared(
     multipliers(f, h, part, &x.p, &y.p, common, &mut u, &mut w);
     let mut first = Poly::zero();
     norm(f, &x.q, &y.q, common, &mut first, &mut z.q);
-    let mut c = Poly::zero();
-    cofactor(f, &s.radicand, x, &mut c);
     let mut b = Poly::zero();
-    bracket(f, &x.p, &y.p, &u, &w, &c, &mut b);
+    bracket(s, x, &y.p, &u, &w, &mut b);
     residue(f, &x.p, &first, &b, &z.q, &mut z.p);
 }

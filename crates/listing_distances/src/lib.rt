@@ -11,11 +11,11 @@ use listing_whole::Listing;
 
 // The distance in the words of a record.
 #[tactic(auto, unfolding(crate::specs::Distances::distance_of))]
-pub fn distance_of(record: &[u32]) -> Distance
-    requires { 2 < length record.now }
-    ensures { result.0 ≡ distance_of record.now }
+pub fn distance_of(words: &[u32]) -> Distance
+    requires { 2 < length words.now }
+    ensures { result.0 ≡ distance_of words.now }
 {
-    Distance(joined(value(record[1]), value(record[2])))
+    Distance(joined(value(words[1]), value(words[2])))
 }
 
 // Whether each distance is above the one before it.
@@ -25,7 +25,7 @@ pub fn rising(listing: Listing) -> bool
     listing
         .words
         .chunks_exact(listing.n + 4)
-        .is_sorted_by(|here, next| distance_of(here).0 < distance_of(next).0)
+        .is_sorted_by(|here, next| distance_of(here) < distance_of(next))
 }
 
 // The last record with distance at most y, counted from 0; the first where there is none.
@@ -36,6 +36,6 @@ pub fn last_within(listing: Listing, y: Distance) -> usize
     listing
         .words
         .chunks_exact(listing.n + 4)
-        .rposition(|record| distance_of(record).0 <= y.0)
+        .rposition(|words| distance_of(words) <= y)
         .unwrap_or(0)
 }

@@ -28,11 +28,11 @@ fn record_kind(n: usize, j: usize) -> WordKind
 }
 
 // Whether the words of a record have its kinds.
-fn record_kinds_ok(record: &[u32], n: usize) -> bool
-    requires { (wrong_degree n ≡ false) × (length record.now ≡ n + 4) }
-    ensures { result ≡ has_kinds record.now n }
+fn record_kinds_ok(words: &[u32], n: usize) -> bool
+    requires { (wrong_degree n ≡ false) × (length words.now ≡ n + 4) }
+    ensures { result ≡ has_kinds words.now n }
 {
-    record
+    words
         .iter()
         .enumerate()
         .all(|(j, &word)| kind(word) == u32::from(record_kind(n, j)))
@@ -45,5 +45,5 @@ pub fn kinds_ok(listing: Listing) -> bool
     listing
         .words
         .chunks_exact(listing.n + 4)
-        .all(|record| record_kinds_ok(record, listing.n))
+        .all(|words| record_kinds_ok(words, listing.n))
 }

@@ -1,5 +1,5 @@
 -- The parts of a record: the words of its coefficients, place by place, and the whole of it part after part.
-use Rattle.std.specs.Prelude.{ℕ, suc, ◌+◌, ◌-◌, ◌/◌, ◌<◌, ◌≤◌, ◌≡◌, List, [], ◌∷◌, ◌++◌, map, length, get_or, take, drop}
+use Rattle.std.specs.Prelude.{ℕ, suc, ◌+◌, ◌-◌, ◌/◌, ◌<◌, ◌≤◌, ◌≡◌, List, [], ◌∷◌, ◌++◌, map, length, get_or, drop}
 use Rattle.std.proofs.Common.{arith, sym, ap, ap₂, ◌∙◌, ext_get_or}
 use Rattle.std.proofs.lemmas.List.{length-map, length-append, get_or-map, drop-drop, append_assoc}
 use Rattle.spec_arithmetic.specs.Field.{modulo}
@@ -8,7 +8,7 @@ use Rattle.spec_arithmetic.specs.Words.{word, high, low}
 use Rattle.spec_definitions.specs.Ticket.{genus}
 use Rattle.spec_definitions.specs.Listing.{Entry, record_words}
 use Rattle.spec_lists.specs.Pad.{length_pad, pad_at}
-use Rattle.listing_words.specs.Stored.{stored, stored_first, stored_part}
+use Rattle.listing_words.specs.Stored.{stored, stored_first}
 
 pub coefficient_words : (k kind : ℕ) (c words : List ℕ) → ((i : ℕ) → i < length words → get_or words i 0 ≡ word kind (get_or c i 0)) → words ≡ map (word kind) (pad (modulo k) (length words) c)
 coefficient_words k kind c words each = ext_get_or 0 _ _ (sym (length-map (pad (modulo k) (length words) c) (word kind) ∙ length_pad (modulo k) (length words) c)) (λ i h. each i h ∙ sym (get_or-map (word kind) (pad (modulo k) (length words) c) i 0 0 (let e = length_pad (modulo k) (length words) c in omega arith) ∙ ap (word kind) (pad_at (modulo k) (length words) c i h)))
@@ -42,8 +42,3 @@ module _ (k n mirror : ℕ) (e : Entry) (two : 2 ≤ n) where
         let left : drop (h - 1) rest ≡ drop (5 + (h + (h - 1))) l = ap (drop (h - 1)) rest_is ∙ drop-drop (h - 1) h (drop 5 l) ∙ drop-drop (h + (h - 1)) 5 l in
         ap₂ (λ (a b : List ℕ). a ++ b) first_is (ap₂ (λ (a b : List ℕ). a ++ b) of_q_is (ap₂ (λ (a b : List ℕ). a ++ b) p_is left) ∙ sym (append_assoc q p (drop (5 + (h + (h - 1))) l)))
         ∙ sym (stored_first (record_words (modulo k) n mirror e) l (5 + (h + (h - 1))) length_record_words (omega arith))
-
-    -- a record that is stored in a part of n + 4 words is stored in the list
-    pub stored_record : (at size : ℕ) → size ≡ n + 4 → at + (n + 4) ≤ length l
-        → take at l ++ (stored (take size (drop at l)) 0 (record_words (modulo k) n mirror e) ++ drop size (drop at l)) ≡ stored l at (record_words (modulo k) n mirror e)
-    stored_record at size is fits = stored_part (record_words (modulo k) n mirror e) l at size (let long = length_record_words in omega arith) (omega arith)

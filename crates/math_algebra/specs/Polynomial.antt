@@ -190,8 +190,8 @@ module _ {A : Type 0} (K : Field A) where
   monic_one = record { low = one_low; top = refl }
 
   -- no other is monic of degree 0
-  pub monic_constant_lem : (f : Px) → Monic f 0 → f ≡ 𝟙
-  monic_constant_lem f m = low_one f m.low ∙ ap (con F) m.top
+  pub monic_constant_one : (f : Px) → Monic f 0 → f ≡ 𝟙
+  monic_constant_one f m = low_one f m.low ∙ ap (con F) m.top
 
   pub monic_mul : (f g : Px) (m n : ℕ) → Monic f m → Monic g n → Monic (f * g) (m +ₙ n)
   monic_mul f g m n h k = record {

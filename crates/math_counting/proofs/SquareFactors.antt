@@ -7,7 +7,7 @@ use Rattle.math_ring.specs.Identity.{ring, quote}
 use Rattle.math_ring.specs.Series.{Series, add_s, con, tail}
 use Rattle.math_ring.specs.Division.{up}
 use Rattle.math_algebra.specs.Field.{Field}
-use Rattle.math_algebra.specs.Polynomial.{F, Px, Monic, deg_unique, monic_deg, monic_constant_lem, monic_mul, monic_path}
+use Rattle.math_algebra.specs.Polynomial.{F, Px, Monic, deg_unique, monic_deg, monic_constant_one, monic_mul, monic_path}
 use Rattle.math_algebra.specs.Characteristic.{Perfect}
 use Rattle.math_algebra.specs.PowerRoot.{parts}
 use Rattle.math_algebra.specs.Squarefree.{SquareFactor}
@@ -76,7 +76,7 @@ module _ {A : Type 0} (K : Field A) where
   factor_part {f} p t = ⊎_elim (λ z. absurd (p.squarefree (subst (SquareFactor K) (constant z) t))) (λ l. l) (eq-zero-or-pos p.h_size)
     where
       constant : p.h_size ≡ 0 → f ≡ p.s
-      constant z = p.is ∙ ap (λ h. p.s * (h * h)) (monic_constant_lem K p.h (subst (Monic K p.h) z p.h_monic)) ∙ ring R[x] (p.s ∷ []) (search quote depth 40 fits 9999) tt
+      constant z = p.is ∙ ap (λ h. p.s * (h * h)) (monic_constant_one K p.h (subst (Monic K p.h) z p.h_monic)) ∙ ring R[x] (p.s ∷ []) (search quote depth 40 fits 9999) tt
 
   -- ---- from t to D
   -- the square part of D

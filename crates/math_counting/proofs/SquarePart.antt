@@ -6,7 +6,7 @@ use Rattle.math_ring.specs.Identity.{ring, ring_from, times, plus, quote}
 use Rattle.math_ring.specs.Series.{Series, con}
 use Rattle.math_ring.specs.Order.{le_or_lt}
 use Rattle.math_algebra.specs.Field.{Field}
-use Rattle.math_algebra.specs.Polynomial.{F, Px, Deg, Monic, con_inv, deg_con, deg_not_zero, deg_unique, monic_deg, monic_of, monic_one, monic_constant_lem, monic_mul, monic_path, monic_factor}
+use Rattle.math_algebra.specs.Polynomial.{F, Px, Deg, Monic, con_inv, deg_con, deg_not_zero, deg_unique, monic_deg, monic_of, monic_one, monic_constant_one, monic_mul, monic_path, monic_factor}
 use Rattle.math_algebra.specs.Divides.{Divides, divides_deg}
 use Rattle.math_algebra.specs.Finite.{Finite, finite_add, finite_mul, finite_deg, finite_monic, finite_by, cancel_left}
 use Rattle.math_algebra.specs.Gcd.{IsGcd, gcd_exists, gcd_monic, gcd_zero, gcd_low}
@@ -137,7 +137,7 @@ module _ {A : Type 0} (K : Field A) where
 
   -- a monic polynomial whose square divides a squarefree one is 1
   squarefree_one : (a t : Px K) (n : ℕ) → Monic K a n → Squarefree t → Divides K (a * a) t → a ≡ 𝟙
-  squarefree_one a t zero m h d = monic_constant_lem K a m
+  squarefree_one a t zero m h d = monic_constant_one K a m
   squarefree_one a t (suc n) m h d = absurd (h (record { factor = a; size = suc n; some = omega arith; deg = monic_deg K m; divides = d }))
 
   pub square_part_unique : SquarePartUnique

@@ -52,14 +52,14 @@ module _ {A : Type 0} (K : Field A) where
     t₂ = h₂.divides.by
 
     -- how often Q goes into x - y P
-    abbrev product_by_lem : P[x]
-    product_by_lem = y₁ * y₂ * m.cross.by - y₁ * t₂ * m.first.by - y₂ * t₁ * m.second.by + t₁ * t₂ * S
+    abbrev product_cofactor : P[x]
+    product_cofactor = y₁ * y₂ * m.cross.by - y₁ * t₂ * m.first.by - y₂ * t₁ * m.second.by + t₁ * t₂ * S
 
     abbrev product_y : P[x]
     product_y = y₁ * y₂ * t + t₁ * y₂ * q₁ + t₂ * y₁ * q₂
 
     abbrev product_x : P[x]
-    product_x = product_y * P + q₁ * q₂ * product_by_lem
+    product_x = product_y * P + q₁ * q₂ * product_cofactor
 
     x₁_is : x₁ ≡ y₁ * P₁ + S * q₁ * t₁
     x₁_is = ring_from R[x] (x₁ ∷ y₁ ∷ P₁ ∷ S ∷ q₁ ∷ t₁ ∷ Q₁ ∷ []) (plus R[x] (times R[x] 𝟙 h₁.divides.is) (times R[x] t₁ c.first.is)) (search quote depth 40 fits 9999) tt
@@ -73,17 +73,17 @@ module _ {A : Type 0} (K : Field A) where
     product_x_is : S * product_x ≡ x₁ * x₂ + D * y₁ * y₂
     product_x_is = open_y ∙ rest
       where
-        open_y : S * product_x ≡ (x₁ * y₂ + x₂ * y₁) * P + S * (q₁ * q₂ * product_by_lem)
-        open_y = ring_from R[x] (S ∷ product_y ∷ P ∷ q₁ ∷ q₂ ∷ product_by_lem ∷ x₁ ∷ y₁ ∷ x₂ ∷ y₂ ∷ []) (times R[x] P product_y_is) (search quote depth 40 fits 9999) tt
+        open_y : S * product_x ≡ (x₁ * y₂ + x₂ * y₁) * P + S * (q₁ * q₂ * product_cofactor)
+        open_y = ring_from R[x] (S ∷ product_y ∷ P ∷ q₁ ∷ q₂ ∷ product_cofactor ∷ x₁ ∷ y₁ ∷ x₂ ∷ y₂ ∷ []) (times R[x] P product_y_is) (search quote depth 40 fits 9999) tt
 
-        rest : (x₁ * y₂ + x₂ * y₁) * P + S * (q₁ * q₂ * product_by_lem) ≡ x₁ * x₂ + D * y₁ * y₂
+        rest : (x₁ * y₂ + x₂ * y₁) * P + S * (q₁ * q₂ * product_cofactor) ≡ x₁ * x₂ + D * y₁ * y₂
         rest = ring_from R[x] (S ∷ D ∷ P ∷ P₁ ∷ P₂ ∷ q₁ ∷ q₂ ∷ x₁ ∷ y₁ ∷ x₂ ∷ y₂ ∷ t₁ ∷ t₂ ∷ m.first.by ∷ m.second.by ∷ m.cross.by ∷ []) (plus R[x] (times R[x] (y₂ * P - x₂) x₁_is) (plus R[x] (times R[x] (y₁ * P - y₁ * P₁ - S * q₁ * t₁) x₂_is) (plus R[x] (times R[x] (- (y₁ * y₂)) m.cross.is) (plus R[x] (times R[x] (S * q₁ * t₁ * y₂) m.second.is) (times R[x] (S * q₂ * t₂ * y₁) m.first.is))))) (search quote depth 40 fits 9999) tt
 
     module _ (f₁ : Finite K y₁) (f₂ : Finite K y₂) (f_P : Finite K P) where
       abbrev S_finite : Finite K S
       S_finite = finite_monic K c.monic
 
-      abbrev by_finite : Finite K product_by_lem
+      abbrev by_finite : Finite K product_cofactor
       by_finite = finite_add K (finite_sub K (finite_sub K (finite_mul K (finite_mul K f₁ f₂) (finite_by K m.cross)) (finite_mul K (finite_mul K f₁ (finite_by K h₂.divides)) (finite_by K m.first))) (finite_mul K (finite_mul K f₂ (finite_by K h₁.divides)) (finite_by K m.second))) (finite_mul K (finite_mul K (finite_by K h₁.divides) (finite_by K h₂.divides)) S_finite)
 
       product_y_finite : Finite K product_y
@@ -115,7 +115,7 @@ module _ {A : Type 0} (K : Field A) where
 
       product_generates : Finite K D → Generates K D product_x product_y (q₁ * q₂) P
       product_generates f-D = record {
-        divides = record { by = product_by_lem; size = by_finite.size; low = by_finite.low; is = ring R[x] (product_y ∷ P ∷ q₁ ∷ q₂ ∷ product_by_lem ∷ []) (search quote depth 40 fits 9999) tt };
+        divides = record { by = product_cofactor; size = by_finite.size; low = by_finite.low; is = ring R[x] (product_y ∷ P ∷ q₁ ∷ q₂ ∷ product_cofactor ∷ []) (search quote depth 40 fits 9999) tt };
         norm = associate_trans K (associate_path K (norm_is f-D)) (associate_scale K (k₁ * k₂) (q₁ * q₂) constants);
       }
 

@@ -46,8 +46,8 @@ module _ {A : Type 0} (K : Field A) {g : ℕ} {D : Px K} {o : Root K g D} (w : W
   pub last_placed : {Q P : Px K} {δ at κ y : ℕ} → Placed K w Q P δ at → Deg K Q κ → δ ≤ y → y < δ +ₙ (suc g -ₙ κ) → Last y at
   last_placed s t l h = record { low = let e = s.distance_is in omega arith; high = let e = placed_next K w s t in omega arith }
 
-  pub single_steps_lem : (y l : ℕ) → distance K w l ≤ y → SingleSteps y l
-  single_steps_lem y l h = go (suc (y -ₙ distance K w l)) 0 (omega arith) (rw (zero-add l) h) (λ i p. absurd (omega arith)) (omega arith)
+  pub single_steps_exist : (y l : ℕ) → distance K w l ≤ y → SingleSteps y l
+  single_steps_exist y l h = go (suc (y -ₙ distance K w l)) 0 (omega arith) (rw (zero-add l) h) (λ i p. absurd (omega arith)) (omega arith)
     where
       go : (fuel n : ℕ) → distance K w l +ₙ n ≤ y → distance K w (n +ₙ l) ≤ y → ((i : ℕ) → i < n → distance K w (suc (i +ₙ l)) ≤ y) → y < distance K w l +ₙ n +ₙ fuel → SingleSteps y l
       go zero n a b c e = absurd (omega arith)
@@ -67,7 +67,7 @@ module _ {A : Type 0} (K : Field A) {g : ℕ} {D : Px K} {o : Root K g D} (w : W
           not_past = let a = l.low in let e = s.distance_is in let r = halves y in omega arith
 
           c : SingleSteps y t.at
-          c = single_steps_lem y t.at (let e = t.placed.distance_is in let k = not_past in omega arith)
+          c = single_steps_exist y t.at (let e = t.placed.distance_is in let k = not_past in omega arith)
 
   -- ---- every y, by induction: 0 is the distance of index 0, and n is a bound of y
   pub last_zero : Last 0 0

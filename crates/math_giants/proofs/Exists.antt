@@ -77,8 +77,8 @@ module _ {A : Type 0} (K : Field A) where
       outer : (S : Px K) × IsGcd K inner.0 (P₁ + P₂) S
       outer = gcd_exists K inner.0 (P₁ + P₂) _ _ (gcd_low K inner.1).1 sum_low
 
-      common_of_lem : Common K Q₁ Q₂ (P₁ + P₂) outer.0
-      common_of_lem = record { σ = top.0; monic = top.1; first = divides_trans K outer.1.left inner.1.left; second = divides_trans K outer.1.left inner.1.right; sum = outer.1.right }
+      common_divisor : Common K Q₁ Q₂ (P₁ + P₂) outer.0
+      common_divisor = record { σ = top.0; monic = top.1; first = divides_trans K outer.1.left inner.1.left; second = divides_trans K outer.1.left inner.1.right; sum = outer.1.right }
         where
           top : (n : ℕ) × Monic K outer.0 n
           top = gcd_monic K outer.1 (λ z. deg_not_zero K s₁.deg (gcd_zero K inner.1 (gcd_zero K outer.1 z).0).0)
@@ -105,17 +105,17 @@ module _ {A : Type 0} (K : Field A) where
 
       -- the product as the start
       first_point : Point
-      first_point = record { Q = product_Q K s₁ s₂ common_of_lem; C = _; P = product_P K s₁ s₂ common_of_lem multipliers; state = product_state K (finite_monic K common_of_lem.monic) (product_meets K s₁ s₂ common_of_lem multipliers) (product_P_finite K s₁ s₂ common_of_lem multipliers) _ (deg_mul K _ _ _ _ (divides_by_deg K common_of_lem.first (monic_deg K common_of_lem.monic) s₁.deg) (divides_by_deg K common_of_lem.second (monic_deg K common_of_lem.monic) s₂.deg)) }
+      first_point = record { Q = product_Q K s₁ s₂ common_divisor; C = _; P = product_P K s₁ s₂ common_divisor multipliers; state = product_state K (finite_monic K common_divisor.monic) (product_meets K s₁ s₂ common_divisor multipliers) (product_P_finite K s₁ s₂ common_divisor multipliers) _ (deg_mul K _ _ _ _ (divides_by_deg K common_divisor.first (monic_deg K common_divisor.monic) s₁.deg) (divides_by_deg K common_divisor.second (monic_deg K common_divisor.monic) s₂.deg)) }
 
       pub giant_exists : GiantStep K o Q₁ P₁ Q₂ P₂
       unfolding steps_from points first_point
       giant_exists = record {
         S = outer.0;
-        common = common_of_lem;
+        common = common_divisor;
         steps = steps_from first_point;
         start = refl;
-        meets = product_meets K s₁ s₂ common_of_lem multipliers;
-        start_finite = product_P_finite K s₁ s₂ common_of_lem multipliers;
+        meets = product_meets K s₁ s₂ common_divisor multipliers;
+        start_finite = product_P_finite K s₁ s₂ common_divisor multipliers;
         turns = (first_reduced K (steps_from first_point)).0;
         reduced = (first_reduced K (steps_from first_point)).1;
         above = (first_reduced K (steps_from first_point)).2;

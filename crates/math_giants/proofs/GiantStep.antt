@@ -7,7 +7,7 @@ use Rattle.math_ring.specs.Series.{Series}
 use Rattle.math_algebra.specs.Field.{Field}
 use Rattle.math_algebra.specs.Polynomial.{F, Px, Deg, deg_path, deg_mul, deg_unique, monic_deg}
 use Rattle.math_surd.specs.Root.{Root}
-use Rattle.math_ideals.specs.Steps.{degree_sum_lem, shift_most}
+use Rattle.math_ideals.specs.Steps.{sum_of_degrees, shift_most}
 use Rattle.math_giants.specs.GiantStep as defs
 
 module _ {A : Type 0} (K : Field A) where
@@ -31,13 +31,13 @@ module _ {A : Type 0} (K : Field A) where
   module _ {g : ℕ} {D : P[x]} {o : Root K g D} {Q₁ P₁ Q₂ P₂ : P[x]} (G : GiantStep o Q₁ P₁ Q₂ P₂) where
     -- after k steps f = deg Q_k - deg Q_0 + (sum of deg a_j, j from 1 to k) - deg S is minus this
     abbrev drop_at : ℕ → ℕ
-    drop_at k = (G.steps.κ 0 +ₙ G.common.σ) -ₙ (G.steps.κ k +ₙ degree_sum_lem K G.steps k)
+    drop_at k = (G.steps.κ 0 +ₙ G.common.σ) -ₙ (G.steps.κ k +ₙ sum_of_degrees K G.steps k)
 
     abbrev drop : ℕ
     drop = defs.drop K G
 
     -- f ≤ 0: nothing is cut off in the difference
-    pub drop_sum : drop +ₙ (G.steps.κ G.turns +ₙ degree_sum_lem K G.steps G.turns) ≡ G.steps.κ 0 +ₙ G.common.σ
+    pub drop_sum : drop +ₙ (G.steps.κ G.turns +ₙ sum_of_degrees K G.steps G.turns) ≡ G.steps.κ 0 +ₙ G.common.σ
     drop_sum = let l = shift_most K G.steps G.turns G.above in omega arith
 
     -- the degree of Q₁ Q₂ is that of Q S²

@@ -18,7 +18,7 @@ use Rattle.math_surd.proofs.Distance.{distance_height}
 use Rattle.math_surd.specs.Ideal.{SameIdeal}
 use Rattle.math_surd.proofs.Ideal.{same_trans}
 use Rattle.math_ideals.specs.Reduction.{next_state}
-use Rattle.math_ideals.specs.Steps.{degree_sum_lem}
+use Rattle.math_ideals.specs.Steps.{sum_of_degrees}
 use Rattle.math_ideals.proofs.Steps.{shift_form}
 use Rattle.math_generators.specs.Generators.{Generates}
 use Rattle.math_generators.proofs.Generators.{generates_same, convergent_generates, s_finite}
@@ -122,7 +122,7 @@ module _ {A : Type 0} (K : Field A) {g : ℕ} {D : Px K} {o : Root K g D} (w : W
     }
       where
         none : drop K G ≡ 0
-        none = subst (λ (k : ℕ). (G.steps.κ 0 +ₙ G.common.σ) -ₙ (G.steps.κ k +ₙ degree_sum_lem K G.steps k) ≡ 0) no_turns (let e = deg_unique K (monic_deg K G.common.monic) S_constant in omega arith)
+        none = subst (λ (k : ℕ). (G.steps.κ 0 +ₙ G.common.σ) -ₙ (G.steps.κ k +ₙ sum_of_degrees K G.steps k) ≡ 0) no_turns (let e = deg_unique K (monic_deg K G.common.monic) S_constant in omega arith)
 
   -- ---- any two
   pub lands : {Q₁ P₁ Q₂ P₂ : P[x]} → Lands Q₁ P₁ Q₂ P₂

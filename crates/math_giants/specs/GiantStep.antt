@@ -14,7 +14,7 @@ use Rattle.math_surd.specs.Step.{State}
 use Rattle.math_algebra.specs.Finite.{Finite, finite_monic}
 use Rattle.math_ideals.specs.Product.{Common, Meets}
 use Rattle.math_ideals.proofs.Product.{meets_norm}
-use Rattle.math_ideals.specs.Steps.{Steps, Above, degree_sum_lem}
+use Rattle.math_ideals.specs.Steps.{Steps, Above, sum_of_degrees}
 
 module _ {A : Type 0} (K : Field A) where
   open Series (F K) use {add as ◌+◌, mul as ◌*◌, neg as -◌, one as 𝟙}
@@ -65,7 +65,7 @@ module _ {A : Type 0} (K : Field A) where
 
     -- after k steps f = deg Q_k - deg Q_0 + (sum of deg a_j, j from 1 to k) - deg S is minus this
     abbrev drop_at : ℕ → ℕ
-    drop_at k = (G.steps.κ 0 +ₙ G.common.σ) -ₙ (G.steps.κ k +ₙ degree_sum_lem K G.steps k)
+    drop_at k = (G.steps.κ 0 +ₙ G.common.σ) -ₙ (G.steps.κ k +ₙ sum_of_degrees K G.steps k)
 
     abbrev pub drop : ℕ
     drop = drop_at G.turns

@@ -70,8 +70,8 @@ module _ {A : Type 0} (K : Field A) where
         go zero k h l = absurd (let a = turns_less k h in omega arith)
         go (suc n) k h l = ⊎_elim (λ m. go n (suc k) (above_more k h m) (omega arith)) (λ m. (k, omega arith, h)) (le_or_lt (suc g) (κ k))
 
-    abbrev degree_sum_lem : ℕ → ℕ
-    degree_sum_lem = defs.degree_sum_lem K s
+    abbrev sum_of_degrees : ℕ → ℕ
+    sum_of_degrees = defs.sum_of_degrees K s
 
     abbrev height_sum : ℕ → ℕ
     height_sum = defs.height_sum K s
@@ -79,7 +79,7 @@ module _ {A : Type 0} (K : Field A) where
     abbrev prior_sum : ℕ → ℕ
     prior_sum = defs.prior_sum K s
 
-    pub shift_form : (k : ℕ) → κ k +ₙ degree_sum_lem k +ₙ prior_sum k ≡ κ 0 +ₙ height_sum k
-    unfolding defs.degree_sum_lem defs.height_sum defs.prior_sum
+    pub shift_form : (k : ℕ) → κ k +ₙ sum_of_degrees k +ₙ prior_sum k ≡ κ 0 +ₙ height_sum k
+    unfolding defs.sum_of_degrees defs.height_sum defs.prior_sum
     shift_form zero = omega arith
     shift_form (suc k) = let a = shift_form k in let c = height_more k in omega arith

@@ -72,13 +72,13 @@ module _ {A : Type 0} (K : Field A) where
 
     -- ---- f
     -- the sum of the degrees of a, from 1 to k
-    unfoldable pub degree_sum_lem : ℕ → ℕ
-    degree_sum_lem zero = 0
-    degree_sum_lem (suc k) = degree_sum_lem k +ₙ (height k -ₙ κ (suc k))
+    unfoldable pub sum_of_degrees : ℕ → ℕ
+    sum_of_degrees zero = 0
+    sum_of_degrees (suc k) = sum_of_degrees k +ₙ (height k -ₙ κ (suc k))
 
     -- what is taken off is taken off the start's degree: f ≤ 0
-    pub shift_most : (k : ℕ) → Above k → κ k +ₙ degree_sum_lem k ≤ κ 0
-    unfolding degree_sum_lem
+    pub shift_most : (k : ℕ) → Above k → κ k +ₙ sum_of_degrees k ≤ κ 0
+    unfolding sum_of_degrees
     shift_most zero h = omega arith
     shift_most (suc k) h = let a = shift_most k (λ j p. h j (omega arith)) in let b = (step_fall k (h k (omega arith))).0 in let c = height_more k in omega arith
 

@@ -10,7 +10,7 @@ use Rattle.math_surd.specs.Convergents as convergents
 use Rattle.math_surd.specs.Distance.{distance}
 use Rattle.math_surd.proofs.Distance.{distance_mono, distance_rise, distance_least, index_le, index_lt}
 use Rattle.math_surd.specs.QuasiPeriod.{QuasiPeriod, NoneConstant}
-use Rattle.math_surd.proofs.QuasiPeriod.{quasi_period_lem}
+use Rattle.math_surd.proofs.QuasiPeriod.{quasi_period_or_none}
 use Rattle.math_surd.specs.LeastDegree.{Solution}
 use Rattle.math_surd.proofs.LeastDegree.{solved, found, reached, reached_deg}
 use Rattle.math_surd.proofs.Ideal.{same_sym, same_trans}
@@ -101,7 +101,7 @@ module _ {A : Type 0} (K : Field A) {g : ℕ} {D : Px K} {o : Root K g D} (w : W
     inside_right J R s = (s.m, s.first, s.is, let a = distance_mono K w s.m k s.inside in let b = rises_to 0 J (omega arith) in let e = reach_start in let e' = s.is in omega arith)
 
     landing_right : (J j R : ℕ) → j < J → (ByLanding K w) l j R → (m : ℕ) × QuasiPeriod K w m × (R ≡ distance K w m) × (R ≤ (reach K w) l J)
-    landing_right J j R h s = ⊎_elim some (λ no. absurd (no n (let a = past j in let b = s.here.inside in omega arith) (omega arith) (stocked_constant j s.place s.here))) (quasi_period_lem K w n)
+    landing_right J j R h s = ⊎_elim some (λ no. absurd (no n (let a = past j in let b = s.here.inside in omega arith) (omega arith) (stocked_constant j s.place s.here))) (quasi_period_or_none K w n)
       where
         n : ℕ
         n = at (suc j) -ₙ s.place
@@ -138,7 +138,7 @@ module _ {A : Type 0} (K : Field A) {g : ℕ} {D : Px K} {o : Root K g D} (w : W
     right J R t = ⊎_elim (inside_right J R) (λ r. landing_right J r.0 R r.1 r.2) t
 
     decide : (J : ℕ) → ((R : ℕ) × (Found K w) l J R) ⊎ (Spent K w) l J
-    decide J = ⊎_elim (λ r. inl (distance K w r.0, inl (record { m = r.0; inside = r.1; first = r.2; is = refl }))) (λ none. ⊎_elim (λ r. inl (distance K w r.0, whenever J r.0 r.2 (let a = distance_mono K w r.0 (at J) r.1 in omega arith))) (λ none'. inr (record { none = none; no_landing = λ j i h s. none' (at (suc j) -ₙ i) (let a = past j in let b = s.inside in omega arith) (let a = index_le K w (at (suc j)) (at J) (rises_to (suc j) J h) in omega arith) (stocked_constant j i s) })) (quasi_period_lem K w (at J))) (quasi_period_lem K w k)
+    decide J = ⊎_elim (λ r. inl (distance K w r.0, inl (record { m = r.0; inside = r.1; first = r.2; is = refl }))) (λ none. ⊎_elim (λ r. inl (distance K w r.0, whenever J r.0 r.2 (let a = distance_mono K w r.0 (at J) r.1 in omega arith))) (λ none'. inr (record { none = none; no_landing = λ j i h s. none' (at (suc j) -ₙ i) (let a = past j in let b = s.inside in omega arith) (let a = index_le K w (at (suc j)) (at J) (rises_to (suc j) J h) in omega arith) (stocked_constant j i s) })) (quasi_period_or_none K w (at J))) (quasi_period_or_none K w k)
 
     none_solves : (J : ℕ) → (Spent K w) l J → {X Y : Px K} → Solution K D X Y → (n : ℕ) × Deg K X n × ((reach K w) l J < n)
     none_solves J empty {X} {Y} u = go (solved K w u)

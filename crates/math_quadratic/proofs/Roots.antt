@@ -19,8 +19,8 @@ use Rattle.math_quadratic.specs.Roots.{Conjugate, PowerTwice, PerfectExtension}
 
 -- ---- the proof
 -- a prime above 2 is odd
-odd_prime_lem : (q : ℕ) → Prime q → 2 < q → (k : ℕ) × (q ≡ suc (k +ₙ k))
-odd_prime_lem q p more =
+prime_is_odd : (q : ℕ) → Prime q → 2 < q → (k : ℕ) × (q ≡ suc (k +ₙ k))
+prime_is_odd q p more =
     let whole : 2 *ₙ (q / 2) +ₙ q % 2 ≡ q = div-add-mod q 2 in
     let low : q % 2 < 2 = mod-lt q (omega arith) in
     ⊎_elim (λ z. absurd (p.none 2 (omega arith) more z)) (λ h. (q / 2, omega arith)) (eq-zero-or-pos (q % 2))
@@ -96,7 +96,7 @@ module _ {A : Type 0} (K : Field A) (ν : A) where
   extension_zero q e = embed_natural K.scalars ν q ∙ ap (embed K.scalars) e
 
   pub power_twice : PowerTwice K ν
-  power_twice n q prime more zero_q fix = go (odd_prime_lem q prime more)
+  power_twice n q prime more zero_q fix = go (prime_is_odd q prime more)
     where
       again : (v e : A) → e * e ≡ 𝟙 → (v * e) * e ≡ v
       again v e h = ring_from K.scalars (v ∷ e ∷ []) (times K.scalars v h) (search quote depth 40 fits 9999) tt

@@ -1,20 +1,14 @@
 -- The integers mod q as a ring: a number below q, with sums and products reduced. Each law is that of the
 -- numbers, with the inner `%` taken off.
 use Rattle.std.specs.Prelude.{ℕ, ◌+◌, ◌*◌, ◌-◌, ◌%◌, ◌/◌, ◌<◌, ◌≡◌}
-use Rattle.std.proofs.Common.{mod-lt, add_assoc, add_comm, add-zero, mul_assoc, mul_comm, mul-one, mul-add, add-mul, ◌∙◌}
-use Rattle.std.proofs.Math.Nat.{mod-eq_of_lt, mod_self, mod-add-mod, add-mod-mod, mul-add-mod_self_left, div-add-mod}
+use Rattle.std.proofs.Common.{mod-lt, add_assoc, add_comm, add-zero, mul_assoc, mul_comm, mul-one, mul-add, ◌∙◌}
+use Rattle.std.proofs.Math.Nat.{mod-eq_of_lt, mod_self, mod-add-mod, add-mod-mod}
+use Rattle.std.proofs.lemmas.Nat.{mul-mod_first, mul-mod_second}
 use Rattle.std.proofs.Math.Bridge.{le_prop}
 use native.Mathlib.Omega.{arith}
 use Rattle.std.proofs.Math.Path.{sym, ap}
 use mathlib.Core.HLevel.{Σ_prop_path}
 use Rattle.math_ring.specs.Ring.{CRing}
-
--- (a mod q) b and a b are the same mod q
-pub mod_mul_mod : (a b q : ℕ) → (a % q * b) % q ≡ (a * b) % q
-mod_mul_mod a b q = sym (ap (λ t. (t * b) % q) (sym (div-add-mod a q)) ∙ ap (λ t. t % q) (add-mul (q * (a / q)) (a % q) b ∙ ap (λ t. t + a % q * b) (mul_assoc q (a / q) b)) ∙ mul-add-mod_self_left q (a / q * b) (a % q * b))
-
-pub mul_mod_mod : (a b q : ℕ) → (a * (b % q)) % q ≡ (a * b) % q
-mul_mod_mod a b q = ap (λ t. t % q) (mul_comm a (b % q)) ∙ mod_mul_mod b a q ∙ ap (λ t. t % q) (mul_comm b a)
 
 abbrev pub Fq : ℕ → Type 0
 Fq q = (n : ℕ) × (n < q)
@@ -56,7 +50,7 @@ module _ (q : ℕ) (pos : 0 < q) where
 
   pub mul_f_assoc : (a b c : Fq q) → mul_f (mul_f a b) c ≡ mul_f a (mul_f b c)
   unfolding mul_f to
-  mul_f_assoc a b c = val_path q _ _ (mod_mul_mod (a.0 * b.0) c.0 q ∙ ap (λ t. t % q) (mul_assoc a.0 b.0 c.0) ∙ sym (mul_mod_mod a.0 (b.0 * c.0) q))
+  mul_f_assoc a b c = val_path q _ _ (mul-mod_first (a.0 * b.0) c.0 q ∙ ap (λ t. t % q) (mul_assoc a.0 b.0 c.0) ∙ sym (mul-mod_second a.0 (b.0 * c.0) q))
 
   pub mul_f_comm : (a b : Fq q) → mul_f a b ≡ mul_f b a
   unfolding mul_f
@@ -64,11 +58,11 @@ module _ (q : ℕ) (pos : 0 < q) where
 
   pub mul_f_one : (a : Fq q) → mul_f a (to 1) ≡ a
   unfolding mul_f to
-  mul_f_one a = val_path q _ _ (mul_mod_mod a.0 1 q ∙ ap (λ t. t % q) (mul-one a.0) ∙ mod-eq_of_lt a.1)
+  mul_f_one a = val_path q _ _ (mul-mod_second a.0 1 q ∙ ap (λ t. t % q) (mul-one a.0) ∙ mod-eq_of_lt a.1)
 
   pub mul_f_add : (a b c : Fq q) → mul_f a (add_f b c) ≡ add_f (mul_f a b) (mul_f a c)
   unfolding mul_f add_f to
-  mul_f_add a b c = val_path q _ _ (mul_mod_mod a.0 (b.0 + c.0) q ∙ ap (λ t. t % q) (mul-add a.0 b.0 c.0) ∙ sym (mod-add-mod (a.0 * b.0) q (a.0 * c.0 % q) ∙ add-mod-mod (a.0 * b.0) (a.0 * c.0) q))
+  mul_f_add a b c = val_path q _ _ (mul-mod_second a.0 (b.0 + c.0) q ∙ ap (λ t. t % q) (mul-add a.0 b.0 c.0) ∙ sym (mod-add-mod (a.0 * b.0) q (a.0 * c.0 % q) ∙ add-mod-mod (a.0 * b.0) (a.0 * c.0) q))
 
   abbrev pub FqRing : CRing (Fq q)
   FqRing = record {

@@ -11,7 +11,7 @@ use Rattle.math_surd.specs.Convergents as convergents
 use Rattle.math_surd.specs.Distance.{distance, height, s_deg}
 use Rattle.math_surd.proofs.Distance.{p_deg, distance_rise, distance_mono, distance_injective}
 use Rattle.math_surd.specs.QuasiPeriod.{QuasiPeriod, NoneConstant}
-use Rattle.math_surd.proofs.QuasiPeriod.{quasi_period_lem}
+use Rattle.math_surd.proofs.QuasiPeriod.{quasi_period_or_none}
 use Rattle.math_surd.specs.Units.{Scaled, Unit}
 use Rattle.math_surd.proofs.Units.{units, norm_deg, scaled_deg}
 use Rattle.math_surd.specs.LeastDegree as defs
@@ -57,7 +57,7 @@ module _ {A : Type 0} (K : Field A) where
     solved {X} {Y} u = go (unit u)
       where
         go : Unit K w X Y → (m : ℕ) × QuasiPeriod K w m
-        go t = ⊎_elim (λ r. (r.0, r.2)) (λ none. absurd (none t.m t.positive (omega arith) t.constant)) (quasi_period_lem K w t.m)
+        go t = ⊎_elim (λ r. (r.0, r.2)) (λ none. absurd (none t.m t.positive (omega arith) t.constant)) (quasi_period_or_none K w t.m)
 
     -- ---- m is the quasi-period
     module _ (m : ℕ) (first : QuasiPeriod K w m) where

@@ -18,9 +18,9 @@ module _ {A : Type 0} (K : Field A) {g : ℕ} {D : Px K} {o : Root K g D} (w : W
   QuasiPeriod = defs.QuasiPeriod K w
 
   -- the first of the indices up to b, or none
-  pub quasi_period_lem : (b : ℕ) → ((m : ℕ) × (m ≤ b) × QuasiPeriod m) ⊎ NoneConstant b
-  quasi_period_lem zero = inr (λ j p q e. absurd (omega arith))
-  quasi_period_lem (suc b) = ⊎_elim (λ r. inl (r.0, omega (arith, r.1), r.2)) (λ none. ⊎_elim (λ h. inr (further none h)) (λ h. inl (suc b, omega arith, here none h)) (le_or_lt 1 (κ (suc b)))) (quasi_period_lem b)
+  pub quasi_period_or_none : (b : ℕ) → ((m : ℕ) × (m ≤ b) × QuasiPeriod m) ⊎ NoneConstant b
+  quasi_period_or_none zero = inr (λ j p q e. absurd (omega arith))
+  quasi_period_or_none (suc b) = ⊎_elim (λ r. inl (r.0, omega (arith, r.1), r.2)) (λ none. ⊎_elim (λ h. inr (further none h)) (λ h. inl (suc b, omega arith, here none h)) (le_or_lt 1 (κ (suc b)))) (quasi_period_or_none b)
     where
       here : NoneConstant b → κ (suc b) < 1 → QuasiPeriod (suc b)
       here none h = record { positive = omega arith; constant = omega arith; least = λ j p q e. none j p (omega arith) e }

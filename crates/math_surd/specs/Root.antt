@@ -31,8 +31,8 @@ module _ {A : Type 0} (K : Field A) where
   rest_is D d = ring (Series (F K)) (D ∷ d ∷ []) (search quote depth 40 fits 9999) tt
 
   -- with e the rest D - d²
-  abbrev pub root_of_lem : {g : ℕ} {D d : P[x]} → IsRoot K D d (suc g) → Root g D
-  root_of_lem {g} {D} {d} h = record { d = d; e = D + (- (d * d)); is = rest_is D d; monic = h.monic; e_low = h.low }
+  abbrev pub root_from : {g : ℕ} {D d : P[x]} → IsRoot K D d (suc g) → Root g D
+  root_from {g} {D} {d} h = record { d = d; e = D + (- (d * d)); is = rest_is D d; monic = h.monic; e_low = h.low }
 
   -- 2 f has the degree of f
   pub deg_twice : (f : P[x]) (n : ℕ) → Deg K f n → Deg K (f + f) n

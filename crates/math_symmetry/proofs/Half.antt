@@ -15,7 +15,7 @@ use Rattle.math_surd.specs.Convergents as convergents
 use Rattle.math_surd.specs.Distance.{distance}
 use Rattle.math_surd.proofs.Distance.{distance_height, distance_mono}
 use Rattle.math_surd.specs.QuasiPeriod.{QuasiPeriod, NoneConstant}
-use Rattle.math_surd.proofs.QuasiPeriod.{quasi_period_lem}
+use Rattle.math_surd.proofs.QuasiPeriod.{quasi_period_or_none}
 use Rattle.math_surd.specs.LeastDegree.{Solution}
 use Rattle.math_surd.proofs.LeastDegree.{spent, reached, reached_deg}
 use Rattle.math_symmetry.specs.Reflect.{Reflect}
@@ -174,7 +174,7 @@ module _ {A : Type 0} (K : Field A) where
       finds r = let t = middle_of r.0 r.2 in (t.0, r.0, let a = middle_near t.0 r.0 t.1 in omega (arith, r.1), t.1)
 
       decide : Found b ⊎ NoMiddle b
-      decide = ⊎_elim (λ r. inl (finds r)) (λ none. inr (middle_none b none)) (quasi_period_lem K w (b +ₙ b))
+      decide = ⊎_elim (λ r. inl (finds r)) (λ none. inr (middle_none b none)) (quasi_period_or_none K w (b +ₙ b))
 
       above : NoMiddle b → {X Y : P[x]} → Solution K D X Y → (n : ℕ) × Deg K X n × (distance K w (b +ₙ b) < n)
       above h u = spent K w (b +ₙ b) (constant_none b h) u

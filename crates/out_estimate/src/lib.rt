@@ -1,7 +1,6 @@
 // An answer of the call `estimate` as plain numbers, laid out as C lays them out.
 #![tactic(auto)]
 
-use base_refusals::Refusal;
 use call_estimate::{EstimateAnswer, Estimated};
 
 // The number of words handed in, the number of a refusal or 0, numerator, denominator and the nearest whole number:
@@ -18,26 +17,21 @@ pub struct EstimateNumbers {
 
 impl From<EstimateAnswer> for EstimateNumbers {
     ghost use Rattle.std.specs.Prelude.{◌≡◌};
-    ghost use Rattle.call_estimate.specs.Estimates.{estimate_in as said_in};
+    ghost use Rattle.call_estimate.specs.Estimates.{estimate_said};
     ghost use Rattle.out_estimate.specs.Numbers.{estimate_in};
 
-    ghost from_gives = { λ a n. (n.words ≡ a.words) × (estimate_in n ≡ said_in a) };
+    ghost from_gives = { λ a n. (n.words ≡ a.words) × (estimate_in n ≡ estimate_said a.outcome) };
 
     fn from(a: EstimateAnswer) -> EstimateNumbers {
-        let (number, e) = match a.result {
-            Ok(e) => (0, e),
-            Err(r) => (
-                u32::from(r) as u64,
-                Estimated {
-                    numerator: 0,
-                    denominator: 0,
-                    nearest: 0,
-                },
-            ),
+        let zero = Estimated {
+            numerator: 0,
+            denominator: 0,
+            nearest: 0,
         };
+        let (number, e) = a.numbered(zero);
         EstimateNumbers {
             words: a.words,
-            number,
+            number: u64::from(number),
             numerator: e.numerator,
             denominator: e.denominator,
             nearest: e.nearest,

@@ -11,6 +11,7 @@ use out_numbers::Numbers;
 
 // An answer as numbers: found 0, R, m, 0; spent 11, b, e, 0; refused j, 0, 0, 0. A function and no `From`, since
 // both types are of other crates.
+#[tactic(auto, unfolding(spec_half::specs::Half::half_said))]
 pub fn half_numbers(a: HalfAnswer) -> Numbers
     ensures words { result.words ≡ a.words }
     ensures says { Plain (half_said (half_meaning a.outcome)) result.number result.first result.second result.third }

@@ -5,8 +5,9 @@
 ghost use Rattle.std.specs.Prelude.{◌≡◌, ◌-◌, MatchOption};
 ghost use Rattle.out_numbers.specs.AsNumbers.{AsNumbers};
 
+use base_answers::Answer;
 use std::ops::Range;
-use walk_outcome::{Answer, Outcome};
+use walk_outcome::Outcome;
 
 // The number of words handed in, the paper's number of the outcome and its values: found 0, R, m, c; spent
 // 11, k, e, 0; refused j, 0, 0, 0.
@@ -28,10 +29,11 @@ pub struct Part {
     pub length: u64,
 }
 
-impl From<Answer> for Numbers {
+impl From<Answer<Outcome>> for Numbers {
     ghost from_gives = { AsNumbers };
 
-    fn from(a: Answer) -> Numbers {
+    #[tactic(auto, unfolding(spec_definitions::specs::Answers::said))]
+    fn from(a: Answer<Outcome>) -> Numbers {
         let (number, first, second, third) = match a.outcome {
             Outcome::Found(r, m, c) => (0, r.0, m.0, c as u64),
             Outcome::Spent(k, e) => (11, k.0, e.0, 0),

@@ -7,7 +7,7 @@ use Rattle.base_refusals.specs.Number.{refused_by}
 use Rattle.base_polynomial.specs.declared.Poly.{Poly}
 use Rattle.base_polynomial.specs.Over.{Holds}
 use Rattle.call_giant_step.specs.declared.GiantStep.{GiantStep}
-use Rattle.call_giant_step.specs.GiantSteps.{ResultSays}
+use Rattle.call_giant_step.specs.GiantSteps.{GiantStepSays}
 use Rattle.out_polynomials.specs.declared.GiantStepNumbers.{GiantStepNumbers}
 use Rattle.out_polynomials.specs.Lent.{poly_in}
 
@@ -20,8 +20,8 @@ pub record GiantStepWritten (r : GiantStepNumbers) (q p : List ℕ) (a : Answer)
   pub distance_is : r.distance ≡ a.distance
 
 -- what is written of a result that says it
-pub giant_step_written : {r : Result GiantStep Refusal} {a : Answer} → ResultSays r a → {n : GiantStepNumbers} → n.number ≡ refused_by r → {q p : List ℕ}
-    → IfOk r (λ t. (poly_in q n.q_size ≡ t.ideal.q) × (poly_in p n.p_size ≡ t.ideal.p) × (n.f ≡ t.f) × (n.distance ≡ t.distance))
+pub giant_step_written : {r : Result GiantStep Refusal} {a : Answer} → GiantStepSays r a → {n : GiantStepNumbers} → n.number ≡ refused_by r → {q p : List ℕ}
+    → IfOk r (λ t. (poly_in q n.q_size ≡ t.ideal.q) × (poly_in p n.p_size ≡ t.ideal.p) × (n.f ≡ t.shift.f) × (n.distance ≡ t.shift.distance))
     → IfErr r (λ _. Holds (poly_in q n.q_size) [] × Holds (poly_in p n.p_size) [] × (n.f ≡ pos 0) × (n.distance ≡ pos 0))
     → GiantStepWritten n q p a
 giant_step_written {r = Ok t} {a} h e f z =

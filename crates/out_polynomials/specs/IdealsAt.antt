@@ -7,7 +7,7 @@ use Rattle.base_refusals.specs.Number.{refused_by}
 use Rattle.base_polynomial.specs.declared.Poly.{Poly}
 use Rattle.base_polynomial.specs.Over.{Holds}
 use Rattle.call_ideal_at.specs.declared.IdealAt.{IdealAt}
-use Rattle.call_ideal_at.specs.IdealsAt.{ResultSays}
+use Rattle.call_ideal_at.specs.IdealsAt.{IdealAtSays}
 use Rattle.out_polynomials.specs.declared.IdealNumbers.{IdealNumbers}
 use Rattle.out_polynomials.specs.Lent.{poly_in}
 
@@ -20,7 +20,7 @@ pub record IdealAtWritten (r : IdealNumbers) (q p : List ℕ) (a : Answer) : Typ
   pub next_is : r.next ≡ a.next
 
 -- what is written of a result that says it
-pub ideal_at_written : {r : Result IdealAt Refusal} {a : Answer} → ResultSays r a → {n : IdealNumbers} → n.number ≡ refused_by r → {q p : List ℕ}
+pub ideal_at_written : {r : Result IdealAt Refusal} {a : Answer} → IdealAtSays r a → {n : IdealNumbers} → n.number ≡ refused_by r → {q p : List ℕ}
     → IfOk r (λ t. (poly_in q n.q_size ≡ t.ideal.q) × (poly_in p n.p_size ≡ t.ideal.p) × (n.distance ≡ t.distance.0) × (n.next ≡ t.next.0))
     → IfErr r (λ _. Holds (poly_in q n.q_size) [] × Holds (poly_in p n.p_size) [] × (n.distance ≡ 0) × (n.next ≡ 0))
     → IdealAtWritten n q p a

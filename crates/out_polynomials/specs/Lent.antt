@@ -1,5 +1,5 @@
 -- What is in lent arrays: a polynomial in an array with its size, and what a refusal leaves there.
-use Rattle.std.specs.Prelude.{List, ℕ, ◌≡◌, [], Result, Err, IfErr}
+use Rattle.std.specs.Prelude.{List, ℕ, ◌≡◌, []}
 use Rattle.std.proofs.Common.{sym, subst}
 use Rattle.base_polynomial.specs.declared.Poly.{Poly}
 use Rattle.base_polynomial.specs.Over.{Holds}
@@ -10,7 +10,3 @@ poly_in c size = record { c = c; size = size }
 -- what was put there of 0
 pub zero_put : {x z : Poly} → x ≡ z → Holds z [] → Holds x []
 zero_put e h = subst (λ (y : Poly). Holds y []) (sym e) h
-
--- what holds in a refusal
-pub refused : {A E P : Type 0} {r : Result A E} {e : E} → r ≡ Err e → P → IfErr r (λ _. P)
-refused {A} {E} {P} e h = subst (λ (r : Result A E). IfErr r (λ _. P)) (sym e) h

@@ -7,7 +7,7 @@ use Rattle.base_refusals.specs.Number.{refused_by}
 use Rattle.base_polynomial.specs.declared.Poly.{Poly}
 use Rattle.base_polynomial.specs.Over.{Holds}
 use Rattle.call_product.specs.declared.IdealProduct.{IdealProduct}
-use Rattle.call_product.specs.Products.{ProductIs, ResultSays}
+use Rattle.call_product.specs.Products.{ProductSays}
 use Rattle.out_polynomials.specs.declared.ProductNumbers.{ProductNumbers}
 use Rattle.out_polynomials.specs.Lent.{poly_in}
 
@@ -19,7 +19,7 @@ pub record ProductWritten (r : ProductNumbers) (s q p : List ℕ) (a : Answer) :
   pub p_is : Holds (poly_in p r.p_size) a.p
 
 -- what is written of a result that says it
-pub product_written : {r : Result IdealProduct Refusal} {a : Answer} → ResultSays r a → {n : ProductNumbers} → n.number ≡ refused_by r → {s q p : List ℕ}
+pub product_written : {r : Result IdealProduct Refusal} {a : Answer} → ProductSays r a → {n : ProductNumbers} → n.number ≡ refused_by r → {s q p : List ℕ}
     → IfOk r (λ t. (poly_in s n.s_size ≡ t.s) × (poly_in q n.q_size ≡ t.ideal.q) × (poly_in p n.p_size ≡ t.ideal.p))
     → IfErr r (λ _. Holds (poly_in s n.s_size) [] × Holds (poly_in q n.q_size) [] × Holds (poly_in p n.p_size) [])
     → ProductWritten n s q p a

@@ -7,10 +7,12 @@ ghost use Rattle.base_refusals.specs.Number.{refused_by};
 ghost use Rattle.base_polynomial.specs.Whole.{Holds};
 ghost use Rattle.out_polynomials.specs.Lent.{poly_in};
 
+use base_counters::Distance;
+use base_ideal::Ideal;
 use base_polynomial::Poly;
-use call_giant_step::GiantStepAnswer;
-use call_ideal_at::IdealAtAnswer;
-use call_product::ProductAnswer;
+use call_giant_step::{GiantStep, GiantStepAnswer, Shift};
+use call_ideal_at::{IdealAt, IdealAtAnswer};
+use call_product::{IdealProduct, ProductAnswer};
 
 // The number of words handed in, the number of a refusal or 0, and the sizes of S, Q and P: the degree + 1,
 // or 0 for the zero polynomial.
@@ -65,29 +67,21 @@ pub fn put_product(
     p: &mut [u32; 129],
 ) -> ProductNumbers
     ensures words { result.words ≡ a.words }
-    ensures number { result.number ≡ refused_by a.result }
-    ensures product { IfOk a.result (λ t. (poly_in s.new result.s_size ≡ t.s) × (poly_in q.new result.q_size ≡ t.ideal.q) × (poly_in p.new result.p_size ≡ t.ideal.p)) }
-    ensures zeros { IfErr a.result (λ _. Holds (poly_in s.new result.s_size) [] × Holds (poly_in q.new result.q_size) [] × Holds (poly_in p.new result.p_size) []) }
+    ensures number { result.number ≡ refused_by a.outcome }
+    ensures product { IfOk a.outcome (λ t. (poly_in s.new result.s_size ≡ t.s) × (poly_in q.new result.q_size ≡ t.ideal.q) × (poly_in p.new result.p_size ≡ t.ideal.p)) }
+    ensures zeros { IfErr a.outcome (λ _. Holds (poly_in s.new result.s_size) [] × Holds (poly_in q.new result.q_size) [] × Holds (poly_in p.new result.p_size) []) }
 {
-    let words = a.words;
-    match a.result {
-        Ok(t) => ProductNumbers {
-            words,
-            number: 0,
-            s_size: put(t.s, s),
-            q_size: put(t.ideal.q, q),
-            p_size: put(t.ideal.p, p),
-        },
-        Err(r) => {
-            let zero = Poly::zero();
-            ProductNumbers {
-                words,
-                number: u32::from(r) as u64,
-                s_size: put(zero, s),
-                q_size: put(zero, q),
-                p_size: put(zero, p),
-            }
-        }
+    let zero = IdealProduct {
+        s: Poly::zero(),
+        ideal: Ideal::zeros(),
+    };
+    let (number, t) = a.numbered(zero);
+    ProductNumbers {
+        words: a.words,
+        number: u64::from(number),
+        s_size: put(t.s, s),
+        q_size: put(t.ideal.q, q),
+        p_size: put(t.ideal.p, p),
     }
 }
 
@@ -98,61 +92,44 @@ pub fn put_giant_step(
     p: &mut [u32; 129],
 ) -> GiantStepNumbers
     ensures words { result.words ≡ a.words }
-    ensures number { result.number ≡ refused_by a.result }
-    ensures giant_step { IfOk a.result (λ t. (poly_in q.new result.q_size ≡ t.ideal.q) × (poly_in p.new result.p_size ≡ t.ideal.p) × (result.f ≡ t.f) × (result.distance ≡ t.distance)) }
-    ensures zeros { IfErr a.result (λ _. Holds (poly_in q.new result.q_size) [] × Holds (poly_in p.new result.p_size) [] × (result.f ≡ pos 0) × (result.distance ≡ pos 0)) }
+    ensures number { result.number ≡ refused_by a.outcome }
+    ensures giant_step { IfOk a.outcome (λ t. (poly_in q.new result.q_size ≡ t.ideal.q) × (poly_in p.new result.p_size ≡ t.ideal.p) × (result.f ≡ t.shift.f) × (result.distance ≡ t.shift.distance)) }
+    ensures zeros { IfErr a.outcome (λ _. Holds (poly_in q.new result.q_size) [] × Holds (poly_in p.new result.p_size) [] × (result.f ≡ pos 0) × (result.distance ≡ pos 0)) }
 {
-    let words = a.words;
-    match a.result {
-        Ok(t) => GiantStepNumbers {
-            words,
-            number: 0,
-            q_size: put(t.ideal.q, q),
-            p_size: put(t.ideal.p, p),
-            f: t.f,
-            distance: t.distance,
-        },
-        Err(r) => {
-            let zero = Poly::zero();
-            GiantStepNumbers {
-                words,
-                number: u32::from(r) as u64,
-                q_size: put(zero, q),
-                p_size: put(zero, p),
-                f: 0,
-                distance: 0,
-            }
-        }
+    let zero = GiantStep {
+        ideal: Ideal::zeros(),
+        shift: Shift { f: 0, distance: 0 },
+    };
+    let (number, t) = a.numbered(zero);
+    GiantStepNumbers {
+        words: a.words,
+        number: u64::from(number),
+        q_size: put(t.ideal.q, q),
+        p_size: put(t.ideal.p, p),
+        f: t.shift.f,
+        distance: t.shift.distance,
     }
 }
 
 // An answer of the call `ideal_at`; zeros in a refusal.
 pub fn put_ideal_at(a: IdealAtAnswer, q: &mut [u32; 129], p: &mut [u32; 129]) -> IdealNumbers
     ensures words { result.words ≡ a.words }
-    ensures number { result.number ≡ refused_by a.result }
-    ensures ideal_at { IfOk a.result (λ t. (poly_in q.new result.q_size ≡ t.ideal.q) × (poly_in p.new result.p_size ≡ t.ideal.p) × (result.distance ≡ t.distance.0) × (result.next ≡ t.next.0)) }
-    ensures zeros { IfErr a.result (λ _. Holds (poly_in q.new result.q_size) [] × Holds (poly_in p.new result.p_size) [] × (result.distance ≡ 0) × (result.next ≡ 0)) }
+    ensures number { result.number ≡ refused_by a.outcome }
+    ensures ideal_at { IfOk a.outcome (λ t. (poly_in q.new result.q_size ≡ t.ideal.q) × (poly_in p.new result.p_size ≡ t.ideal.p) × (result.distance ≡ t.distance.0) × (result.next ≡ t.next.0)) }
+    ensures zeros { IfErr a.outcome (λ _. Holds (poly_in q.new result.q_size) [] × Holds (poly_in p.new result.p_size) [] × (result.distance ≡ 0) × (result.next ≡ 0)) }
 {
-    let words = a.words;
-    match a.result {
-        Ok(t) => IdealNumbers {
-            words,
-            number: 0,
-            q_size: put(t.ideal.q, q),
-            p_size: put(t.ideal.p, p),
-            distance: t.distance.0,
-            next: t.next.0,
-        },
-        Err(r) => {
-            let zero = Poly::zero();
-            IdealNumbers {
-                words,
-                number: u32::from(r) as u64,
-                q_size: put(zero, q),
-                p_size: put(zero, p),
-                distance: 0,
-                next: 0,
-            }
-        }
+    let zero = IdealAt {
+        ideal: Ideal::zeros(),
+        distance: Distance(0),
+        next: Distance(0),
+    };
+    let (number, t) = a.numbered(zero);
+    IdealNumbers {
+        words: a.words,
+        number: u64::from(number),
+        q_size: put(t.ideal.q, q),
+        p_size: put(t.ideal.p, p),
+        distance: t.distance.0,
+        next: t.next.0,
     }
 }

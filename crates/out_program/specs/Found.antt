@@ -11,7 +11,7 @@ use Rattle.spec_definitions.specs.Ticket.{Ticket, genus, ticket_of, refusal_of}
 use Rattle.spec_definitions.specs.Answers.{Outcome, found, spent, refused, said, said_injective, outcome_of, words_outcome}
 use Rattle.spec_definitions.specs.Listing.{listing_from, listing_answer}
 use Rattle.listing_found.specs.Answers.{room_cases}
-use Rattle.spec_laws.specs.Admitted.{passed, admitted, degree_of_lem}
+use Rattle.spec_laws.specs.Admitted.{passed, admitted, allowed_degree}
 
 pub record Fits (w l : List ℕ) (m : ℕ) : Type 0 where
   pub words : 1 < length w
@@ -59,7 +59,7 @@ module _ (R m c : ℕ) where
     pub found_fits : Fits w l m
     unfolding listing_answer
     found_fits =
-        let d = degree_of_lem (ticket_of w).n (passed w passes).degree in
+        let d = allowed_degree (ticket_of w).n (passed w passes).degree in
         let s = d.0 in
         let t = d.1 in
         record { words = words_of; least = omega arith; most = omega arith; room = room_of (ticket_of w) (words_outcome w) l e }

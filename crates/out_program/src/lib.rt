@@ -45,7 +45,7 @@ pub fn output(input: &[u8], text: &mut Text)
 {
     text.clear();
     if has_cut_word(input) {
-        return push_first(text, Outcome::Refused(Refusal::Head.into()));
+        return push_first(text, Refusal::Head.into());
     }
     let mut words = [0u32; 70];
     push_answer(text, words_of(input, &mut words));

@@ -21,8 +21,8 @@ module _ (w : List ℕ) (l : List Outcome) (says : map said l ≡ (several_answe
   pub said_sixteen : length l ≡ most_primes
   said_sixteen = sym (length-map l said) ∙ ap length says ∙ (places w).sixteen
 
-  pub plain_places_lem : (out : List ℕ) → length out ≡ 4 * most_primes → InPlaces l out → out ≡ plain_places (several_answer w).says
-  plain_places_lem out long p = in_places _ out (places w).sixteen long (λ i h. plain_same (said_at i) (p i h))
+  pub places_said : (out : List ℕ) → length out ≡ 4 * most_primes → InPlaces l out → out ≡ plain_places (several_answer w).says
+  places_said out long p = in_places _ out (places w).sixteen long (λ i h. plain_same (said_at i) (p i h))
 
   numbered_said : (i : ℕ) → i < (several_answer w).count → Numbered (get_or l i (refused 0))
   numbered_said i h =

@@ -7,9 +7,10 @@ ghost use Rattle.walk_outcome.specs.Outcome.{meaning};
 ghost use Rattle.call_regulators.specs.Regulators.{outcomes};
 ghost use Rattle.out_several.specs.Places.{Put, InPlaces};
 
+use base_answers::Answer;
 use call_regulators::SeveralAnswer;
 use out_numbers::Numbers;
-use walk_outcome::{Answer, Outcome};
+use walk_outcome::Outcome;
 
 // The number of words handed in, and how many outcomes there are.
 #[repr(C)]

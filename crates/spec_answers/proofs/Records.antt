@@ -30,7 +30,7 @@ use Rattle.spec_bridge.specs.Division.{series_quo_rem}
 use Rattle.spec_fields.specs.Named.{IsField, Ok, Arithmetic, arithmetic, ok_small}
 use Rattle.spec_laws.specs.Surd.{Surd, Q_trim}
 use Rattle.spec_laws.specs.Fraction.{Q_some}
-use Rattle.spec_laws.specs.Admitted.{Admitted, is_field, surd_of, admitted, passed, degree_of_lem}
+use Rattle.spec_laws.specs.Admitted.{Admitted, is_field, surd_of, admitted, passed, allowed_degree}
 use Rattle.spec_sentences.specs.Arithmetic.{Divides}
 use Rattle.spec_sentences.proofs.Arithmetic.{series_same}
 use Rattle.spec_refusals.proofs.Records.{length_listing, record_listing, kinds_record}
@@ -178,24 +178,24 @@ module _ (t : Ticket) (h : Admitted t.field (genus t.n) t.D) (even : suc (genus 
   unfolding record_of record_words entry_of
   index_read = value_read 0 5 (suc j) (omega arith) refl r.index_fits
 
-  pub distance_read_lem : distance_read t.n j l ≡ (entry_of t j).distance
+  pub distance_read_is : distance_read t.n j l ≡ (entry_of t j).distance
   unfolding record_of record_words
-  distance_read_lem = ap₂ joined (value_read 1 6 (high (entry_of t j).distance) (omega arith) refl r.distance_fits) (value_read 2 7 (low (entry_of t j).distance) (omega arith) refl (low_less (entry_of t j).distance)) ∙ joined_back (entry_of t j).distance
+  distance_read_is = ap₂ joined (value_read 1 6 (high (entry_of t j).distance) (omega arith) refl r.distance_fits) (value_read 2 7 (low (entry_of t j).distance) (omega arith) refl (low_less (entry_of t j).distance)) ∙ joined_back (entry_of t j).distance
 
   abbrev μ : ℕ
   μ = mirror_of (ops_of t) R (entry_of t j)
 
-  pub mirror_read_lem : mirror_read t.n j l ≡ mirror_of (ops_of t) R (entry_of t j)
+  pub mirror_read_is : mirror_read t.n j l ≡ mirror_of (ops_of t) R (entry_of t j)
   unfolding record_of record_words
-  mirror_read_lem = ap₂ joined (value_read 3 10 (high μ) (omega arith) refl r.mirror_fits) (value_read 4 11 (low μ) (omega arith) refl (low_less μ)) ∙ joined_back μ
+  mirror_read_is = ap₂ joined (value_read 3 10 (high μ) (omega arith) refl r.mirror_fits) (value_read 4 11 (low μ) (omega arith) refl (low_less μ)) ∙ joined_back μ
 
   pub record_read : RecordRead t R j l
   unfolding deg entry_of ideal_of root_of degree_before
   record_read = record {
     kinds = kind_read;
     index = index_read;
-    distance = distance_read_lem;
-    mirror = ap₂ ◌+◌ mirror_read_lem distance_read_lem ∙ r.mirror_is ∙ ap (λ (k : ℕ). R + (k - 1)) (sym (size_same t.field (is_field h) _ _ Q_read));
+    distance = distance_read_is;
+    mirror = ap₂ ◌+◌ mirror_read_is distance_read_is ∙ r.mirror_is ∙ ap (λ (k : ℕ). R + (k - 1)) (sym (size_same t.field (is_field h) _ _ Q_read));
     Q_monic = lead_same t.field (is_field h) _ _ Q_read ∙ r.ideal.monic;
     Q_ratio = ((ops_of t).inv (lead (ops_of t) (Q h j)), lead_inverse h j, (A h).ok_is _ ((I h).ok_inv (lead (ops_of t) (Q h j))), λ i. ap (reading t.field) (Q_read i ∙ ap (λ (x : List ℕ). get_or x i 0) (monic_is h j)));
     P_congruent = rem_congruent h (P h j) (monic (ops_of t) (Q h j)) (QRead t.n j l) (PRead t.n j l) Q_read P_read;
@@ -223,5 +223,5 @@ pub t2_records : T2Records
 t2_records w old R m c e j k =
     let f = listing_found w old R m c e in
     let z = found_passes w R m c f in
-    let even = (degree_of_lem (ticket_of w).n (passed w z).degree).0 in
+    let even = (allowed_degree (ticket_of w).n (passed w z).degree).0 in
     record_read (ticket_of w) (admitted w z) even R j ((t2_listings w z R m c f).0 j k) (listing_answer w old).list (record_stands (ticket_of w) R m (listing_answer w old).list even ((t1_lists.1 w old).records R m c e) j k)

@@ -61,23 +61,23 @@ module _ (w : List ℕ) where
       (low, high, f.0, f.1)
 
   -- ---- the outcome of the words
-  outcome_by_lem : (k : ℕ) → refusal_of w ≡ k → words_outcome w ≡ (elim k as (λ _. Outcome) [ zero ↦ outcome_of (ticket_of w) | suc j ↦ refused (suc j) ])
+  outcome_by_refusal : (k : ℕ) → refusal_of w ≡ k → words_outcome w ≡ (elim k as (λ _. Outcome) [ zero ↦ outcome_of (ticket_of w) | suc j ↦ refused (suc j) ])
   unfolding words_outcome
-  outcome_by_lem k e = ap (λ (k : ℕ). elim k as (λ _. Outcome) [ zero ↦ outcome_of (ticket_of w) | suc j ↦ refused (suc j) ]) e
+  outcome_by_refusal k e = ap (λ (k : ℕ). elim k as (λ _. Outcome) [ zero ↦ outcome_of (ticket_of w) | suc j ↦ refused (suc j) ]) e
 
   refused_outcome : {k : ℕ} → First k w → words_outcome w ≡ refused k
   refused_outcome {k} f = go k (first_number f) f.0
     where
       go : (k : ℕ) → refusal_of w ≡ k → 1 ≤ k → words_outcome w ≡ refused k
       go zero e low = absurd (omega arith)
-      go (suc k) e low = outcome_by_lem (suc k) e
+      go (suc k) e low = outcome_by_refusal (suc k) e
 
   outcome_refused : (k : ℕ) → words_outcome w ≡ refused k → First k w
   outcome_refused k e = go (refusal_of w) refl
     where
       go : (n : ℕ) → refusal_of w ≡ n → First k w
       go zero z = absurd (subst (Walks (ticket_of w)) e (t2 w z)).ends
-      go (suc n) z = let f : refused (suc n) ≡ refused k = sym (outcome_by_lem (suc n) z) ∙ e in let g : suc n ≡ k = cc in number_first k (λ h. omega arith) (z ∙ g)
+      go (suc n) z = let f : refused (suc n) ≡ refused k = sym (outcome_by_refusal (suc n) z) ∙ e in let g : suc n ≡ k = cc in number_first k (λ h. omega arith) (z ∙ g)
 
 -- ---- an outcome is told by the walk
 module _ {f : FieldName} {g : ℕ} {D : List ℕ} (h : Admitted f g D) (b : ℕ) where
@@ -121,7 +121,7 @@ module _ (w : List ℕ) where
     where
       go : (n : ℕ) → refusal_of w ≡ n → None w × Spent w k e
       go zero z = (none_applies w z, (subst (Walks (ticket_of w)) f (t2 w z)).ends)
-      go (suc n) z = absurd (refused_not_spent (suc n) k e (sym (outcome_by_lem w (suc n) z) ∙ f))
+      go (suc n) z = absurd (refused_not_spent (suc n) k e (sym (outcome_by_refusal w (suc n) z) ∙ f))
 
 module _ {w : List ℕ} {says : Said} {number : ℕ} {Lacks : ℕ → ℕ → Type 0} (a : Lends w says number Lacks) where
   abbrev TooShort : Type 0
@@ -213,7 +213,7 @@ product_is w x y k some = (λ e. go (refusal_of w) refl e, ⊎_elim (λ f. let n
     go zero z e = inr (sym e ∙ (t.pairs z wrong).0, none_applies w z, wrong)
       where
         wrong : WrongPair (ticket_of w) x y
-        wrong = tests_stable (tests_pairs (ticket_of w) (admitted w z) x y) (λ right. some (sym e ∙ t.product_done_lem z right))
+        wrong = tests_stable (tests_pairs (ticket_of w) (admitted w z) x y) (λ right. some (sym e ∙ t.product_not_refused z right))
     go (suc n) z e = inl (number_first w k some (sym (t.words (λ h. absurd (omega arith))).0 ∙ e))
 
 giant_is : (w : List ℕ) (x : Ideal ℕ) (d : ℕ) (y : Ideal ℕ) (e k : ℕ) → k ≢ 0 → ((giant_answer w x d y e).number ≡ k) ↔ (First k w ⊎ ((k ≡ 9) × None w × WrongPair (ticket_of w) x y) ⊎ ((k ≡ 10) × None w × (¬ WrongPair (ticket_of w) x y) × WrongDistance d e))
@@ -233,7 +233,7 @@ giant_is w x d y e k some = (λ h. go (refusal_of w) refl h, ⊎_elim (λ f. let
             right wrong = false≢true (sym u ∙ (tests_pairs (ticket_of w) (admitted w z) x y).1 wrong)
 
             far : WrongDistance d e
-            far = tests_stable (tests_distances d e) (λ near. some (sym h ∙ t.giant_done_lem z right near))
+            far = tests_stable (tests_distances d e) (λ near. some (sym h ∙ t.giant_not_refused z right near))
     go (suc n) z h = inl (number_first w k some (sym (t.words (λ j. absurd (omega arith))).1 ∙ h))
 
 -- a record that is handed back has words

@@ -24,15 +24,15 @@ unfoldable pub bezout_last : {A : Type 0} → Ops A → List A → Bezout A
 bezout_last o a = record { gcd = monic o a; u = trim o (o.inv (lead o a) ∷ []); v = [] }
 
 module _ {A B : Type 0} {o : Ops A} {R : CRing B} (M : Model o R) (I : Inverts M) where
-  gcd_in_lem : (k : ℕ) (a b : List A) → (bezout_in o k a b).gcd ≡ gcd_in o k a b
+  bezout_in_gcd : (k : ℕ) (a b : List A) → (bezout_in o k a b).gcd ≡ gcd_in o k a b
   unfolding bezout_in gcd_in
-  gcd_in_lem zero a b = refl
-  gcd_in_lem (suc k) a [] = refl
-  gcd_in_lem (suc k) a (b ∷ l) = gcd_in_lem k (b ∷ l) (rem o a (b ∷ l))
+  bezout_in_gcd zero a b = refl
+  bezout_in_gcd (suc k) a [] = refl
+  bezout_in_gcd (suc k) a (b ∷ l) = bezout_in_gcd k (b ∷ l) (rem o a (b ∷ l))
 
   pub bezout_gcd : (a b : List A) → (bezout o a b).gcd ≡ gcd o a b
   unfolding bezout gcd
-  bezout_gcd a b = gcd_in_lem (suc (length b)) a (trim o b)
+  bezout_gcd a b = bezout_in_gcd (suc (length b)) a (trim o b)
 
   last_cong : (a a' : List A) → series M a ≡ series M a' → bezout_last o a ≡ bezout_last o a'
   unfolding bezout_last

@@ -7,7 +7,8 @@ use Rattle.std.proofs.Math.Decide.{ℕ_discrete}
 use Rattle.std.proofs.Math.Path.{sym, ap}
 use Rattle.std.proofs.lemmas.Bool.{eqb-false}
 use Rattle.math_ring.specs.Order.{le_or_lt}
-use Rattle.math_ring.specs.Residues.{Fq, FqRing, val_path, to, add_f, mul_f, neg_f, mod_mul_mod, mul_mod_mod}
+use Rattle.math_ring.specs.Residues.{Fq, FqRing, val_path, to, add_f, mul_f, neg_f}
+use Rattle.std.proofs.lemmas.Nat.{mul-mod_first, mul-mod_second}
 use Rattle.math_algebra.specs.Field.{Field}
 use Rattle.spec_arithmetic.specs.Field.{modulo, inverse_in, inverse}
 use Rattle.spec_bridge.specs.Model.{Model, Inverts}
@@ -90,7 +91,7 @@ module _ (q : ℕ) (pos : 0 < q) where
 
   pub to_mul : (a b : ℕ) → to q pos (a * b) ≡ mul_f q pos (to q pos a) (to q pos b)
   unfolding mul_f to
-  to_mul a b = to_path _ _ (sym (mod_mul_mod a (b % q) q ∙ mul_mod_mod a b q))
+  to_mul a b = to_path _ _ (sym (mul-mod_first a (b % q) q ∙ mul-mod_second a b q))
 
   pub to_mod : (a : ℕ) → to q pos (a % q) ≡ to q pos a
   to_mod a = to_path (a % q) a (mod-mod a q)
@@ -150,12 +151,12 @@ module _ (q : ℕ) (pos : 0 < q) where
           let small : q % a < a = mod-lt q h in
           let some : 0 < q % a = elim (eq-zero-or-pos (q % a)) [ inl z ↦ absurd (p.none a k l z) | inr z ↦ z ] in
           let v : ℕ = inverse_in n q (q % a) in
-          ap (λ m. (m * a) % q) (in_more q n a k) ∙ mod_mul_mod ((q - q / a) * v) a q ∙ ap (λ m. m % q) (mul_assoc (q - q / a) v a ∙ mul_comm (q - q / a) (v * a) ∙ mul_assoc v a (q - q / a)) ∙ sym (mul_mod_mod v (a * (q - q / a)) q) ∙ ap (λ m. (v * m) % q) (turn a h l) ∙ ih some (omega arith) (omega arith)
+          ap (λ m. (m * a) % q) (in_more q n a k) ∙ mul-mod_first ((q - q / a) * v) a q ∙ ap (λ m. m % q) (mul_assoc (q - q / a) v a ∙ mul_comm (q - q / a) (v * a) ∙ mul_assoc v a (q - q / a)) ∙ sym (mul-mod_second v (a * (q - q / a)) q) ∙ ap (λ m. (v * m) % q) (turn a h l) ∙ ih some (omega arith) (omega arith)
 
   -- the inverse times the number leaves 1
   pub inverse_mul : Prime q → (a : ℕ) → 0 < a % q → (inverse q a * a) % q ≡ 1
   unfolding inverse
-  inverse_mul p a h = sym (mul_mod_mod (inverse q a) a q) ∙ in_mul p (suc (a % q)) (a % q) h (mod-lt a pos) (omega arith)
+  inverse_mul p a h = sym (mul-mod_second (inverse q a) a q) ∙ in_mul p (suc (a % q)) (a % q) h (mod-lt a pos) (omega arith)
 
   some_mod : (a : ℕ) → (to q pos a ≡ to q pos 0 → ⊥) → 0 < a % q
   some_mod a h = elim (eq-zero-or-pos (a % q)) [ inl z ↦ absurd (h (to_path a 0 (z ∙ sym (mod-eq_of_lt pos)))) | inr z ↦ z ]

@@ -62,8 +62,8 @@ module _ {f : FieldName} {g : ℕ} {D : List ℕ} (h : Admitted f g D) where
     low = low_path K (suc g) (gap a) (λ i l. below_size M (sub (ops f) D (mul (ops f) a a)) i (let e = size_is M (sub (ops f) D (mul (ops f) a a)) in let k = r.near in omega arith));
   }
 
-  root_of_lem : RootOf f g D d
-  root_of_lem = record {
+  root_holds : RootOf f g D d
+  root_holds = record {
     degree = size_is M d ∙ monic_size K M d z.is_root.monic;
     monic = same_reading f (is_field h) _ 1 (z.is_root.monic.top ∙ sym (φ_first f (is_field h))) ∙ reading_first f (is_field h);
     near = let e = size_is M (sub (ops f) D (mul (ops f) d d)) in let k = size_le M (sub (ops f) D (mul (ops f) d d)) (suc g) (low_path K (suc g) (sym (gap d)) z.is_root.low) in omega arith;
@@ -103,7 +103,7 @@ module _ {f : FieldName} {g : ℕ} {D : List ℕ} (h : Admitted f g D) where
   continued : Continued f D d g
   unfolding signed signs.signed norm_of degree_before defs.rest
   continued = record {
-    root = root_of_lem;
+    root = root_holds;
     root_only = only;
     Q_not_zero = λ i e. let k = Q_some z i in let l = size_Q i in omega arith;
     Q_most = λ i. let e = deg_Q z i in let l = Q_length z i in omega arith;

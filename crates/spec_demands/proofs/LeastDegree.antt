@@ -26,7 +26,7 @@ use Rattle.spec_laws.specs.Surd.{Surd}
 use Rattle.spec_laws.specs.Fraction.{fraction}
 use Rattle.spec_laws.specs.Convergents.{p_series, s_series}
 use Rattle.spec_laws.specs.Signs.{norm_of}
-use Rattle.spec_laws.specs.Leads.{some_lead, over_lead_lem}
+use Rattle.spec_laws.specs.Leads.{some_lead, over_lead_inverts}
 use Rattle.spec_laws.specs.Monic.{unit_p_monic, unit_s_monic, unit_norm}
 use Rattle.spec_laws.specs.QuasiPeriod.{Quasi, NoQuasi, Says, quasi_says}
 use Rattle.spec_laws.specs.Solutions as solutions
@@ -92,7 +92,7 @@ module _ {f : FieldName} {g : ℕ} {D : List ℕ} (h : Admitted f g D) where
         ∙ sym (series_scale M c (scale (ops f) over l) ∙ ap₂ (λ y v. conv (F K) (con (F K) y) v) e (series_scale M over l ∙ ap (conv (F K) (con (F K) (M.φ over))) e'))
       where
         back_again : x ≡ (F K).mul ((F K).mul x lam) (M.φ over)
-        back_again = ring_from (F K) (x ∷ lam ∷ M.φ over ∷ []) (times (F K) ((F K).neg x) (over_lead_lem z i)) (search quote depth 40 fits 9999) tt
+        back_again = ring_from (F K) (x ∷ lam ∷ M.φ over ∷ []) (times (F K) ((F K).neg x) (over_lead_inverts z i)) (search quote depth 40 fits 9999) tt
 
     multiple : (p s : List ℕ) → Scaled K (fraction z) (suc i) (series M p) (series M s) → Multiple f (unit_of (ops f) D d (suc i)) p s
     unfolding unit_of

@@ -26,10 +26,10 @@ use Rattle.spec_laws.specs.Fraction.{fraction, Q_some, Q_length}
 use Rattle.spec_laws.specs.Walk.{deg_Q}
 use Rattle.spec_laws.specs.Convergents.{degree_zero, degree_rise, degree_most}
 use Rattle.spec_laws.specs.Reduced.{reduced_ideal}
-use Rattle.spec_laws.specs.Admitted.{Admitted, is_field, surd_of, admitted, passed, degree_of_lem, budget_less}
+use Rattle.spec_laws.specs.Admitted.{Admitted, is_field, surd_of, admitted, passed, allowed_degree, budget_less}
 use Rattle.spec_refusals.proofs.Lookups.{tests_listing}
 use Rattle.spec_refusals.specs.Pairs.{IsPair}
-use Rattle.spec_refusals.proofs.Pairs.{is_pair_lem}
+use Rattle.spec_refusals.proofs.Pairs.{ideal_is_pair}
 use Rattle.spec_refusals.proofs.Records.{kinds_record, count_listing, length_listing, whole_listing, record_listing, distance_listing, kinds_listing, rising_listing}
 use Rattle.spec_demands.specs.Continued.{StopsAt, Walks}
 use Rattle.spec_demands.proofs.Continued.{t2}
@@ -75,7 +75,7 @@ module _ {f : FieldName} {g : ℕ} {D : List ℕ} (h : Admitted f g D) where
 
   walk_pair : (i : ℕ) → let x = ideal_of (ops f) (walk.walk (ops f) D d i) in IsPair f D x.q x.p
   unfolding ideal_of
-  walk_pair i = is_pair_lem h (oks_monic M I (Q i)) (reduced_ideal K M I D (walk.walk (ops f) D d i) (walk_state K (fraction z) i))
+  walk_pair i = ideal_is_pair h (oks_monic M I (Q i)) (reduced_ideal K M I D (walk.walk (ops f) D d i) (walk_state K (fraction z) i))
 
   -- 2²⁸·32 is far below 2⁵⁶
   degree_fits : (i : ℕ) → i ≤ budgets → degree_before (ops f) D d i ≤ degrees
@@ -111,7 +111,7 @@ module _ (t : Ticket) (h : Admitted t.field (genus t.n) t.D) (R m : ℕ) (most :
     l = listing_of t R m
 
     even : suc (genus t.n) + suc (genus t.n) ≡ t.n
-    even = (degree_of_lem t.n degree).0
+    even = (allowed_degree t.n degree).0
 
     distances : (j : ℕ) → j < m → distance_at l t.n j ≡ (entry_of t j).distance
     distances j k = distance_listing t R even m j k (holds j k).distance_fits

@@ -22,7 +22,7 @@ use Rattle.spec_fields.specs.Named.{Arithmetic, arithmetic, ok_first, φ_first, 
 use Rattle.spec_laws.specs.Surd.{Surd}
 use Rattle.spec_laws.specs.Fraction.{fraction}
 use Rattle.spec_laws.specs.Convergents.{p_trim, p_oks, s_trim, s_oks, degree_distance}
-use Rattle.spec_laws.specs.Leads.{over_lead_lem}
+use Rattle.spec_laws.specs.Leads.{over_lead_inverts}
 use Rattle.spec_laws.specs.Monic.{unit_p_monic, unit_s_monic}
 use Rattle.spec_laws.specs.QuasiPeriod.{Quasi, Says, quasi_says}
 use Rattle.spec_laws.specs.Admitted.{Admitted, is_field, surd_of, admitted}
@@ -103,7 +103,7 @@ module _ {f : FieldName} {g : ℕ} {D : List ℕ} (h : Admitted f g D) where
         (series_scale M lam (scale (ops f) over l)
         ∙ ap (conv (F K) (con (F K) (M.φ lam))) (series_scale M over l)
         ∙ sym ((Series (F K)).mul_assoc _ _ _)
-        ∙ ap (λ (v : Px K). conv (F K) v (series M l)) (con_mul K (M.φ lam) (M.φ over) ∙ ap (con (F K)) ((F K).mul_comm _ _ ∙ over_lead_lem z i))
+        ∙ ap (λ (v : Px K). conv (F K) v (series M l)) (con_mul K (M.φ lam) (M.φ over) ∙ ap (con (F K)) ((F K).mul_comm _ _ ∙ over_lead_inverts z i))
         ∙ (Series (F K)).mul_comm _ _
         ∙ (Series (F K)).mul_one _)
 

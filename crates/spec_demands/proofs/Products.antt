@@ -35,7 +35,7 @@ use Rattle.spec_laws.specs.Shift.{turns_few, shift_not_positive, shift_least}
 use Rattle.spec_sentences.proofs.Arithmetic.{lead_is_one, gcd_rules}
 use Rattle.spec_sentences.proofs.Tests.{tests_none}
 use Rattle.spec_refusals.specs.Pairs.{IsPair}
-use Rattle.spec_refusals.proofs.Pairs.{exact, is_pair_lem, pairs_passed, tests_distances, product_by_lem, giant_by_lem}
+use Rattle.spec_refusals.proofs.Pairs.{exact, ideal_is_pair, pairs_passed, tests_distances, product_answer_by, giant_answer_by}
 use Rattle.spec_demands.specs.Continued.{sum_to}
 use Rattle.spec_demands.specs.Products.{Combines, IsProduct, ReducesAt, Multiplies, Steps, T2Products, T2GiantSteps}
 use Rattle.spec_demands.specs.Products as defs
@@ -93,7 +93,7 @@ module _ {f : FieldName} {g : ℕ} {D : List ℕ} (h : Admitted f g D) {x y : Id
     Q_square = Q_product K M I D hx hy;
     Q_most = let e = product.Q_size K M I D hx hy in let e' = deg_is K M Q₀ in let a = pair_degree h px in let b = pair_degree h py in omega arith;
     P_any = λ u v w e. product_same K M I D hx hy (bezout_gives K M I D x y) (gives u v w e);
-    ideal = is_pair_lem h (oks_quo M _ _) (product_ideal K M I D hx hy (bezout_gives K M I D x y));
+    ideal = ideal_is_pair h (oks_quo M _ _) (product_ideal K M I D hx hy (bezout_gives K M I D x y));
   }
 
   -- ---- its reduction
@@ -113,7 +113,7 @@ module _ {f : FieldName} {g : ℕ} {D : List ℕ} (h : Admitted f g D) {x y : Id
 
   answer_pair : (k : ℕ) → let i = ideal_of (ops f) (steps (ops f) D d r.ideal k) in IsPair f D i.q i.p
   unfolding ideal_of
-  answer_pair k = is_pair_lem h (oks_monic M I (steps (ops f) D d r.ideal k).q) (reduced_ideal K M I D (steps (ops f) D d r.ideal k) (stated z r.ideal st k).state)
+  answer_pair k = ideal_is_pair h (oks_monic M I (steps (ops f) D d r.ideal k).q) (reduced_ideal K M I D (steps (ops f) D d r.ideal k) (stated z r.ideal st k).state)
 
 -- ---- for a ticket
 module _ (t : Ticket) (h : Admitted t.field (genus t.n) t.D) {x y : Ideal ℕ} (px : Passes t.field (genus t.n) t.D x) (py : Passes t.field (genus t.n) t.D y) where
@@ -149,7 +149,7 @@ t2_products w k x y px py =
     let h = admitted w k in
     let n = pairs_passed (ticket_of w) h x y px py in
     let p = pairs_pass (ticket_of w) x y n in
-    subst (Multiplies (ticket_of w) x y) (sym (product_by_lem w x y 0 false k n)) (multiplies (ticket_of w) h (pair_passes (ticket_of w) x p.0) (pair_passes (ticket_of w) y p.1))
+    subst (Multiplies (ticket_of w) x y) (sym (product_answer_by w x y 0 false k n)) (multiplies (ticket_of w) h (pair_passes (ticket_of w) x p.0) (pair_passes (ticket_of w) y p.1))
 
 pub t2_giant_steps : T2GiantSteps
 unfolding product_done
@@ -157,5 +157,5 @@ t2_giant_steps w k x y px py d e far =
     let h = admitted w k in
     let n = pairs_passed (ticket_of w) h x y px py in
     let p = pairs_pass (ticket_of w) x y n in
-    subst (Steps (ticket_of w) x d y e (product_answer w x y).s (record { q = (product_answer w x y).q; p = (product_answer w x y).p })) (sym (giant_by_lem w x y d e 0 false false k n (tests_none (tests_distances d e) far)))
-    (subst (λ (a : ProductAnswer). Steps (ticket_of w) x d y e a.s (record { q = a.q; p = a.p }) (giant_done (ticket_of w) x d y e)) (sym (product_by_lem w x y 0 false k n)) (steps_are (ticket_of w) h (pair_passes (ticket_of w) x p.0) (pair_passes (ticket_of w) y p.1) d e))
+    subst (Steps (ticket_of w) x d y e (product_answer w x y).s (record { q = (product_answer w x y).q; p = (product_answer w x y).p })) (sym (giant_answer_by w x y d e 0 false false k n (tests_none (tests_distances d e) far)))
+    (subst (λ (a : ProductAnswer). Steps (ticket_of w) x d y e a.s (record { q = a.q; p = a.p }) (giant_done (ticket_of w) x d y e)) (sym (product_answer_by w x y 0 false k n)) (steps_are (ticket_of w) h (pair_passes (ticket_of w) x p.0) (pair_passes (ticket_of w) y p.1) d e))

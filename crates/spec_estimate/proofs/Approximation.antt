@@ -34,23 +34,23 @@ module _ (t : Ticket) (h : Admitted t.field (genus t.n) t.D) where
   abbrev value : ℕ → ℕ
   value e = evaluate (ops t.field) t.D e
 
-  value_at_lem : (e : ℕ) → Value t.field t.D e (value e)
-  value_at_lem e = value_is t.field named t.D e
+  value_holds : (e : ℕ) → Value t.field t.D e (value e)
+  value_holds e = value_is t.field named t.D e
 
   -- ---- q − χ(x − e) by the two tests
   symbol_square : (e : ℕ) → square? t.field (value e) ≡ true → QLessSymbol t e (q - 1)
   symbol_square e b =
       let s = (tests_square t.field (value e) (some_elements t.field named)).0 b in
-      symbol_one (λ d. square_some t.field named s.0 s.1 (s.2 ∙ (value_zero t.field named t.D e (value_at_lem e)).0 d)) ((value_square t.field named t.D e (value_at_lem e)).1 (s.0, s.2))
+      symbol_one (λ d. square_some t.field named s.0 s.1 (s.2 ∙ (value_zero t.field named t.D e (value_holds e)).0 d)) ((value_square t.field named t.D e (value_holds e)).1 (s.0, s.2))
 
   symbol_non_square : (e : ℕ) → non_square? t.field (value e) ≡ true → QLessSymbol t e (q + 1)
   symbol_non_square e b =
-      let s = (tests_non_square t.field (value e) (some_elements t.field named) (value_at_lem e).below).0 b in
-      symbol_minus_one (λ m. let z = (value_square t.field named t.D e (value_at_lem e)).0 m in s z.0 z.1)
+      let s = (tests_non_square t.field (value e) (some_elements t.field named) (value_holds e).below).0 b in
+      symbol_minus_one (λ m. let z = (value_square t.field named t.D e (value_holds e)).0 m in s z.0 z.1)
 
   symbol_none : (e : ℕ) → square? t.field (value e) ≡ false → non_square? t.field (value e) ≡ false → QLessSymbol t e q
   unfolding non_square?
-  symbol_none e b c = symbol_zero ((value_zero t.field named t.D e (value_at_lem e)).1 (sym (mod-eq_of_lt (value_at_lem e).below) ∙ eqb-true _ _ (zero_of _ _ b c)))
+  symbol_none e b c = symbol_zero ((value_zero t.field named t.D e (value_holds e)).1 (sym (mod-eq_of_lt (value_holds e).below) ∙ eqb-true _ _ (zero_of _ _ b c)))
     where
       -- neither test is true of 0 alone
       zero_of : (z s : Bool) → s ≡ false → (not z && not s) ≡ false → z ≡ true
@@ -60,7 +60,7 @@ module _ (t : Ticket) (h : Admitted t.field (genus t.n) t.D) where
 
   -- where x − e divides D, D is 0² modulo x − e
   zero_square_modulo : (e : ℕ) → Divides t.field (linear t.field e) t.D → SquareModulo t.field t.D e
-  zero_square_modulo e d = (value_square t.field named t.D e (value_at_lem e)).1 (0, zero-mod q ∙ sym ((value_zero t.field named t.D e (value_at_lem e)).0 d))
+  zero_square_modulo e d = (value_square t.field named t.D e (value_holds e)).1 (0, zero-mod q ∙ sym ((value_zero t.field named t.D e (value_holds e)).0 d))
 
   symbol_only : {e b c : ℕ} → QLessSymbol t e b → QLessSymbol t e c → b ≡ c
   symbol_only (symbol_one d m) (symbol_one d' m') = refl
@@ -129,7 +129,7 @@ module _ (t : Ticket) (h : Admitted t.field (genus t.n) t.D) where
       bottom : (q - 1) ^ (a + 1) * (q + 1) ^ s ≡ (q - 1) * (q - 1) ^ a * (q + 1) ^ s
       bottom = ap (λ (k : ℕ). k * (q + 1) ^ s) (ap (λ (k : ℕ). (q - 1) ^ k) (add-one a) ∙ pow-succ' (q - 1) a)
 
-  approximates : (r : EstimateAnswer) (x : Estimated t r) → Approximates t r x.squares x.non_squares_lem
+  approximates : (r : EstimateAnswer) (x : Estimated t r) → Approximates t r x.squares x.non_squares
   unfolding squares_of non_squares_of
   approximates r x = record { factor = y.0; factors = y.1; factors_only = λ z p. factors_only p y.1; is = value_same; written = written }
     where
@@ -139,17 +139,17 @@ module _ (t : Ticket) (h : Admitted t.field (genus t.n) t.D) where
       u : Ratio
       u = (q ^ (genus t.n + 1)) over (q - 1)
 
-      written : r.numerator over r.denominator ≡ u times power (q over (q - 1)) x.squares times power (q over (q + 1)) x.non_squares_lem
-      written = ap₂ ◌over◌ x.numerator x.denominator ∙ written_is (genus t.n) x.squares x.non_squares_lem
+      written : r.numerator over r.denominator ≡ u times power (q over (q - 1)) x.squares times power (q over (q + 1)) x.non_squares
+      written = ap₂ ◌over◌ x.numerator x.denominator ∙ written_is (genus t.n) x.squares x.non_squares
 
       squares : squares_below q ≡ x.squares
       squares = how_many_unique _ _ _ (squares_many t h) x.squares_are
 
-      non_squares_lem : non_squares_below q ≡ x.non_squares_lem
-      non_squares_lem = how_many_unique _ _ _ (non_squares_many t h) x.non_squares_are
+      non_squares : non_squares_below q ≡ x.non_squares
+      non_squares = how_many_unique _ _ _ (non_squares_many t h) x.non_squares_are
 
-      same : SameValue (powers x.squares x.non_squares_lem) y.0
-      same = sym (subst (SameValue y.0) (ap₂ powers squares non_squares_lem) y.2)
+      same : SameValue (powers x.squares x.non_squares) y.0
+      same = sym (subst (SameValue y.0) (ap₂ powers squares non_squares) y.2)
 
       value_same : SameValue (r.numerator over r.denominator) (u times y.0)
       value_same = subst (λ (z : Ratio). SameValue z (u times y.0)) (sym (written ∙ times_assoc u _ _)) (times_same _ _ u same)

@@ -96,7 +96,7 @@ module _ (t : Ticket) (h : Admitted t.field (genus t.n) t.D) where
       number = refl;
       squares = squares_of t.field t.D;
       squares_are = squares_many;
-      non_squares_lem = non_squares_of t.field t.D;
+      non_squares = non_squares_of t.field t.D;
       non_squares_are = non_squares_many;
       numerator = refl;
       denominator = refl;

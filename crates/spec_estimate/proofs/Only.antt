@@ -26,14 +26,14 @@ estimated_only t h few low r x = answer_path x.number numerator denominator (rou
     squares : x.squares ≡ squares_of t.field t.D
     squares = how_many_unique _ _ _ x.squares_are (squares_many t h)
 
-    non_squares_lem : x.non_squares_lem ≡ non_squares_of t.field t.D
-    non_squares_lem = how_many_unique _ _ _ x.non_squares_are (non_squares_many t h)
+    non_squares : x.non_squares ≡ non_squares_of t.field t.D
+    non_squares = how_many_unique _ _ _ x.non_squares_are (non_squares_many t h)
 
     numerator : r.numerator ≡ (estimate_done t).numerator
-    numerator = x.numerator ∙ ap₂ (λ (a s : ℕ). q ^ (genus t.n + 1 + a + s)) squares non_squares_lem
+    numerator = x.numerator ∙ ap₂ (λ (a s : ℕ). q ^ (genus t.n + 1 + a + s)) squares non_squares
 
     denominator : r.denominator ≡ (estimate_done t).denominator
-    denominator = x.denominator ∙ ap₂ (λ (a s : ℕ). (q - 1) ^ (a + 1) * (q + 1) ^ s) squares non_squares_lem
+    denominator = x.denominator ∙ ap₂ (λ (a s : ℕ). (q - 1) ^ (a + 1) * (q + 1) ^ s) squares non_squares
 
     some : 0 < r.denominator
     some = subst (λ (k : ℕ). 0 < k) (sym denominator) (fits t h few low).some

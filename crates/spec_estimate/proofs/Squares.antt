@@ -9,7 +9,7 @@ use Rattle.std.proofs.Math.Bool.{true, false, not}
 use Rattle.std.proofs.lemmas.Bool.{false≢true}
 use Rattle.std.proofs.Math.Dec.{eqb}
 use borrow.Author.Tests.{eqb-true, eqb-false, eq-eqb, ne_eqb}
-use Rattle.math_ring.specs.Residues.{mod_mul_mod, mul_mod_mod}
+use Rattle.std.proofs.lemmas.Nat.{mul-mod_first, mul-mod_second}
 use Rattle.math_algebra.specs.Field.{some_mul}
 use Rattle.math_counting.specs.Count.{select, count}
 use Rattle.math_counting.specs.HowMany.{HowMany}
@@ -24,7 +24,7 @@ use Rattle.spec_estimate.specs.Squares.{Square, NonSquare, more}
 
 -- ---- the proof
 zero_square : (q z : ℕ) → z % q ≡ 0 → (z * z) % q ≡ 0
-zero_square q z e = sym (mul_mod_mod z z q) ∙ ap (λ (x : ℕ). (z * x) % q) e ∙ ap (λ (x : ℕ). x % q) (mul-zero z) ∙ zero-mod q
+zero_square q z e = sym (mul-mod_second z z q) ∙ ap (λ (x : ℕ). (z * x) % q) e ∙ ap (λ (x : ℕ). x % q) (mul-zero z) ∙ zero-mod q
 
 -- ---- some z from 1 to k
 module _ (f : FieldName) (v : ℕ) where
@@ -60,7 +60,7 @@ module _ (f : FieldName) (v : ℕ) where
     unfolding square?
     tests_square = (
       λ e. let z = root_true (q - 1) e in (z.0, λ d. (let g : z.0 % q ≡ z.0 = mod-eq_of_lt (omega (arith, z.2)) in omega (arith, z.1)), z.3),
-      λ s. let l : s.0 % q < q = mod-lt s.0 some in true_root (q - 1) (s.0 % q) (⊎_elim (λ e. absurd (s.1 e)) (λ p. p) (eq-zero-or-pos (s.0 % q))) (omega arith) (mod_mul_mod s.0 (s.0 % q) q ∙ mul_mod_mod s.0 s.0 q ∙ s.2),
+      λ s. let l : s.0 % q < q = mod-lt s.0 some in true_root (q - 1) (s.0 % q) (⊎_elim (λ e. absurd (s.1 e)) (λ p. p) (eq-zero-or-pos (s.0 % q))) (omega arith) (mul-mod_first s.0 (s.0 % q) q ∙ mul-mod_second s.0 s.0 q ∙ s.2),
     )
 
     -- v is an element other than 0, and no z other than 0 has z² = v: no z has

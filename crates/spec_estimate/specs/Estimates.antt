@@ -48,11 +48,11 @@ module _ (t : Ticket) where
     -- "Let a and t be the numbers of field elements at which D's value is a nonzero square and a non-square."
     pub squares : ℕ
     pub squares_are : HowMany (λ e. (e < t.field.q) × SquareAt e) squares
-    pub non_squares_lem : ℕ
-    pub non_squares_are : HowMany (λ e. (e < t.field.q) × NonSquareAt e) non_squares_lem
+    pub non_squares : ℕ
+    pub non_squares_are : HowMany (λ e. (e < t.field.q) × NonSquareAt e) non_squares
     -- "It is reported as q^(g+1+a+t) over (q−1)^(a+1)·(q+1)^t, not reduced"
-    pub numerator : r.numerator ≡ t.field.q ^ (genus t.n + 1 + squares + non_squares_lem)
-    pub denominator : r.denominator ≡ (t.field.q - 1) ^ (squares + 1) * (t.field.q + 1) ^ non_squares_lem
+    pub numerator : r.numerator ≡ t.field.q ^ (genus t.n + 1 + squares + non_squares)
+    pub denominator : r.denominator ≡ (t.field.q - 1) ^ (squares + 1) * (t.field.q + 1) ^ non_squares
     -- "and as the nearest whole number, an exact half going up"
     pub nearest : Nearest r.numerator r.denominator r.nearest
 
@@ -81,16 +81,16 @@ module _ (t : Ticket) where
   -- Source 000, section 5B: E'(w,D) is q^(g+1)/(q−1) times the product of F(ν,D) over ν from 1 to w, and F(ν,D) is the
   -- product of q^ν/(q^ν − χ(P)) over |P| = q^ν, which is (q^ν/(q^ν−1))^(s_ν) · (q^ν/(q^ν+1))^(t_ν). Here w is 1. "Note
   -- that each monic polynomial of degree 1 is prime.": these are the q polynomials x − e
-  pub record Approximates (r : EstimateAnswer) (squares non_squares_lem : ℕ) : Type 0 where
+  pub record Approximates (r : EstimateAnswer) (squares non_squares : ℕ) : Type 0 where
     pub factor : Ratio
     pub factors : FactorsBelow t.field.q factor
     pub factors_only : (x : Ratio) → FactorsBelow t.field.q x → x ≡ factor
     pub is : SameValue (r.numerator over r.denominator) ((t.field.q ^ (genus t.n + 1)) over (t.field.q - 1) times factor)
     -- the request's own form, multiplied as it stands: "E' = q^(g+1) / (q−1) times (q/(q−1))^a times (q/(q+1))^t."
-    pub written : r.numerator over r.denominator ≡ (t.field.q ^ (genus t.n + 1)) over (t.field.q - 1) times power (t.field.q over (t.field.q - 1)) squares times power (t.field.q over (t.field.q + 1)) non_squares_lem
+    pub written : r.numerator over r.denominator ≡ (t.field.q ^ (genus t.n + 1)) over (t.field.q - 1) times power (t.field.q over (t.field.q - 1)) squares times power (t.field.q over (t.field.q + 1)) non_squares
 
 abbrev pub T2Approximates : Type 0
-T2Approximates = (w : List ℕ) → refusal_of w ≡ 0 → (ticket_of w).field.q ≤ 13 → (ticket_of w).n ≤ 8 → (x : Estimated (ticket_of w) (estimate_answer w)) → Approximates (ticket_of w) (estimate_answer w) x.squares x.non_squares_lem
+T2Approximates = (w : List ℕ) → refusal_of w ≡ 0 → (ticket_of w).field.q ≤ 13 → (ticket_of w).n ≤ 8 → (x : Estimated (ticket_of w) (estimate_answer w)) → Approximates (ticket_of w) (estimate_answer w) x.squares x.non_squares
 
 -- ---- no other answer is refused so and estimates so
 abbrev pub EstimateOnly : Type 0

@@ -15,7 +15,7 @@ use Rattle.math_surd.proofs.Ideal.{same_path}
 use Rattle.math_surd.specs.Same.{Same}
 use Rattle.math_surd.proofs.Same.{same_prior, same_κ}
 use Rattle.math_surd.specs.QuasiPeriod.{QuasiPeriod}
-use Rattle.math_surd.proofs.QuasiPeriod.{quasi_period_lem}
+use Rattle.math_surd.proofs.QuasiPeriod.{quasi_period_or_none}
 use Rattle.spec_arithmetic.specs.Field.{FieldName, ops}
 use Rattle.spec_arithmetic.specs.Polynomials.{size, root}
 use Rattle.spec_arithmetic.specs.Words.{values}
@@ -100,7 +100,7 @@ module _ {f : FieldName} {g : ℕ} {D : List ℕ} (h : Admitted f g D) where
 
   -- some index from 1 up has the ideal of index 0, so that its Q is constant: the first of them is within it
   exists : (m : ℕ) × QuasiPeriod K (fraction z) m
-  exists = ⊎_elim (λ s. (s.0, s.2)) (λ never. absurd (never k (omega (arith, r.rises)) (omega arith) constant)) (quasi_period_lem K (fraction z) k)
+  exists = ⊎_elim (λ s. (s.0, s.2)) (λ never. absurd (never k (omega (arith, r.rises)) (omega arith) constant)) (quasi_period_or_none K (fraction z) k)
     where
       r : Repeats pair_number (B * B)
       r = repeated_value (B * B) pair_number (λ i _. pair_below i)
@@ -129,7 +129,7 @@ module _ (t : Ticket) (h : Admitted t.field (genus t.n) t.D) (m : ℕ) (q : IsQu
   }
 
   pub period_of : QuasiPeriod (arithmetic t.field (is_field h)).K (fraction (surd_of h)) m
-  period_of = over.quasi_period_lem (surd_of h) quasi_of
+  period_of = over.fraction_quasi_period (surd_of h) quasi_of
 
 pub t2_exists : T2Exists
 unfolding root_of

@@ -8,7 +8,7 @@ use Rattle.std.proofs.Math.ListN.{length}
 use Rattle.math_algebra.specs.Field.{Field}
 use Rattle.math_algebra.specs.Polynomial.{F}
 use Rattle.math_surd.specs.Step.{State}
-use Rattle.math_ideals.specs.Steps.{degree_sum_lem}
+use Rattle.math_ideals.specs.Steps.{sum_of_degrees}
 use Rattle.math_giants.specs.GiantStep.{GiantStep, giant_Q, giant_P, drop}
 use Rattle.spec_arithmetic.specs.Field.{Ops}
 use Rattle.spec_arithmetic.specs.Polynomials.{deg}
@@ -75,5 +75,5 @@ module _ {A B : Type 0} {o : Ops A} {K : Field B} {M : Model o (F K)} {g : ℕ} 
       most : deg o ended.q +ₙ degree_sum o D d g listed.ideal turns ≤ deg o listed.ideal.q
       most = degree_sum_most z listed.ideal start
 
-      whole : m +ₙ deg o listed.s ≡ (deg o listed.ideal.q +ₙ (common K M z.inverts D hx hy).σ) -ₙ (deg o ended.q +ₙ degree_sum_lem K (sequence z listed.ideal start) turns)
+      whole : m +ₙ deg o listed.s ≡ (deg o listed.ideal.q +ₙ (common K M z.inverts D hx hy).σ) -ₙ (deg o ended.q +ₙ sum_of_degrees K (sequence z listed.ideal start) turns)
       whole = let a = degree_sum_is z listed.ideal start turns in let b = S_size K M z.inverts D hx hy in let c = deg_is K M listed.s in let e = most in omega arith

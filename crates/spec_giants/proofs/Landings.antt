@@ -39,8 +39,8 @@ module _ (t : Ticket) where
   abbrev Lands : (i j : ℕ) → (a : GiantStepAnswer) → Type 0
   Lands = defs.Lands t
 
-  abbrev answer_of_lem : ℕ → Product ℕ → GiantStepAnswer
-  answer_of_lem = defs.answer_of_lem t
+  abbrev answer_from : ℕ → Product ℕ → GiantStepAnswer
+  answer_from = defs.answer_from t
 
   module _ (h : Admitted t.field (genus t.n) t.D) (i j : ℕ) where
     abbrev K : Field (arithmetic t.field (is_field h)).Elements
@@ -83,8 +83,8 @@ module _ (t : Ticket) where
     unfolding entry_of root_of
     fall_sum = let a = degree_distance z landed.at in let b = degree_distance z i in let c = degree_distance z j in let e = landed.distance_is in omega arith
 
-    product_lands : Lands i j (answer_of_lem (δ t i + δ t j) product)
-    unfolding defs.answer_of_lem root_of
+    product_lands : Lands i j (answer_from (δ t i + δ t j) product)
+    unfolding defs.answer_from root_of
     product_lands = record {
       at = landed.at;
       q_is = ap (λ (x : Ideal ℕ). x.q) (end_is landed.at landed.same);
@@ -97,5 +97,5 @@ module _ (t : Ticket) where
     }
 
   pub lands : Admitted t.field (genus t.n) t.D → (i j : ℕ) → Lands i j (giant_done t (ideal t i) (δ t i) (ideal t j) (δ t j))
-  unfolding giant_done defs.answer_of_lem
-  lands h i j = subst (λ (r : Product ℕ). Lands i j (answer_of_lem (δ t i + δ t j) r)) (sym (product_is (K h i j) (M h i j) (z h i j).inverts t.D (ideal t i) (ideal t j))) (product_lands h i j)
+  unfolding giant_done defs.answer_from
+  lands h i j = subst (λ (r : Product ℕ). Lands i j (answer_from (δ t i + δ t j) r)) (sym (product_is (K h i j) (M h i j) (z h i j).inverts t.D (ideal t i) (ideal t j))) (product_lands h i j)

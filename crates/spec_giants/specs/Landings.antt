@@ -23,8 +23,8 @@ module _ (t : Ticket) where
     pub distance_is : a.distance ≡ pos (δ t at)
 
   -- the definitions' answer from a product of two ideals whose distances add up to e
-  unfoldable pub answer_of_lem : ℕ → Product ℕ → GiantStepAnswer
-  answer_of_lem e r =
+  unfoldable pub answer_from : ℕ → Product ℕ → GiantStepAnswer
+  answer_from e r =
       let i = ideal_of (ops_of t) (steps (ops_of t) t.D (root_of t) r.ideal (turns_of (ops_of t) t.D (root_of t) (genus t.n) r.ideal)) in
       let f = shift_of (ops_of t) t.D (root_of t) (genus t.n) r in
       record { number = 0; q = i.q; p = i.p; f = f; distance = pos e +ℤ f }

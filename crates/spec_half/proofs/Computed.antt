@@ -151,25 +151,25 @@ module _ {f : FieldName} {g : ℕ} {D : List ℕ} (h : Admitted f g D) where
 -- ---- the outcome of a ticket of budget b: R + (g + 1) = 2·deg p_i where the test of Q holds first at i, R +
 -- deg Q_{i+1} = 2·deg p_i where that of P does
 module _ {f : FieldName} (n : ℕ) {D : List ℕ} (h : Admitted f (genus n) D) (b : ℕ) where
-  abbrev root_d_lem : List ℕ
-  root_d_lem = root (ops f) D (suc (genus n))
+  abbrev computed_root : List ℕ
+  computed_root = root (ops f) D (suc (genus n))
 
-  found_by : (x : Middle) (R : ℕ) → first_middle (ops f) D root_d_lem b 0 ≡ some x → middle_regulator (ops f) D root_d_lem x ≡ R → half_of (ticket f n D b) ≡ half_found R (middle_period x)
+  found_by : (x : Middle) (R : ℕ) → first_middle (ops f) D computed_root b 0 ≡ some x → middle_regulator (ops f) D computed_root x ≡ R → half_of (ticket f n D b) ≡ half_found R (middle_period x)
   unfolding half_of root_of
   found_by x R k r = rw (k, half_of) (ap (λ (j : ℕ). half_found j (middle_period x)) r)
 
   -- the search comes to i with the b − i indices from i up
-  search_to : (i k : ℕ) → i + k ≡ b → NoTestHolds f (genus n) D i → first_middle (ops f) D root_d_lem b 0 ≡ first_middle (ops f) D root_d_lem k i
-  search_to i k r m = ap (λ (j : ℕ). first_middle (ops f) D root_d_lem j 0) (sym r) ∙ search_past (ops f) D root_d_lem k i (λ j l. (m.no_Q j l, m.no_P j l))
+  search_to : (i k : ℕ) → i + k ≡ b → NoTestHolds f (genus n) D i → first_middle (ops f) D computed_root b 0 ≡ first_middle (ops f) D computed_root k i
+  search_to i k r m = ap (λ (j : ℕ). first_middle (ops f) D computed_root j 0) (sym r) ∙ search_past (ops f) D computed_root k i (λ j l. (m.no_Q j l, m.no_P j l))
 
-  pub half_by_Q : (i R : ℕ) → i < b → NoTestHolds f (genus n) D i → middle_q? (ops f) D root_d_lem i ≡ true → R + suc (genus n) ≡ 2 * degree_before (ops f) D root_d_lem (suc i) → half_of (ticket f n D b) ≡ half_found R (2 * i + 1)
+  pub half_by_Q : (i R : ℕ) → i < b → NoTestHolds f (genus n) D i → middle_q? (ops f) D computed_root i ≡ true → R + suc (genus n) ≡ 2 * degree_before (ops f) D computed_root (suc i) → half_of (ticket f n D b) ≡ half_found R (2 * i + 1)
   unfolding middle_period
-  half_by_Q i R l m t r = found_by (by_q i) R (search_to i (suc (b - suc i)) (omega arith) m ∙ search_Q (ops f) D root_d_lem (b - suc i) i t) (regulator_by_Q (surd_of h) i R r)
+  half_by_Q i R l m t r = found_by (by_q i) R (search_to i (suc (b - suc i)) (omega arith) m ∙ search_Q (ops f) D computed_root (b - suc i) i t) (regulator_by_Q (surd_of h) i R r)
 
-  pub half_by_P : (i R : ℕ) → i < b → NoTestHolds f (genus n) D i → middle_q? (ops f) D root_d_lem i ≡ false → middle_p? (ops f) D root_d_lem i ≡ true → R + deg (ops f) (Q (ops f) D root_d_lem (suc i)) ≡ 2 * degree_before (ops f) D root_d_lem (suc i) → half_of (ticket f n D b) ≡ half_found R (2 * i + 2)
+  pub half_by_P : (i R : ℕ) → i < b → NoTestHolds f (genus n) D i → middle_q? (ops f) D computed_root i ≡ false → middle_p? (ops f) D computed_root i ≡ true → R + deg (ops f) (Q (ops f) D computed_root (suc i)) ≡ 2 * degree_before (ops f) D computed_root (suc i) → half_of (ticket f n D b) ≡ half_found R (2 * i + 2)
   unfolding middle_period
-  half_by_P i R l m t u r = found_by (by_p i) R (search_to i (suc (b - suc i)) (omega arith) m ∙ search_P (ops f) D root_d_lem (b - suc i) i t u) (regulator_by_P (surd_of h) i R r)
+  half_by_P i R l m t u r = found_by (by_p i) R (search_to i (suc (b - suc i)) (omega arith) m ∙ search_P (ops f) D computed_root (b - suc i) i t u) (regulator_by_P (surd_of h) i R r)
 
-  pub half_none : NoTestHolds f (genus n) D b → half_of (ticket f n D b) ≡ half_spent b (degree_before (ops f) D root_d_lem b)
+  pub half_none : NoTestHolds f (genus n) D b → half_of (ticket f n D b) ≡ half_spent b (degree_before (ops f) D computed_root b)
   unfolding half_of root_of first_middle
-  half_none m = let k : first_middle (ops f) D root_d_lem b 0 ≡ none = search_to b 0 (add-zero b) m in rw (k, half_of) refl
+  half_none m = let k : first_middle (ops f) D computed_root b 0 ≡ none = search_to b 0 (add-zero b) m in rw (k, half_of) refl

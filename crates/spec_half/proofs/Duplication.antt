@@ -22,7 +22,7 @@ use Rattle.spec_laws.specs.Convergents.{degree_distance}
 use Rattle.spec_laws.specs.QuasiPeriod.{Quasi, NoQuasi}
 use Rattle.spec_half.specs.Half.{Middle, by_q, by_p, middle_period, first_middle, degrees_to, middle_regulator}
 use Rattle.spec_half.specs.Middles.{Searched}
-use Rattle.spec_half.proofs.Middles.{first_middle_lem}
+use Rattle.spec_half.proofs.Middles.{first_middle_searched}
 use Rattle.spec_half.specs.Duplication as defs
 
 module _ {A B : Type 0} {o : Ops A} {K : Field B} {M : Model o (F K)} {g : ℕ} {D d : List A} (s : Surd K M g D d) where
@@ -66,7 +66,7 @@ module _ {A B : Type 0} {o : Ops A} {K : Field B} {M : Model o (F K)} {g : ℕ} 
 
   pub half_says : (b : ℕ) → HalfSays b (first_middle o D d b 0)
   unfolding middle_period
-  half_says b = go (first_middle o D d b 0) (first_middle_lem s b)
+  half_says b = go (first_middle o D d b 0) (first_middle_searched s b)
     where
       go : (x : Option Middle) → Searched s b x → HalfSays b x
       go none h =

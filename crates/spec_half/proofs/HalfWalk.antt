@@ -39,7 +39,7 @@ use Rattle.spec_answers.specs.Outcomes.{degree_at}
 use Rattle.spec_half.specs.Half.{Middle, by_q, by_p, middle_period, first_middle, degrees_to, middle_regulator, HalfOutcome, half_found, half_spent, half_refused, half_said, half_of, words_half, half_answer}
 use Rattle.spec_half.proofs.Half.{half_said_injective}
 use Rattle.spec_half.specs.Middles.{Searched}
-use Rattle.spec_half.proofs.Middles.{first_middle_lem}
+use Rattle.spec_half.proofs.Middles.{first_middle_searched}
 use Rattle.spec_half.specs.Duplication.{HalfSays}
 use Rattle.spec_half.proofs.Duplication.{half_says}
 use Rattle.spec_half.proofs.Cases.{spent_not_found, refused_not_found, refused_not_spent, found_numbers, spent_numbers, refused_number}
@@ -122,7 +122,7 @@ module _ (t : Ticket) (h : Admitted t.field (genus t.n) t.D) where
 
   half_ends : HalfEnds t (half_of t)
   unfolding half_of root_of middle_regulator middle_period degree_before
-  half_ends = go (first_middle o D d b 0) (first_middle_lem z b)
+  half_ends = go (first_middle o D d b 0) (first_middle_searched z b)
     where
       go : (x : Option Middle) → Searched z b x → HalfEnds t (outcome_by x)
       go none free = record { all = none_before b free; steps = refl; reached = refl }

@@ -126,5 +126,5 @@ module _ {A B : Type 0} {o : Ops A} {K : Field B} {M : Model o (F K)} {g : ℕ} 
           let e : suc i +ₙ k ≡ i +ₙ suc k = omega arith in
           subst (λ (b : ℕ). Searched b rest) e (next h')
 
-  pub first_middle_lem : (b : ℕ) → Searched b (first_middle o D d b 0)
-  first_middle_lem b = subst (λ (n : ℕ). Searched n (first_middle o D d b 0)) (zero-add b) (search_middle b 0 no_middle_zero)
+  pub first_middle_searched : (b : ℕ) → Searched b (first_middle o D d b 0)
+  first_middle_searched b = subst (λ (n : ℕ). Searched n (first_middle o D d b 0)) (zero-add b) (search_middle b 0 no_middle_zero)

@@ -43,15 +43,15 @@ module _ (t : Ticket) where
     rise i = (distance_rise t h i (suc i) (omega arith), let a = distance_next t h i in let b = q_length t h i in omega arith)
 
     -- ---- the next distance
-    degree_at_lem : (i : ℕ) → deg (ops_of t) (ideal t i).q ≡ length (ideal t i).q - 1
+    degree_is_length : (i : ℕ) → deg (ops_of t) (ideal t i).q ≡ length (ideal t i).q - 1
     unfolding deg size
-    degree_at_lem i = ap (λ (l : List ℕ). length l - 1) (q_trim t h i)
+    degree_is_length i = ap (λ (l : List ℕ). length l - 1) (q_trim t h i)
 
     pub next_at : {i : ℕ} {x : IdealAt} → AtIndex i x → next_distance t x ≡ δ t (suc i)
     unfolding next_distance
     next_at {i} {x} p =
         ap (λ (y : Ideal ℕ). x.distance + (suc g - deg (ops_of t) y.q)) p.ideal_is
-        ∙ (let a = degree_at_lem i in let b = distance_next t h i in let c = p.distance_is in let e = q_length t h i in omega arith)
+        ∙ (let a = degree_is_length i in let b = distance_next t h i in let c = p.distance_is in let e = q_length t h i in omega arith)
 
     -- ---- a single step
     step_ideal : (i : ℕ) → ideal_of (ops_of t) (next (ops_of t) t.D (root_of t) (ideal t i)) ≡ ideal t (suc i)

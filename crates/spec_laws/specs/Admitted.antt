@@ -4,7 +4,7 @@ use Rattle.std.specs.Prelude.{ℕ, zero, suc, ◌+◌, ◌*◌, ◌/◌, ◌%◌
 use Rattle.std.proofs.Common.{mod-lt, add-one, arith, sym, ap, ◌∙◌, true≢false, length-drop, length-take-le, eqb-true}
 use Rattle.std.proofs.Math.Nat.{div-add-mod}
 use Rattle.std.proofs.lemmas.List.{length-map}
-use Rattle.std.proofs.lemmas.Bool.{not-false}
+use Rattle.std.proofs.lemmas.Bool.{not-false, or_parts}
 use Rattle.math_algebra.specs.Polynomial.{Monic}
 use Rattle.math_surd.specs.Root.{NoSquare}
 use Rattle.spec_arithmetic.specs.Field.{FieldName, ops, fits}
@@ -19,7 +19,7 @@ use Rattle.spec_bridge.specs.Root.{root_is, trim_root, oks_root}
 use Rattle.spec_fields.specs.Named.{IsField, Ok, arithmetic, fits_ok, ok_zero, φ_first}
 use Rattle.spec_laws.specs.Surd.{Surd}
 use Rattle.spec_laws.specs.NoSquare as squarefree
-use Rattle.spec_laws.specs.FirstTest.{neither, first_none}
+use Rattle.spec_laws.specs.FirstTest.{first_none}
 use Rattle.spec_laws.specs.Degrees.{Allowed, allowed}
 
 abbrev pub field_from : {f : FieldName} → Prime f.q → 2 < f.q → f.q < 4096 → IsField f
@@ -86,9 +86,9 @@ unfolding wrong_prime
 prime_of q e = odd_prime_true q (not-false (odd_prime q) e)
 
 -- n = 2g + 2
-pub degree_of_lem : (n : ℕ) → wrong_degree n ≡ false → (suc (genus n) + suc (genus n) ≡ n) × (genus n ≤ 31)
+pub allowed_degree : (n : ℕ) → wrong_degree n ≡ false → (suc (genus n) + suc (genus n) ≡ n) × (genus n ≤ 31)
 unfolding genus
-degree_of_lem n e =
+allowed_degree n e =
     let a : Allowed n = allowed n e in
     let whole : 2 * (n / 2) + n % 2 ≡ n = div-add-mod n 2 in
     (omega arith, omega arith)
@@ -105,7 +105,7 @@ below_of f z (x ∷ l) e i = go (fits f x) refl e i (below_of f z l)
 
 pub layout_length : (n : ℕ) (w : List ℕ) → wrong_layout n w ≡ false → length w ≡ n + 5
 unfolding wrong_layout
-layout_length n w e = eqb-true (length w) (n + 5) (not-false (eqb (length w) (n + 5)) (neither (not (eqb (length w) (n + 5))) _ (neither _ (not (eqb (value (get_or w (n + 4) 0)) (n + 4))) e).0).0)
+layout_length n w e = eqb-true (length w) (n + 5) (not-false (eqb (length w) (n + 5)) (or_parts (not (eqb (length w) (n + 5))) _ (or_parts _ (not (eqb (value (get_or w (n + 4) 0)) (n + 4))) e).0).0)
 
 -- n + 5 words hold n + 1 coefficients
 pub length_of : (w : List ℕ) → wrong_layout (ticket_of w).n w ≡ false → length (ticket_of w).D ≡ suc (ticket_of w).n
@@ -138,7 +138,7 @@ from_tests w t k h len = record {
 }
   where
     n_is : (suc (genus t.n) + suc (genus t.n) ≡ t.n) × (genus t.n ≤ 31)
-    n_is = degree_of_lem t.n h.degree
+    n_is = allowed_degree t.n h.degree
 
     size_D : length t.D ≡ suc (suc (genus t.n) + suc (genus t.n))
     size_D = len ∙ ap suc (sym n_is.0)

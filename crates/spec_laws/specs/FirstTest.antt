@@ -1,17 +1,13 @@
--- Tests that apply or do not: those on D; neither of two; the laws of `first_of`, where the first of numbered tests that
--- applies gives its number, and 0 says that none does.
-use Rattle.std.specs.Prelude.{ℕ, suc, ◌≡◌, refl, Bool, true, false, ◌||◌, List, [], ◌∷◌, ◌++◌}
-use Rattle.std.proofs.Common.{arith, true≢false}
+-- Tests that apply or do not: those on D; the laws of `first_of`, where the first of numbered tests that applies gives
+-- its number, and 0 says that none does.
+use Rattle.std.specs.Prelude.{ℕ, suc, ◌≡◌, refl, Bool, true, false, List, [], ◌∷◌, ◌++◌}
+use Rattle.std.proofs.Common.{arith}
 use Rattle.spec_arithmetic.specs.Field.{FieldName}
 use Rattle.spec_definitions.specs.Ticket.{wrong_coefficient, wrong_lead, not_squarefree, first_of}
 
 -- the tests of a ticket on D
 unfoldable pub radicand_tests : FieldName → ℕ → List ℕ → List (ℕ × Bool)
 radicand_tests f n D = (5, wrong_coefficient f D) ∷ (6, wrong_lead n D) ∷ (7, not_squarefree f D) ∷ []
-
-pub neither : (s t : Bool) → (s || t) ≡ false → (s ≡ false) × (t ≡ false)
-neither true t e = absurd (true≢false e)
-neither false t e = (refl, e)
 
 pub first_applies : (k : ℕ) (l : List (ℕ × Bool)) {t : Bool} → t ≡ true → first_of ((k, t) ∷ l) ≡ k
 unfolding first_of

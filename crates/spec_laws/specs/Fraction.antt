@@ -7,7 +7,7 @@ use Rattle.std.proofs.Math.Path.{subst}
 use Rattle.math_ring.specs.Series.{Series}
 use Rattle.math_algebra.specs.Field.{Field}
 use Rattle.math_algebra.specs.Polynomial.{F, Px, ◌≺◌ as Low, Deg, low_up}
-use Rattle.math_surd.specs.Root.{Root, root_of_lem}
+use Rattle.math_surd.specs.Root.{Root, root_from}
 use Rattle.math_surd.specs.Walk.{Walk, prior}
 use Rattle.math_surd.specs.WalkOf.{Computed, walk_of}
 use Rattle.spec_arithmetic.specs.Field.{Ops}
@@ -47,7 +47,7 @@ module _ {A B : Type 0} {o : Ops A} {K : Field B} {M : Model o (F K)} {g : ℕ} 
 
   -- ---- as polynomials
   abbrev pub root : Root K g (series M D)
-  root = root_of_lem K s.is_root
+  root = root_from K s.is_root
 
   -- the remainder of D − P² by Q, which is 0 as will be shown
   abbrev t : ℕ → List A

@@ -116,9 +116,9 @@ module _ {A B : Type 0} {o : Ops A} {K : Field B} {M : Model o (F K)} {g : ℕ} 
   pub some_lead : (m : ℕ) → M.φ (lead o (p_before o D d m)) ≡ 𝟘 → ⊥
   some_lead m = lead_some M (p_before o D d m) (let e = ap length (p_trim h m) in let l = p_length h m in omega arith)
 
-  pub over_lead_lem : (i : ℕ) → M.φ (over_lead o D d (suc i)) * M.φ (lead o (p_before o D d (suc i))) ≡ 𝟙
+  pub over_lead_inverts : (i : ℕ) → M.φ (over_lead o D d (suc i)) * M.φ (lead o (p_before o D d (suc i))) ≡ 𝟙
   unfolding over_lead
-  over_lead_lem i = h.inverts.inv_mul (lead_p i) (some_lead (suc i))
+  over_lead_inverts i = h.inverts.inv_mul (lead_p i) (some_lead (suc i))
 
   over_Q : (i : ℕ) → φ (o.inv (lead_q i)) * φ (lead_q i) ≡ 𝟙
   over_Q i = h.inverts.inv_mul (lead_q i) (λ e. (Q_deg h i).top (sym (Q_place i) ∙ e))
@@ -170,7 +170,7 @@ module _ {A B : Type 0} {o : Ops A} {K : Field B} {M : Model o (F K)} {g : ℕ} 
 
       same : x ≡ y + y
       same = ring_from (F K) (x ∷ y ∷ φ (leads_to o D d (suc i)) ∷ φ (lead_p i) ∷ [])
-          (plus (F K) (times (F K) (- x) (h.inverts.inv_mul (leads_to o D d (suc i)) (some_leads i))) (plus (F K) (times (F K) (x * y) (twice_lead i)) (times (F K) (y + y) (over_lead_lem i))))
+          (plus (F K) (times (F K) (- x) (h.inverts.inv_mul (leads_to o D d (suc i)) (some_leads i))) (plus (F K) (times (F K) (x * y) (twice_lead i)) (times (F K) (y + y) (over_lead_inverts i))))
           (search quote depth 40 fits 9999) tt
 
   -- ---- c·λ² = (−1)^m·Q_m
@@ -179,14 +179,14 @@ module _ {A B : Type 0} {o : Ops A} {K : Field B} {M : Model o (F K)} {g : ℕ} 
   constant_lead i = M.inj _ _ (M.ok_mul _ _) (signed_q_ok h (suc i))
       (M.φ_mul _ _
       ∙ ap₂ ◌*◌ (M.φ_mul _ _ ∙ ap (λ (x : B). x * φ (signed_q o D d (suc i))) (M.φ_mul _ _)) (M.φ_mul _ _)
-      ∙ ring_from (F K) (φ (over_lead o D d (suc i)) ∷ φ (lead_p i) ∷ φ (signed_q o D d (suc i)) ∷ []) (times (F K) (φ (signed_q o D d (suc i)) * (φ (over_lead o D d (suc i)) * φ (lead_p i) + 𝟙)) (over_lead_lem i)) (search quote depth 40 fits 9999) tt)
+      ∙ ring_from (F K) (φ (over_lead o D d (suc i)) ∷ φ (lead_p i) ∷ φ (signed_q o D d (suc i)) ∷ []) (times (F K) (φ (signed_q o D d (suc i)) * (φ (over_lead o D d (suc i)) * φ (lead_p i) + 𝟙)) (over_lead_inverts i)) (search quote depth 40 fits 9999) tt)
 
   -- no other coefficient has this product with λ²
   pub constant_only : (i : ℕ) (c : A) → M.Ok c → o.mul c (o.mul (lead o (p_before o D d (suc i))) (lead o (p_before o D d (suc i)))) ≡ signed_q o D d (suc i) → c ≡ constant_of o D d (suc i)
   unfolding constant_of
   constant_only i c k e = M.inj _ _ k (M.ok_mul _ _)
       (ring_from (F K) (φ (over_lead o D d (suc i)) ∷ φ (lead_p i) ∷ φ (signed_q o D d (suc i)) ∷ φ c ∷ [])
-      (plus (F K) (times (F K) (x * x) (sym (M.φ_mul _ _ ∙ ap (λ (y : B). φ c * y) (M.φ_mul _ _)) ∙ ap φ e)) (times (F K) (- (φ c * (x * φ (lead_p i) + 𝟙))) (over_lead_lem i)))
+      (plus (F K) (times (F K) (x * x) (sym (M.φ_mul _ _ ∙ ap (λ (y : B). φ c * y) (M.φ_mul _ _)) ∙ ap φ e)) (times (F K) (- (φ c * (x * φ (lead_p i) + 𝟙))) (over_lead_inverts i)))
       (search quote depth 40 fits 9999) tt
       ∙ sym (M.φ_mul _ _ ∙ ap (λ (y : B). y * φ (signed_q o D d (suc i))) (M.φ_mul _ _)))
     where

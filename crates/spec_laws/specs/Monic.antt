@@ -22,7 +22,7 @@ use Rattle.spec_laws.specs.Fraction.{fraction}
 use Rattle.spec_laws.specs.Convergents.{p_series, s_series, degree_distance}
 use Rattle.spec_laws.specs.Signs.{norm_of, series_norm}
 use Rattle.spec_laws.specs.Norms.{signed_q_some, convergent_norm}
-use Rattle.spec_laws.specs.Leads.{lead_at_degree, same_lead, over_lead_lem}
+use Rattle.spec_laws.specs.Leads.{lead_at_degree, same_lead, over_lead_inverts}
 
 module _ {A B : Type 0} {o : Ops A} {K : Field B} {M : Model o (F K)} {g : ℕ} {D d : List A} (h : Surd K M g D d) (i : ℕ) where
   open F K use {add as ◌+◌, mul as ◌*◌, neg as -◌, zer as 𝟘, one as 𝟙}
@@ -47,13 +47,13 @@ module _ {A B : Type 0} {o : Ops A} {K : Field B} {M : Model o (F K)} {g : ℕ} 
   lam = lead o (p_before o D d (suc i))
 
   some_over : φ over ≡ 𝟘 → ⊥
-  some_over e = K.one_not_zero (ring_from (F K) (φ over ∷ φ lam ∷ []) (plus (F K) (times (F K) (- 𝟙) (over_lead_lem h i)) (times (F K) (φ lam) e)) (search quote depth 40 fits 9999) tt)
+  some_over e = K.one_not_zero (ring_from (F K) (φ over ∷ φ lam ∷ []) (plus (F K) (times (F K) (- 𝟙) (over_lead_inverts h i)) (times (F K) (φ lam) e)) (search quote depth 40 fits 9999) tt)
 
   -- ---- monic
   monic_over : (l : List A) (n : ℕ) → Deg K (series M l) n → lead o l ≡ lam → Monic K (series M (scale o over l)) n
   monic_over l n t e = record {
     low = low_path K (suc n) (sym (series_scale M over l)) (low_scale K (φ over) (series M l) (suc n) t.low);
-    top = ap φ (at_scale M over l n) ∙ M.φ_mul _ _ ∙ ap (λ (x : B). φ over * x) (sym (lead_at_degree h l n t) ∙ ap φ e) ∙ over_lead_lem h i;
+    top = ap φ (at_scale M over l n) ∙ M.φ_mul _ _ ∙ ap (λ (x : B). φ over * x) (sym (lead_at_degree h l n t) ∙ ap φ e) ∙ over_lead_inverts h i;
   }
 
   pub unit_p_monic : Monic K (series M (unit_of o D d (suc i)).p) (degree_before o D d (suc i))

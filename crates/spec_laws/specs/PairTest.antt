@@ -1,9 +1,9 @@
 -- What the test of refusal 9 says of a pair that passes: its lists have g + 1 and g coefficients below q, and
 -- it is an ideal of degree at most g.
-use Rattle.std.specs.Prelude.{ℕ, suc, ◌-◌ as ◌-ₙ◌, ◌≤◌, ◌<◌, ◌≡◌, refl, Bool, true, false, not, ◌&&◌, ◌||◌, List, length, get_or}
+use Rattle.std.specs.Prelude.{ℕ, suc, ◌-◌ as ◌-ₙ◌, ◌≤◌, ◌<◌, ◌≡◌, refl, Bool, true, false, not, ◌||◌, List, length, get_or}
 use native.Mathlib.Omega.{arith}
 use Rattle.std.proofs.Common.{sym, ap, ◌∙◌, true≢false, eqb-true, ltb-true}
-use Rattle.std.proofs.lemmas.Bool.{false≢true, not-true, not-false}
+use Rattle.std.proofs.lemmas.Bool.{not-true, not-false, and_parts}
 use Rattle.math_algebra.specs.Field.{Field}
 use Rattle.math_algebra.specs.Polynomial.{F}
 use Rattle.spec_arithmetic.specs.Field.{FieldName, ops, fits}
@@ -19,11 +19,6 @@ use Rattle.spec_fields.specs.Named.{Ok, arithmetic, ok_zero, φ_first}
 use Rattle.spec_laws.specs.Admitted.{Admitted, is_field, below_of}
 use Rattle.spec_laws.specs.Pairs.{IsIdeal, norm_at}
 
--- both of two tests
-pub both_true : (s t : Bool) → (s && t) ≡ true → (s ≡ true) × (t ≡ true)
-both_true true t e = (refl, e)
-both_true false t e = absurd (false≢true e)
-
 pub record Passes (f : FieldName) (g : ℕ) (D : List ℕ) (x : Ideal ℕ) : Type 0 where
   pub q_length : length x.q ≡ suc g
   pub p_length : length x.p ≡ g
@@ -36,12 +31,12 @@ pub record Passes (f : FieldName) (g : ℕ) (D : List ℕ) (x : Ideal ℕ) : Typ
 pub pair_passes : (t : Ticket) (x : Ideal ℕ) → is_pair t x ≡ true → Passes t.field (genus t.n) t.D x
 unfolding is_pair
 pair_passes t x e =
-    let a = both_true _ _ e in
-    let b = both_true _ _ a.0 in
-    let c = both_true _ _ b.0 in
-    let d = both_true _ _ c.0 in
-    let f = both_true _ _ d.0 in
-    let g = both_true _ _ f.0 in
+    let a = and_parts _ _ e in
+    let b = and_parts _ _ a.0 in
+    let c = and_parts _ _ b.0 in
+    let d = and_parts _ _ c.0 in
+    let f = and_parts _ _ d.0 in
+    let g = and_parts _ _ f.0 in
     record {
       q_length = eqb-true _ _ g.0;
       p_length = eqb-true _ _ g.1;

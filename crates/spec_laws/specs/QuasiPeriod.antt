@@ -45,8 +45,8 @@ module _ {A B : Type 0} {o : Ops A} {K : Field B} {M : Model o (F K)} {g : ℕ} 
   q = lists.Q o D d
 
   -- ---- over the field
-  pub quasi_period_lem : {b m : ℕ} → Quasi o D d b m → QuasiPeriod K (fraction s) m
-  quasi_period_lem first = record { positive = first.positive; constant = let e = first.constant in omega arith; least = λ j l u e. first.least j l u (let k = Q_some s j in omega arith) }
+  pub fraction_quasi_period : {b m : ℕ} → Quasi o D d b m → QuasiPeriod K (fraction s) m
+  fraction_quasi_period first = record { positive = first.positive; constant = let e = first.constant in omega arith; least = λ j l u e. first.least j l u (let k = Q_some s j in omega arith) }
 
   -- ---- the test
   pub size_length : (i : ℕ) → size o (q i) ≡ length (q i)

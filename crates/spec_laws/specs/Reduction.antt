@@ -19,7 +19,7 @@ use Rattle.math_surd.specs.Step as states
 use Rattle.math_surd.specs.Ideal.{Follows}
 use Rattle.math_surd.proofs.Ideal.{step_follows}
 use Rattle.math_ideals.specs.Reduction.{next_state}
-use Rattle.math_ideals.specs.Steps.{Steps, Above, height_more, degree_sum_lem, shift_most}
+use Rattle.math_ideals.specs.Steps.{Steps, Above, height_more, sum_of_degrees, shift_most}
 use Rattle.math_ideals.proofs.Steps.{above_more, turns_less, degree_falls, partial_deg}
 use Rattle.spec_arithmetic.specs.Field.{Ops}
 use Rattle.spec_arithmetic.specs.Polynomials.{trim, size, deg, add, mul, quo, rem}
@@ -151,8 +151,8 @@ module _ {A B : Type 0} {o : Ops A} {K : Field B} {M : Model o (F K)} {g : ℕ} 
     pub a_size : (j : ℕ) → 1 < length (trim o (a_at (suc j)))
     a_size j = let e = deg_size K M (a_at (suc j)) (partial_deg K sequence j) in let h = height_more K sequence j in omega arith
 
-    pub degree_sum_is : (k : ℕ) → degree_sum o D d g x k ≡ degree_sum_lem K sequence k
-    unfolding degree_sum degree_sum_lem
+    pub degree_sum_is : (k : ℕ) → degree_sum o D d g x k ≡ sum_of_degrees K sequence k
+    unfolding degree_sum sum_of_degrees
     degree_sum_is zero = refl
     degree_sum_is (suc k) = ap₂ ◌+ₙ◌ (degree_sum_is k) (deg_unique K (a_deg k) (partial_deg K sequence k))
 

@@ -19,7 +19,7 @@ use Rattle.spec_laws.specs.Surd.{Surd}
 use Rattle.spec_laws.specs.Fraction.{fraction, Q_some}
 use Rattle.spec_laws.specs.Convergents.{degree_distance}
 use Rattle.spec_laws.specs.Signs.{norm_of, series_norm}
-use Rattle.spec_laws.specs.QuasiPeriod.{Quasi, NoQuasi, quasi_period_lem}
+use Rattle.spec_laws.specs.QuasiPeriod.{Quasi, NoQuasi, fraction_quasi_period}
 
 module _ {A B : Type 0} {o : Ops A} {K : Field B} {M : Model o (F K)} {g : ℕ} {D d : List A} (h : Surd K M g D d) where
   abbrev Q : ℕ → List A
@@ -42,26 +42,26 @@ module _ {A B : Type 0} {o : Ops A} {K : Field B} {M : Model o (F K)} {g : ℕ} 
     }
 
     -- the degree of p's polynomial is that of the list
-    degree_of_lem : (n : ℕ) → Deg K (series M p) n → deg o p ≡ n
-    degree_of_lem n t = let e = deg_size K M p t in let k = deg_is K M p in omega arith
+    deg_of_series : (n : ℕ) → Deg K (series M p) n → deg o p ≡ n
+    deg_of_series n t = let e = deg_size K M p t in let k = deg_is K M p in omega arith
 
     -- ---- no Q up to b is constant
     pub degree_above : (b : ℕ) → NoQuasi o D d b → degree_before o D d b < deg o p
     degree_above b none =
         let r = least.spent K (fraction h) b (λ j l u e. none j l u (let k = Q_some h j in omega arith)) solution in
         let e = degree_distance h b in
-        let k = degree_of_lem r.0 r.1 in
+        let k = deg_of_series r.0 r.1 in
         let l = r.2 in
         omega arith
 
     module _ {b m : ℕ} (first : Quasi o D d b m) where
       pub degree_at_least : degree_before o D d m ≤ deg o p
       degree_at_least =
-          let r = least.found K (fraction h) m (quasi_period_lem h first) solution in
+          let r = least.found K (fraction h) m (fraction_quasi_period h first) solution in
           let e = degree_distance h m in
-          let k = degree_of_lem r.0 r.1 in
+          let k = deg_of_series r.0 r.1 in
           let l = r.2 in
           omega arith
 
       pub only : deg o p ≡ degree_before o D d m → Scaled K (fraction h) m (series M p) (series M s)
-      only e = least.only K (fraction h) m (quasi_period_lem h first) solution (let r = least.found K (fraction h) m (quasi_period_lem h first) solution in subst (Deg K (series M p)) (sym (degree_of_lem r.0 r.1) ∙ e ∙ degree_distance h m) r.1)
+      only e = least.only K (fraction h) m (fraction_quasi_period h first) solution (let r = least.found K (fraction h) m (fraction_quasi_period h first) solution in subst (Deg K (series M p)) (sym (deg_of_series r.0 r.1) ∙ e ∙ degree_distance h m) r.1)

@@ -1,5 +1,4 @@
 pub mod Words
 pub mod Same
 pub mod Kinds
-pub mod Mapped
 pub mod Pad

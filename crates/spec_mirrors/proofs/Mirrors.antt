@@ -23,7 +23,7 @@ use Rattle.spec_bridge.specs.Arithmetic.{series_add, series_sub}
 use Rattle.spec_bridge.specs.Division.{trim_rem, oks_rem, rem_less}
 use Rattle.spec_fields.specs.Named.{arithmetic}
 use Rattle.spec_laws.specs.Fraction.{fraction}
-use Rattle.spec_laws.specs.Admitted.{Admitted, is_field, surd_of, admitted, passed, degree_of_lem}
+use Rattle.spec_laws.specs.Admitted.{Admitted, is_field, surd_of, admitted, passed, allowed_degree}
 use Rattle.spec_sentences.specs.Arithmetic.{Divides}
 use Rattle.spec_sentences.proofs.Arithmetic.{series_divides}
 use Rattle.spec_refusals.proofs.LentLists.{t1_lists, found_passes}
@@ -36,7 +36,7 @@ use Rattle.spec_answers.specs.Outcomes.{degree_at}
 use Rattle.spec_answers.proofs.Outcomes.{found_period}
 use Rattle.spec_answers.proofs.Refusals.{listing_found}
 use Rattle.spec_answers.specs.Records.{distance_read, mirror_read, QRead, PRead, RecordRead}
-use Rattle.spec_answers.proofs.Records.{rem_congruent, Q_is, P_is, Q_read, P_read, distance_read_lem, mirror_read_lem, record_read, record_stands}
+use Rattle.spec_answers.proofs.Records.{rem_congruent, Q_is, P_is, Q_read, P_read, distance_read_is, mirror_read_is, record_read, record_stands}
 use Rattle.spec_uniqueness.proofs.Records.{below_unique, rest_unique}
 use Rattle.spec_giants.specs.Entries.{ideal, δ}
 use Rattle.spec_giants.proofs.Entries.{distance_rise}
@@ -74,11 +74,11 @@ module _ (t : Ticket) (h : Admitted t.field (genus t.n) t.D) (even : suc (genus 
   P_series : (j : ℕ) → j < m → series M (Pr j) ≡ series M (ideal t j).p
   P_series j k = fun_ext (λ i. ap M.φ (P_read t h even R j (holds j k) l (stands j k) i))
 
-  distance_at_lem : (j : ℕ) → j < m → distance_read t.n j l ≡ δ t j
-  distance_at_lem j k = distance_read_lem t h even R j (holds j k) l (stands j k)
+  distance_read_at : (j : ℕ) → j < m → distance_read t.n j l ≡ δ t j
+  distance_read_at j k = distance_read_is t h even R j (holds j k) l (stands j k)
 
   mirror_at : (j : ℕ) → j < m → mirror_read t.n j l ≡ μ t R j
-  mirror_at j k = mirror_read_lem t h even R j (holds j k) l (stands j k)
+  mirror_at j k = mirror_read_is t h even R j (holds j k) l (stands j k)
 
   -- ---- conjugates
   module _ (i j : ℕ) (u : i < m) (v : j < m) (c : Conjugate K (fraction (surd_of h)) i j) where
@@ -145,7 +145,7 @@ module _ (t : Ticket) (h : Admitted t.field (genus t.n) t.D) (even : suc (genus 
     below_R = subst (λ (x : ℕ). x < R) (mirror_at j v)
 
     distance : mirror_read t.n j l < R → distance_read t.n to l ≡ mirror_read t.n j l
-    distance less = distance_at_lem to to_less ∙ at_distance t h R m quasi is j v (below_R less) ∙ sym (mirror_at j v)
+    distance less = distance_read_at to to_less ∙ at_distance t h R m quasi is j v (below_R less) ∙ sym (mirror_at j v)
 
     back : mirror_read t.n j l < R → mirror_read t.n to l ≡ distance_read t.n j l
     back less = let a = (reads j v).mirror in let b = (reads to to_less).mirror in let c = ap (deg (ops_of t)) conjugate.same_Q in let e = distance less in omega arith
@@ -160,7 +160,7 @@ module _ (t : Ticket) (h : Admitted t.field (genus t.n) t.D) (even : suc (genus 
     first e = ap (at t h R m quasi is) (whole.0 e)
 
     only_there : (i : ℕ) → i < m → distance_read t.n i l ≡ mirror_read t.n j l → i ≡ to
-    only_there i u e = at_only t h R m quasi is i j u v (sym (distance_at_lem i u) ∙ e ∙ mirror_at j v)
+    only_there i u e = at_only t h R m quasi is i j u v (sym (distance_read_at i u) ∙ e ∙ mirror_at j v)
 
     only_conjugate : (i : ℕ) → i < m → ConjugateRead t l i j → i ≡ to
     only_conjugate i u c =
@@ -177,7 +177,7 @@ module _ (t : Ticket) (h : Admitted t.field (genus t.n) t.D) (even : suc (genus 
       up_less = let a = up.below in let b = read.count in omega arith
 
       there : distance_at L t.n to ≡ mirror_read t.n j l
-      there = read.distances to to_less ∙ sym (distance_at_lem to to_less) ∙ distance less
+      there = read.distances to to_less ∙ sym (distance_read_at to to_less) ∙ distance less
 
       -- a record before it is not the last, and one after it is too far
       up_is : up.k ≡ to
@@ -209,7 +209,7 @@ pub t2_mirrors : T2Mirrors
 t2_mirrors w old R m c e j v =
     let f = listing_found w old R m c e in
     let z = found_passes w R m c f in
-    let even = (degree_of_lem (ticket_of w).n (passed w z).degree).0 in
+    let even = (allowed_degree (ticket_of w).n (passed w z).degree).0 in
     let p = found_period w R m c f in
     let s = t2_listings w z R m c f in
     let l : List ℕ = (listing_answer w old).list in

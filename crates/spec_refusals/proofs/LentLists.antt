@@ -15,7 +15,7 @@ use Rattle.spec_definitions.specs.Ticket.{Ticket, genus, ticket_of, refusal_of}
 use Rattle.spec_definitions.specs.Answers.{Outcome, found, spent, refused, said, said_injective, ops_of, outcome_of, words_outcome}
 use Rattle.spec_definitions.specs.Units.{Lists, UnitAnswer, long_enough, written, unit_lists, unit_from, unit_answer}
 use Rattle.spec_definitions.specs.Listing.{ListingAnswer, listing_of, listing_from, listing_answer}
-use Rattle.spec_laws.specs.Admitted.{passed, degree_of_lem}
+use Rattle.spec_laws.specs.Admitted.{passed, allowed_degree}
 use Rattle.spec_laws.specs.Cases.{spent_not_found, refused_not_found, found_numbers}
 use Rattle.spec_lists.specs.Pad.{length_pad}
 use Rattle.spec_refusals.proofs.Records.{length_listing}
@@ -161,4 +161,4 @@ found_passes w R m c = go (refusal_of w)
 
 pub t1_lists : T1Lists
 unfolding unit_answer listing_answer
-t1_lists = (λ w l. unit_keeps (ticket_of w) (words_outcome w) l, λ w l. listing_keeps (ticket_of w) (words_outcome w) l (λ R m c e. (degree_of_lem (ticket_of w).n (passed w (found_passes w R m c e)).degree).0))
+t1_lists = (λ w l. unit_keeps (ticket_of w) (words_outcome w) l, λ w l. listing_keeps (ticket_of w) (words_outcome w) l (λ R m c e. (allowed_degree (ticket_of w).n (passed w (found_passes w R m c e)).degree).0))

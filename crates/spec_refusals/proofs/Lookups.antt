@@ -16,7 +16,7 @@ use borrow.Author.Tests.{ltb-true, ltb-false, leb-true, leb-false}
 use Rattle.spec_arithmetic.specs.Words.{kind, same}
 use Rattle.spec_definitions.specs.Ticket.{genus, wrong_degree}
 use Rattle.spec_definitions.specs.Lookup.{record_kinds, record_at, distance_at, record_count, right_kinds, rising, wrong_listing, last_within, lookup_of, place_of}
-use Rattle.spec_laws.specs.Admitted.{degree_of_lem}
+use Rattle.spec_laws.specs.Admitted.{allowed_degree}
 use Rattle.spec_sentences.specs.Tests.{Tests}
 use Rattle.spec_sentences.proofs.Tests.{tests_lt, tests_eq, tests_not, tests_none, tests_stable, tests_or, tests_differ}
 use Rattle.spec_sentences.proofs.Readings.{tests_degree_of}
@@ -57,7 +57,7 @@ module _ (l : List ℕ) (n : ℕ) where
     length_kinds : length (record_kinds n) ≡ n + 4
     unfolding record_kinds
     length_kinds =
-        let e = (degree_of_lem n allowed).0 in
+        let e = (allowed_degree n allowed).0 in
         let a : length (replicate {A = ℕ} (suc (genus n)) 8 ++ replicate (genus n) 9) ≡ length (replicate {A = ℕ} (suc (genus n)) 8) + length (replicate {A = ℕ} (genus n) 9) = length-append (replicate (suc (genus n)) 8) (replicate (genus n) 9) in
         let b : length (replicate {A = ℕ} (suc (genus n)) 8) ≡ suc (genus n) = length-replicate {A = ℕ} (suc (genus n)) 8 in
         let c : length (replicate {A = ℕ} (genus n) 9) ≡ genus n = length-replicate {A = ℕ} (genus n) 9 in
@@ -69,12 +69,12 @@ module _ (l : List ℕ) (n : ℕ) where
         length-map (take (n + 4) (drop (k * (n + 4)) l)) kind
         ∙ length-take-le (n + 4) (drop (k * (n + 4)) l) (let d : length (drop (k * (n + 4)) l) ≡ length l - k * (n + 4) = length-drop (k * (n + 4)) l in let e : suc k * (n + 4) ≡ k * (n + 4) + (n + 4) = suc-mul k (n + 4) in let f : suc k * (n + 4) ≤ length l / (n + 4) * (n + 4) = mul-le-mul_right (n + 4) h in let g = whole in omega (arith, split))
 
-    kind_at_lem : (k i : ℕ) → i < n + 4 → get_or (map kind (record_at l n k)) i 0 ≡ kind (get_or l (k * (n + 4) + i) 0)
+    kind_in_record : (k i : ℕ) → i < n + 4 → get_or (map kind (record_at l n k)) i 0 ≡ kind (get_or l (k * (n + 4) + i) 0)
     unfolding record_at kind
-    kind_at_lem k i h = get_or-map kind (take (n + 4) (drop (k * (n + 4)) l)) i 0 ∙ ap kind (get_or-take (n + 4) (drop (k * (n + 4)) l) i 0 h ∙ get_or-drop (k * (n + 4)) l i 0)
+    kind_in_record k i h = get_or-map kind (take (n + 4) (drop (k * (n + 4)) l)) i 0 ∙ ap kind (get_or-take (n + 4) (drop (k * (n + 4)) l) i 0 h ∙ get_or-drop (k * (n + 4)) l i 0)
 
     tests_record : (k : ℕ) → k < record_count l n → Tests (not (same (map kind (record_at l n k)) (record_kinds n))) (WrongKind l n k)
-    tests_record k h = Iff.trans (tests_differ (map kind (record_at l n k)) (record_kinds n) (length_at k h ∙ sym length_kinds)) (λ s. let b : s.0 < n + 4 = subst (λ (m : ℕ). s.0 < m) (length_at k h) s.1 in (s.0, b, λ e. s.2 (kind_at_lem k s.0 b ∙ e)), λ s. (s.0, subst (λ (m : ℕ). s.0 < m) (sym (length_at k h)) s.1, λ e. s.2 (sym (kind_at_lem k s.0 s.1) ∙ e)))
+    tests_record k h = Iff.trans (tests_differ (map kind (record_at l n k)) (record_kinds n) (length_at k h ∙ sym length_kinds)) (λ s. let b : s.0 < n + 4 = subst (λ (m : ℕ). s.0 < m) (length_at k h) s.1 in (s.0, b, λ e. s.2 (kind_in_record k s.0 b ∙ e)), λ s. (s.0, subst (λ (m : ℕ). s.0 < m) (sym (length_at k h)) s.1, λ e. s.2 (sym (kind_in_record k s.0 s.1) ∙ e)))
 
     tests_kinds : (m : ℕ) → m ≤ record_count l n → Tests (not (right_kinds l n m)) ((k : ℕ) × (k < m) × WrongKind l n k)
     unfolding right_kinds

@@ -35,8 +35,8 @@ module _ {f : FieldName} {g : ℕ} {D : List ℕ} (h : Admitted f g D) where
   pub exact : (l a : List ℕ) → rem (ops f) l a ≡ [] → Divides f a l
   exact = rem_divides f (is_field h)
 
-  pub is_pair_lem : {s : Ideal ℕ} → Oks M s.q → IsIdeal K M D s → IsPair f D s.q s.p
-  is_pair_lem {s} k i = record {
+  pub ideal_is_pair : {s : Ideal ℕ} → Oks M s.q → IsIdeal K M D s → IsPair f D s.q s.p
+  ideal_is_pair {s} k i = record {
     monic = lead_is_one f (is_field h) s.q k i.monic;
     less = let a = monic_size K M s.q i.monic in let b = size_le M s.p i.κ i.low in let c = size_is M s.q in let e = size_is M s.p in omega arith;
     divides = exact _ s.q i.divides;
@@ -89,28 +89,28 @@ module _ (w : List ℕ) (x y : Ideal ℕ) where
   abbrev product_by : ℕ → Bool → ProductAnswer
   product_by r a = elim r [ zero ↦ elim a [ true ↦ product_refused 9 | false ↦ product_done (ticket_of w) x y ] | suc k ↦ product_refused (suc k) ]
 
-  pub product_by_lem : (r : ℕ) (a : Bool) → refusal_of w ≡ r → wrong_pair (ticket_of w) x y ≡ a → product_answer w x y ≡ product_by r a
+  pub product_answer_by : (r : ℕ) (a : Bool) → refusal_of w ≡ r → wrong_pair (ticket_of w) x y ≡ a → product_answer w x y ≡ product_by r a
   unfolding product_answer
-  product_by_lem r a e f = ap₂ product_by e f
+  product_answer_by r a e f = ap₂ product_by e f
 
   module _ (d e : ℕ) where
     abbrev giant_by : ℕ → Bool → Bool → GiantStepAnswer
     giant_by r a b = elim r [ zero ↦ elim a [ true ↦ giant_refused 9 | false ↦ elim b [ true ↦ giant_refused 10 | false ↦ giant_done (ticket_of w) x d y e ] ] | suc k ↦ giant_refused (suc k) ]
 
-    pub giant_by_lem : (r : ℕ) (a b : Bool) → refusal_of w ≡ r → wrong_pair (ticket_of w) x y ≡ a → wrong_distance d e ≡ b → giant_answer w x d y e ≡ giant_by r a b
+    pub giant_answer_by : (r : ℕ) (a b : Bool) → refusal_of w ≡ r → wrong_pair (ticket_of w) x y ≡ a → wrong_distance d e ≡ b → giant_answer w x d y e ≡ giant_by r a b
     unfolding giant_answer
-    giant_by_lem r a b h f k = ap₂ (λ (r : ℕ) (a : Bool). giant_by r a (wrong_distance d e)) h f ∙ ap (giant_by r a) k
+    giant_answer_by r a b h f k = ap₂ (λ (r : ℕ) (a : Bool). giant_by r a (wrong_distance d e)) h f ∙ ap (giant_by r a) k
 
 pub t1_pairs : T1Pairs
 unfolding product_done giant_done product_refused giant_refused
 t1_pairs w x d y e = record {
   words = λ some. words (refusal_of w) refl some;
-  pairs = λ z p. let f = (tests_pairs (ticket_of w) (admitted w z) x y).1 p in (ap (λ (a : ProductAnswer). a.number) (product_by_lem w x y 0 true z f), ap (λ (a : GiantStepAnswer). a.number) (giant_by_lem w x y d e 0 true (wrong_distance d e) z f refl));
-  distances = λ z p f. ap (λ (a : GiantStepAnswer). a.number) (giant_by_lem w x y d e 0 false true z (none z p) ((tests_distances d e).1 f));
-  product_done_lem = λ z p. ap (λ (a : ProductAnswer). a.number) (product_by_lem w x y 0 false z (none z p));
-  giant_done_lem = λ z p f. ap (λ (a : GiantStepAnswer). a.number) (giant_by_lem w x y d e 0 false false z (none z p) (tests_none (tests_distances d e) f));
-  product_zero = subst (λ (r : ProductAnswer). r.number ≢ 0 → ProductZero r) (sym (product_by_lem w x y (refusal_of w) (wrong_pair (ticket_of w) x y) refl refl)) (product_none (refusal_of w) (wrong_pair (ticket_of w) x y));
-  giant_zero = subst (λ (r : GiantStepAnswer). r.number ≢ 0 → GiantZero r) (sym (giant_by_lem w x y d e (refusal_of w) (wrong_pair (ticket_of w) x y) (wrong_distance d e) refl refl refl)) (giant_none (refusal_of w) (wrong_pair (ticket_of w) x y) (wrong_distance d e));
+  pairs = λ z p. let f = (tests_pairs (ticket_of w) (admitted w z) x y).1 p in (ap (λ (a : ProductAnswer). a.number) (product_answer_by w x y 0 true z f), ap (λ (a : GiantStepAnswer). a.number) (giant_answer_by w x y d e 0 true (wrong_distance d e) z f refl));
+  distances = λ z p f. ap (λ (a : GiantStepAnswer). a.number) (giant_answer_by w x y d e 0 false true z (none z p) ((tests_distances d e).1 f));
+  product_not_refused = λ z p. ap (λ (a : ProductAnswer). a.number) (product_answer_by w x y 0 false z (none z p));
+  giant_not_refused = λ z p f. ap (λ (a : GiantStepAnswer). a.number) (giant_answer_by w x y d e 0 false false z (none z p) (tests_none (tests_distances d e) f));
+  product_zero = subst (λ (r : ProductAnswer). r.number ≢ 0 → ProductZero r) (sym (product_answer_by w x y (refusal_of w) (wrong_pair (ticket_of w) x y) refl refl)) (product_none (refusal_of w) (wrong_pair (ticket_of w) x y));
+  giant_zero = subst (λ (r : GiantStepAnswer). r.number ≢ 0 → GiantZero r) (sym (giant_answer_by w x y d e (refusal_of w) (wrong_pair (ticket_of w) x y) (wrong_distance d e) refl refl refl)) (giant_none (refusal_of w) (wrong_pair (ticket_of w) x y) (wrong_distance d e));
 }
   where
     none : refusal_of w ≡ 0 → ¬ WrongPair (ticket_of w) x y → wrong_pair (ticket_of w) x y ≡ false
@@ -118,7 +118,7 @@ t1_pairs w x d y e = record {
 
     words : (r : ℕ) → refusal_of w ≡ r → refusal_of w ≢ 0 → ((product_answer w x y).number ≡ refusal_of w) × ((giant_answer w x d y e).number ≡ refusal_of w)
     words zero h some = absurd (some h)
-    words (suc k) h some = (ap (λ (a : ProductAnswer). a.number) (product_by_lem w x y (suc k) (wrong_pair (ticket_of w) x y) h refl) ∙ sym h, ap (λ (a : GiantStepAnswer). a.number) (giant_by_lem w x y d e (suc k) (wrong_pair (ticket_of w) x y) (wrong_distance d e) h refl refl) ∙ sym h)
+    words (suc k) h some = (ap (λ (a : ProductAnswer). a.number) (product_answer_by w x y (suc k) (wrong_pair (ticket_of w) x y) h refl) ∙ sym h, ap (λ (a : GiantStepAnswer). a.number) (giant_answer_by w x y d e (suc k) (wrong_pair (ticket_of w) x y) (wrong_distance d e) h refl refl) ∙ sym h)
 
     product_none : (r : ℕ) (a : Bool) → (product_by w x y r a).number ≢ 0 → ProductZero (product_by w x y r a)
     product_none zero true some = (refl, refl, refl)

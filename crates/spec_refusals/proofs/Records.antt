@@ -40,14 +40,14 @@ distance_record o n mirror e h = ap₂ joined (value_word 6 (high e.distance) h)
 
 -- ---- the records one after the other
 module _ (t : Ticket) (R : ℕ) (even : suc (genus t.n) + suc (genus t.n) ≡ t.n) where
-  record_from_lem : (k j m : ℕ) → k < m → take (t.n + 4) (drop (k * (t.n + 4)) (records_from t R j m)) ≡ record_of t R (j + k)
+  record_taken : (k j m : ℕ) → k < m → take (t.n + 4) (drop (k * (t.n + 4)) (records_from t R j m)) ≡ record_of t R (j + k)
   unfolding records_from
-  record_from_lem k j zero h = absurd (omega arith)
-  record_from_lem zero j (suc m) h = ap (λ (i : ℕ). take (t.n + 4) (drop i (record_of t R j ++ records_from t R (suc j) m))) (zero-mul (t.n + 4)) ∙ take_at (record_of t R j) (records_from t R (suc j) m) (t.n + 4) (length_one t R even j) ∙ ap (record_of t R) (sym (add-zero j))
-  record_from_lem (suc k) j (suc m) h =
+  record_taken k j zero h = absurd (omega arith)
+  record_taken zero j (suc m) h = ap (λ (i : ℕ). take (t.n + 4) (drop i (record_of t R j ++ records_from t R (suc j) m))) (zero-mul (t.n + 4)) ∙ take_at (record_of t R j) (records_from t R (suc j) m) (t.n + 4) (length_one t R even j) ∙ ap (record_of t R) (sym (add-zero j))
+  record_taken (suc k) j (suc m) h =
       ap (λ (i : ℕ). take (t.n + 4) (drop i (record_of t R j ++ records_from t R (suc j) m))) (suc-mul k (t.n + 4) ∙ add_comm (k * (t.n + 4)) (t.n + 4))
       ∙ ap (take (t.n + 4)) (sym (drop-drop (k * (t.n + 4)) (t.n + 4) (record_of t R j ++ records_from t R (suc j) m)) ∙ ap (drop (k * (t.n + 4))) (drop_at (record_of t R j) (records_from t R (suc j) m) (t.n + 4) (length_one t R even j)))
-      ∙ record_from_lem k (suc j) m (omega arith)
+      ∙ record_taken k (suc j) m (omega arith)
       ∙ ap (record_of t R) (suc-add j k ∙ sym (add-suc j k))
 
   module _ (m : ℕ) where
@@ -67,7 +67,7 @@ module _ (t : Ticket) (R : ℕ) (even : suc (genus t.n) + suc (genus t.n) ≡ t.
 
     pub record_listing : (k : ℕ) → k < m → record_at l t.n k ≡ record_of t R k
     unfolding record_at listing_of
-    record_listing k h = record_from_lem k 0 m h ∙ ap (record_of t R) (omega arith)
+    record_listing k h = record_taken k 0 m h ∙ ap (record_of t R) (omega arith)
 
     word_listing : (k i : ℕ) → k < m → i < t.n + 4 → get_or l (k * (t.n + 4) + i) 0 ≡ get_or (record_of t R k) i 0
     unfolding record_at

@@ -46,8 +46,8 @@ pub record PairRefusals (w : List ℕ) (x : Ideal ℕ) (d : ℕ) (y : Ideal ℕ)
   pub words : refusal_of w ≢ 0 → ((product_answer w x y).number ≡ refusal_of w) × ((giant_answer w x d y e).number ≡ refusal_of w)
   pub pairs : refusal_of w ≡ 0 → WrongPair (ticket_of w) x y → ((product_answer w x y).number ≡ 9) × ((giant_answer w x d y e).number ≡ 9)
   pub distances : refusal_of w ≡ 0 → ¬ WrongPair (ticket_of w) x y → WrongDistance d e → (giant_answer w x d y e).number ≡ 10
-  pub product_done_lem : refusal_of w ≡ 0 → ¬ WrongPair (ticket_of w) x y → (product_answer w x y).number ≡ 0
-  pub giant_done_lem : refusal_of w ≡ 0 → ¬ WrongPair (ticket_of w) x y → ¬ WrongDistance d e → (giant_answer w x d y e).number ≡ 0
+  pub product_not_refused : refusal_of w ≡ 0 → ¬ WrongPair (ticket_of w) x y → (product_answer w x y).number ≡ 0
+  pub giant_not_refused : refusal_of w ≡ 0 → ¬ WrongPair (ticket_of w) x y → ¬ WrongDistance d e → (giant_answer w x d y e).number ≡ 0
   pub product_zero : (product_answer w x y).number ≢ 0 → ProductZero (product_answer w x y)
   pub giant_zero : (giant_answer w x d y e).number ≢ 0 → GiantZero (giant_answer w x d y e)
 

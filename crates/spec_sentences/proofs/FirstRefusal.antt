@@ -7,7 +7,7 @@ use Rattle.spec_fields.specs.Named.{IsField, arithmetic}
 use Rattle.spec_laws.specs.Admitted.{field_of}
 use Rattle.spec_sentences.specs.Sentences.{q, field, n, D, coefficient, Applies, NotSquarefree}
 use Rattle.spec_sentences.specs.Tests.{Tests, NoneBelow, Numbered, end, ◌then◌, Answers}
-use Rattle.spec_sentences.proofs.Tests.{tests_eq, tests_none, tests_stable, first_of_lem, answer_first, answer_none}
+use Rattle.spec_sentences.proofs.Tests.{tests_eq, tests_none, tests_stable, first_of_answers, answer_first, answer_none}
 use Rattle.spec_sentences.proofs.Readings.{prime_allowed, tests_head, tests_prime, tests_degree, tests_layout, tests_coefficient, tests_lead, coefficient_at, length_D}
 use Rattle.spec_sentences.proofs.Squares.{tests_square}
 use Rattle.spec_sentences.specs.FirstRefusal.{T1}
@@ -49,7 +49,7 @@ module _ (w : List ℕ) where
 
   answer : Answers P 8 (refusal_of w)
   unfolding refusal_of
-  answer = first_of_lem P numbered 8 (unfold tests_of in refl) (omega arith) (λ j low high. absurd (omega arith))
+  answer = first_of_answers P numbered 8 (unfold tests_of in refl) (omega arith) (λ j low high. absurd (omega arith))
 
 pub t1 : T1
 t1 w = record { refused = λ k low high. answer_first (P w) (answer w) k low (omega arith); accepted = (λ e j low high. (answer_none (P w) (answer w)).0 e j low (omega arith), λ none. (answer_none (P w) (answer w)).1 (λ j low high. none j low (omega arith))) }

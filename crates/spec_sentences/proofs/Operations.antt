@@ -93,9 +93,9 @@ module _ (f : FieldName) (p : 0 < f.q) where
       go zero e = let k = size_is M a in omega (arith, short)
       go (suc m) e = ⊎_elim (λ l. let k = size_is M a in omega (arith, short)) (λ l. absurd (s.top m e ((size_of a).past m (omega arith)))) (le_or_lt (suc m) (size (ops f) a))
 
-  degree_of_lem : (l : List ℕ) (k : ℕ) → size (ops f) l ≡ suc k → deg (ops f) l ≡ k
+  degree_from_size : (l : List ℕ) (k : ℕ) → size (ops f) l ≡ suc k → deg (ops f) l ≡ k
   unfolding deg
-  degree_of_lem l k e = omega arith
+  degree_from_size l k e = omega arith
 
   leading_of : (l : List ℕ) → lead (ops f) l ≡ get_or l (size (ops f) l - 1) 0
   unfolding lead
@@ -140,7 +140,7 @@ by_coefficients f p = record {
   derived = derived_at f p;
   sized = size_of f p;
   size_only = only_size f p;
-  degree = degree_of_lem f p;
+  degree = degree_from_size f p;
   leading = leading_of f p;
   made_monic = λ r l some. made f (named_field f r) l some;
   sum_trimmed = λ l h. trimmed_of f p _ (trim_add M' l h) (oks_add M' l h);

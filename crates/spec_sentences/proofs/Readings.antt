@@ -50,9 +50,9 @@ module _ (w : List ℕ) where
   tests_degree = tests_degree_of (n w)
 
   -- ---- the words after the first two
-  kind_at_lem : (i : ℕ) → get_or (map kind (drop 2 w)) i 0 ≡ kind_at w (i + 2)
+  kind_at_drop : (i : ℕ) → get_or (map kind (drop 2 w)) i 0 ≡ kind_at w (i + 2)
   unfolding kind
-  kind_at_lem i = get_or-map kind (drop 2 w) i 0 ∙ ap kind (get_or-drop 2 w i 0) ∙ ap (λ j. kind_at w j) (omega arith)
+  kind_at_drop i = get_or-map kind (drop 2 w) i 0 ∙ ap kind (get_or-drop 2 w i 0) ∙ ap (λ j. kind_at w j) (omega arith)
 
   -- the coefficients of D are the words' values
   pub coefficient_at : (i : ℕ) → i ≤ n w → get_or (D w) i 0 ≡ coefficient w i
@@ -75,7 +75,7 @@ module _ (w : List ℕ) where
   agree i j k e l = (λ h. at ∙ h ∙ sym l, λ h. sym at ∙ h ∙ l)
     where
       at : get_or (map kind (drop 2 w)) i 0 ≡ kind_at w j
-      at = kind_at_lem w i ∙ ap (λ m. kind_at w m) e
+      at = kind_at_drop w i ∙ ap (λ m. kind_at w m) e
 
   budget_at : (i : ℕ) → n w + 1 ≡ i → (kind_at w (n w + 3) ≡ 4) ↔ (get_or (map kind (drop 2 w)) i 0 ≡ get_or (later_kinds (n w)) i 0)
   budget_at i e = agree i (n w + 3) 4 (omega arith) (later_budget (n w) i (omega arith))

@@ -93,10 +93,10 @@ module _ (P : ℕ → Type 0) where
   abbrev Answers : ℕ → ℕ → Type 0
   Answers = defs.Answers P
 
-  pub first_of_lem : {l : List (ℕ × Bool)} {k : ℕ} → Numbered k l → (m : ℕ) → length l + k ≡ m → 1 ≤ k → NoneBelow k → Answers m (first_of l)
+  pub first_of_answers : {l : List (ℕ × Bool)} {k : ℕ} → Numbered k l → (m : ℕ) → length l + k ≡ m → 1 ≤ k → NoneBelow k → Answers m (first_of l)
   unfolding first_of
-  first_of_lem end m e low none = inl (refl, subst NoneBelow (omega arith) none)
-  first_of_lem (◌then◌ {k = k} {b = b} {l = l} t s) m e low none = go b (t none) (first_of_lem s m (omega arith) (omega arith))
+  first_of_answers end m e low none = inl (refl, subst NoneBelow (omega arith) none)
+  first_of_answers (◌then◌ {k = k} {b = b} {l = l} t s) m e low none = go b (t none) (first_of_answers s m (omega arith) (omega arith))
     where
       go : (b : Bool) → Tests b (P k) → (NoneBelow (suc k) → Answers m (first_of l)) → Answers m (elim b [ true ↦ k | false ↦ first_of l ])
       go true u rest = inr (low, omega arith, (u.0 refl, none))

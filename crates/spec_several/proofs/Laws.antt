@@ -4,16 +4,15 @@
 use Rattle.std.specs.Prelude.{ℕ, zero, suc, ◌+◌, ◌-◌, ◌≤◌, ◌<◌, ◌≡◌, refl, true, false, List, [], ◌∷◌, ◌++◌, map, length, get_or, take, drop, replicate}
 use Rattle.std.proofs.Common.{arith, ◌∙◌, length-append, length-drop, get_or-take}
 use Rattle.std.proofs.Math.Path.{ap}
-use Rattle.std.proofs.lemmas.List.{length-replicate, length-map}
+use Rattle.std.proofs.lemmas.List.{length-replicate, length-map, get_or-map as get_or-map_within}
 use Rattle.std.proofs.Math.ListN.{length-take, get_or-map}
 use Rattle.std.proofs.Math.Seq.{get_or-drop}
 use Rattle.spec_arithmetic.specs.Field.{prime}
 use Rattle.spec_arithmetic.specs.Words.{values, value}
 use Rattle.spec_definitions.specs.Ticket.{Ticket, ticket_of, wrong_prime, wrong_degree, first_of, refusal_of}
 use Rattle.spec_definitions.specs.Answers.{Outcome, refused, words_outcome}
-use Rattle.spec_lists.specs.Mapped.{get_d_map_within}
 use Rattle.spec_laws.specs.FirstTest.{radicand_tests, first_none}
-use Rattle.spec_laws.specs.Admitted.{degree_of_lem}
+use Rattle.spec_laws.specs.Admitted.{allowed_degree}
 use Rattle.spec_several.specs.Several.{most_primes, degree_of, prime_count, primes_of, wrong_shape, several_refusal, job_at, job_words, several_of, sixteen_places}
 pub use Rattle.spec_several.proofs.KindWords.{kinds_length, kinds_first, kinds_coefficient, kinds_budget, kinds_prime, kinds_end}
 use Rattle.spec_several.specs.Shape.{RightShape}
@@ -64,7 +63,7 @@ module _ (w : List ℕ) (none : several_refusal w ≡ 0) where
   degree_right = (first_none 2 _ _ (first_none 13 _ _ none).1).0
 
   pub degree_most : degree_of w ≤ 64
-  degree_most = let e = degree_of_lem (degree_of w) degree_right in omega (arith, e.0, e.1)
+  degree_most = let e = allowed_degree (degree_of w) degree_right in omega (arith, e.0, e.1)
 
   -- with as many primes as the words leave room for
   right : RightShape w (prime_count w)
@@ -73,8 +72,8 @@ module _ (w : List ℕ) (none : several_refusal w ≡ 0) where
   pub some_primes : 1 ≤ prime_count w
   some_primes = right.some
 
-  pub most_primes_lem : prime_count w ≤ most_primes
-  most_primes_lem = right.most
+  pub primes_most : prime_count w ≤ most_primes
+  primes_most = right.most
 
   pub length_words : length w ≡ degree_of w + 4 + prime_count w
   unfolding degree_of
@@ -95,11 +94,11 @@ module _ (w : List ℕ) (none : several_refusal w ≡ 0) where
   count_outcomes = ap length (several_primes w none) ∙ length-map (primes_of w) (λ q. words_outcome (job_words w q)) ∙ primes_length
 
   -- x is what is read past the end of the list
-  pub outcome_at_lem : (i : ℕ) → i < prime_count w → (x : Outcome) →
+  pub several_outcome : (i : ℕ) → i < prime_count w → (x : Outcome) →
       get_or (several_of w) i x ≡ words_outcome (job_words w (value (get_or w (degree_of w + 3 + i) 0)))
-  outcome_at_lem i h x =
+  several_outcome i h x =
       ap (λ (l : List Outcome). get_or l i x) (several_primes w none)
-      ∙ get_d_map_within (λ q. words_outcome (job_words w q)) (primes_of w) i 0 x (omega (arith, primes_length))
+      ∙ get_or-map_within (λ q. words_outcome (job_words w q)) (primes_of w) i 0 x (omega (arith, primes_length))
       ∙ ap (λ (q : ℕ). words_outcome (job_words w q)) (prime_is i h)
 
   -- ---- the single job at q
@@ -107,8 +106,8 @@ module _ (w : List ℕ) (none : several_refusal w ≡ 0) where
     job : SingleJob w q (job_words w q)
     job = single_job w right q fits
 
-    pub job_words_lem : ticket_of (job_words w q) ≡ job_at w q
-    job_words_lem = job_said w right q fits
+    pub ticket_of_job_words : ticket_of (job_words w q) ≡ job_at w q
+    ticket_of_job_words = job_said w right q fits
 
     pub D_length : length (job_at w q).D ≡ degree_of w + 1
     unfolding degree_of
@@ -122,4 +121,4 @@ module _ (w : List ℕ) (none : several_refusal w ≡ 0) where
     unfolding degree_of job_at
     job_refusal e =
         single_refusal w q (job_words w q) job degree_right e
-        ∙ ap (λ (t : Ticket). first_of (radicand_tests t.field t.n t.D)) job_words_lem
+        ∙ ap (λ (t : Ticket). first_of (radicand_tests t.field t.n t.D)) ticket_of_job_words

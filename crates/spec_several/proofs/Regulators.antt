@@ -32,7 +32,7 @@ use Rattle.spec_several.specs.Shape.{RightShape}
 use Rattle.spec_several.proofs.Shape.{shape, right_shape, count_primes, shape_passes}
 use Rattle.spec_several.specs.Single.{SingleJob}
 use Rattle.spec_several.proofs.Single.{single_job, one_single, no_head, no_layout, no_coefficient}
-use Rattle.spec_several.proofs.Laws.{several_refused, length_sixteen, at_sixteen, count_outcomes, outcome_at_lem}
+use Rattle.spec_several.proofs.Laws.{several_refused, length_sixteen, at_sixteen, count_outcomes, several_outcome}
 use Rattle.spec_several.specs.Regulators.{Admits, prime_at, outcome_in, AtEach, JobExists, PrimeRefused, Fourteen, Three, SeveralRefused, T1Several, Ends, T2Several, T3Several, SeveralNumbered, SeveralOnly, Places}
 
 -- ---- the proof
@@ -192,7 +192,7 @@ module _ (w : List ℕ) {k : ℕ} (a : Admits w k) where
 
     outcome_of_job : outcome_in (several_of w) i ≡ words_outcome (job_words w q)
     unfolding degree_of
-    outcome_of_job = outcome_at_lem w none i (omega (arith, count)) (refused 0)
+    outcome_of_job = several_outcome w none i (omega (arith, count)) (refused 0)
 
     -- it is that of every single job: there is one, or q is 0 and all are refused by 2
     outcome_of_single : (v : List ℕ) → SingleJob w q v → outcome_in (several_of w) i ≡ words_outcome v

@@ -4,14 +4,13 @@ use Rattle.std.proofs.Common.{eq-or-lt_of_le, arith, sym, ◌∙◌, ⊎_elim, t
 use Rattle.std.specs.Prelude.{◌≡◌, refl, Bool, true, ◌||◌, List, map, eqb, get_or}
 use Rattle.std.proofs.Math.Path.{ap}
 use Rattle.std.proofs.Math.Bool.{false, not}
-use Rattle.std.proofs.lemmas.Bool.{false≢true}
+use Rattle.std.proofs.lemmas.Bool.{false≢true, or_parts}
 use Rattle.std.proofs.Math.Dec.{ltb}
 use Rattle.std.proofs.Math.ListN.{length}
 use borrow.Author.Tests.{ltb-false, le-ltb, eqb-true, eq-eqb, not-false}
 use Rattle.math_ring.specs.Order.{le_or_lt}
 use Rattle.spec_arithmetic.specs.Words.{kind, same}
 use Rattle.spec_lists.specs.Kinds.{kinds_same, kinds_right}
-use Rattle.spec_laws.specs.FirstTest.{neither}
 use Rattle.spec_sentences.specs.Sentences.{kind_at, value_at}
 use Rattle.spec_sentences.specs.Tests.{Tests}
 use Rattle.spec_several.specs.Several.{most_primes, several_kinds, degree_of, prime_count, wrong_shape}
@@ -51,16 +50,16 @@ module _ (w : List ℕ) where
       wrong_kinds = not (same (map kind w) (several_kinds n k))
 
       parts : ((wrong_count || wrong_kinds) ≡ false) × (not (eqb (value_at w (length w - 1)) (length w - 1)) ≡ false)
-      parts = neither _ _ e
+      parts = or_parts _ _ e
 
       front : (wrong_count ≡ false) × (wrong_kinds ≡ false)
-      front = neither _ _ parts.0
+      front = or_parts _ _ parts.0
 
       low : n + 5 ≤ length w
-      low = ltb-false _ _ (neither _ _ front.0).0
+      low = ltb-false _ _ (or_parts _ _ front.0).0
 
       high : length w ≤ n + 4 + most_primes
-      high = ltb-false _ _ (neither (ltb (length w) (n + 5)) _ front.0).1
+      high = ltb-false _ _ (or_parts (ltb (length w) (n + 5)) _ front.0).1
 
       at : (i c : ℕ) → get_or (several_kinds n k) i 0 ≡ c → kind_at w i ≡ c
       at i c f = kinds_same w (several_kinds n k) (not-false _ front.1) i ∙ f
@@ -77,8 +76,8 @@ module _ (w : List ℕ) where
   count_primes r = omega (arith, r.words)
 
   -- the kinds of words of the shape
-  right_kinds_lem : {k : ℕ} → RightShape w k → same (map kind w) (several_kinds n k) ≡ true
-  right_kinds_lem {k} r = kinds_right w (several_kinds n k) (r.words ∙ sym (kinds_length n k)) (λ i h. place i (omega (arith, r.words)))
+  right_shape_kinds : {k : ℕ} → RightShape w k → same (map kind w) (several_kinds n k) ≡ true
+  right_shape_kinds {k} r = kinds_right w (several_kinds n k) (r.words ∙ sym (kinds_length n k)) (λ i h. place i (omega (arith, r.words)))
     where
       after_budget : (i : ℕ) → n + 2 < i → i < n + 4 + k → kind_at w i ≡ get_or (several_kinds n k) i 0
       after_budget i low high = ⊎_elim
@@ -112,7 +111,7 @@ module _ (w : List ℕ) where
       high = le-ltb (n + 4 + most_primes) (length w) (omega (arith, r.words, r.most))
 
       kinds : same (map kind w) (several_kinds n (prime_count w)) ≡ true
-      kinds = ap (λ (j : ℕ). same (map kind w) (several_kinds n j)) (count_primes r) ∙ right_kinds_lem r
+      kinds = ap (λ (j : ℕ). same (map kind w) (several_kinds n j)) (count_primes r) ∙ right_shape_kinds r
 
       count : value_at w (length w - 1) ≡ length w - 1
       count = let e : length w - 1 ≡ n + 3 + k = omega (arith, r.words) in ap (value_at w) e ∙ r.end_count ∙ sym e

@@ -8,7 +8,7 @@ use Rattle.spec_arithmetic.specs.Words.{values, kind, value, word}
 use Rattle.spec_lists.specs.Words.{kind_word, value_word, word_unique, value_less}
 use Rattle.spec_definitions.specs.Ticket.{ticket_of, wrong_head, wrong_prime, wrong_degree, first_of, tests_of, refusal_of}
 use Rattle.spec_laws.specs.FirstTest.{radicand_tests, first_applies, first_passes}
-use Rattle.spec_laws.specs.Admitted.{degree_of_lem}
+use Rattle.spec_laws.specs.Admitted.{allowed_degree}
 use Rattle.spec_sentences.specs.Sentences.{kind_at, value_at, coefficient, D, WrongHead, WrongKind, WrongLayout, WrongCoefficient}
 use Rattle.spec_sentences.proofs.Tests.{tests_none}
 use Rattle.spec_sentences.proofs.Readings.{tests_head, tests_layout, coefficient_at, length_D}
@@ -16,7 +16,7 @@ use Rattle.spec_several.specs.Several.{degree_of, budget_of, job_at, job_words}
 use Rattle.spec_several.specs.Residues.{IsResidue}
 use Rattle.spec_several.proofs.Residues.{residues, one_residue}
 use Rattle.spec_several.specs.Shape.{RightShape}
-use Rattle.spec_several.proofs.Jobs.{length_ticket, word_prime, word_degree, word_coefficient, word_budget, word_end, job_length, job_at_lem, job_fits}
+use Rattle.spec_several.proofs.Jobs.{length_ticket, word_prime, word_degree, word_coefficient, word_budget, word_end, job_length, job_coefficient, job_fits}
 use Rattle.spec_several.specs.Single.{SingleJob}
 
 -- ---- the proof
@@ -49,7 +49,7 @@ module _ (w : List ℕ) {k : ℕ} (shape : RightShape w k) (q : ℕ) (fits : q <
     degree_word = said_word _ 2 n (word_degree (job_at w q) size) (value_less _);
     coefficients = λ j h. (coefficient_word j h).0;
     reduced = λ p j h.
-        let e = (coefficient_word j h).1 ∙ job_at_lem w shape q j h in
+        let e = (coefficient_word j h).1 ∙ job_coefficient w shape q j h in
         subst (IsResidue q (value_at w (j + 1))) (sym e) (residues q (value_at w (j + 1)) p);
     budget_word = said_word _ 4 (value_at w (n + 2)) (word_budget (job_at w q) size) (value_less _);
     end_word = said_word _ 15 (n + 4) (word_end (job_at w q) size) end_fits;
@@ -113,7 +113,7 @@ module _ (w : List ℕ) (q : ℕ) (v : List ℕ) (s : SingleJob w q v) where
 
   module _ (degree : wrong_degree (value_at w 0) ≡ false) where
     low_degree : 2 ≤ value_at w 0
-    low_degree = let e = degree_of_lem (value_at w 0) degree in omega (arith, e.0)
+    low_degree = let e = allowed_degree (value_at w 0) degree in omega (arith, e.0)
 
     head_passes : wrong_head (1 ∷ []) v ≡ false
     head_passes = tests_none (tests_head v) (no_head low_degree)

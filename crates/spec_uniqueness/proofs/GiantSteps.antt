@@ -128,7 +128,7 @@ module _ (t : Ticket) (h : Admitted t.field (genus t.n) t.D) {x : Ideal ℕ} {d 
   answer_only = answers_same r a (u.number ∙ sym v.number) Q_answer P_answer f_answer (u.distance ∙ ap (λ (f : ℤ). posℤ (d + e) +ℤ f) f_answer ∙ sym v.distance)
 
 pub one_giant_step : OneGiantStep
-one_giant_step w z x y px py d e far r u = answer_only (ticket_of w) (admitted w z) u (t2_giant_steps w z x y px py d e far) (one_root w z u.root u.root_of_lem)
+one_giant_step w z x y px py d e far r u = answer_only (ticket_of w) (admitted w z) u (t2_giant_steps w z x y px py d e far) (one_root w z u.root u.is_root)
 
 -- ---- what `demands` states of an answer
 stepped : (t : Ticket) → Admitted t.field (genus t.n) t.D → AllowedField t.field → RootOf t.field (genus t.n) t.D (root_of t) → {x : Ideal ℕ} {d : ℕ} {y : Ideal ℕ} {e : ℕ} {S : List ℕ} {s : Ideal ℕ} {r : GiantStepAnswer}
@@ -138,7 +138,7 @@ stepped t h prime root_is {s = s} {r = r} v = record {
   number = v.number;
   k = v.k;
   root = root_of t;
-  root_of_lem = root_is;
+  is_root = root_is;
   Q = λ j. (by j).q;
   P = λ j. (by j).p;
   a = λ j. partial (ops_of t) t.D (root_of t) (by j);

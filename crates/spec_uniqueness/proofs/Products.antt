@@ -23,7 +23,7 @@ use Rattle.spec_sentences.proofs.Arithmetic.{series_same, same_series}
 use Rattle.spec_sentences.specs.Operations.{Operations}
 use Rattle.spec_sentences.proofs.Operations.{by_coefficients, trimmed_same}
 use Rattle.spec_refusals.specs.Pairs.{GivenPair}
-use Rattle.spec_refusals.proofs.Pairs.{pairs_passed, product_by_lem}
+use Rattle.spec_refusals.proofs.Pairs.{pairs_passed, product_answer_by}
 use Rattle.spec_demands.specs.Products.{Combines, paper_p, IsProduct}
 use Rattle.spec_demands.proofs.Products.{t2_products}
 use Rattle.spec_uniqueness.proofs.Division.{prime_of_ticket, lead_monic, monic_same}
@@ -86,7 +86,7 @@ module _ {f : FieldName} {g : ℕ} {D : List ℕ} (h : Admitted f g D) {x y : Id
 -- ---- the answer's polynomials
 answer_trimmed : (w : List ℕ) → refusal_of w ≡ 0 → (x y : Ideal ℕ) → GivenPair (ticket_of w) x → GivenPair (ticket_of w) y → TrimmedProduct (ticket_of w).field (product_answer w x y)
 unfolding product_done
-answer_trimmed w e x y px py = subst (TrimmedProduct (ticket_of w).field) (sym (product_by_lem w x y 0 false e (pairs_passed (ticket_of w) h x y px py))) (subst (λ (r : Product ℕ). TrimmedProduct (ticket_of w).field (record { number = 0; s = r.s; q = r.ideal.q; p = r.ideal.p })) (sym (product_is A.K A.M A.I (ticket_of w).D x y)) (record { S_trimmed = o.gcd_trimmed (prime_of_ticket w e) _ _; Q_trimmed = o.quo_trimmed _ _; P_trimmed = o.rem_trimmed _ _ }))
+answer_trimmed w e x y px py = subst (TrimmedProduct (ticket_of w).field) (sym (product_answer_by w x y 0 false e (pairs_passed (ticket_of w) h x y px py))) (subst (λ (r : Product ℕ). TrimmedProduct (ticket_of w).field (record { number = 0; s = r.s; q = r.ideal.q; p = r.ideal.p })) (sym (product_is A.K A.M A.I (ticket_of w).D x y)) (record { S_trimmed = o.gcd_trimmed (prime_of_ticket w e) _ _; Q_trimmed = o.quo_trimmed _ _; P_trimmed = o.rem_trimmed _ _ }))
   where
     h : Admitted (ticket_of w).field (genus (ticket_of w).n) (ticket_of w).D
     h = admitted w e

@@ -26,7 +26,7 @@ use Rattle.spec_bridge.specs.Trim.{below_size, size_is, size_series, lead_is}
 use Rattle.spec_bridge.specs.Arithmetic.{series_sub, series_scale}
 use Rattle.spec_bridge.specs.Degree.{series_monic_of}
 use Rattle.spec_fields.specs.Named.{Ok, arithmetic, same_reading, reading_ok, reading_zero, φ_first}
-use Rattle.spec_laws.specs.Admitted.{Admitted, is_field, admitted, passed, degree_of_lem}
+use Rattle.spec_laws.specs.Admitted.{Admitted, is_field, admitted, passed, allowed_degree}
 use Rattle.spec_sentences.specs.Sentences.{Same}
 use Rattle.spec_sentences.specs.Arithmetic.{Divides}
 use Rattle.spec_sentences.proofs.Arithmetic.{same_series, divides_series}
@@ -189,13 +189,13 @@ record_long t even R j l r = ⊎_elim (λ past. absurd (none past)) (λ low. ome
 length_at : (n j : ℕ) (l : List ℕ) → j * (n + 4) + (n + 4) ≤ length l → length (take (n + 4) (drop (j * (n + 4)) l)) ≡ n + 4
 length_at n j l h = length-take-le (n + 4) (drop (j * (n + 4)) l) (let e = length-drop (j * (n + 4)) l in omega arith)
 
-word_at_lem : (n j : ℕ) (l : List ℕ) (i : ℕ) → i < n + 4 → get_or (take (n + 4) (drop (j * (n + 4)) l)) i 0 ≡ word_at n j l i
-word_at_lem n j l i h = get_or-take (n + 4) (drop (j * (n + 4)) l) i 0 h ∙ get_or-drop (j * (n + 4)) l i 0
+word_in_record : (n j : ℕ) (l : List ℕ) (i : ℕ) → i < n + 4 → get_or (take (n + 4) (drop (j * (n + 4)) l)) i 0 ≡ word_at n j l i
+word_in_record n j l i h = get_or-take (n + 4) (drop (j * (n + 4)) l) i 0 h ∙ get_or-drop (j * (n + 4)) l i 0
 
 pub record_only : RecordOnly
 unfolding record_at
 record_only w z R m c f j k l x =
-    ext_get_or 0 _ _ (length_at n j l (record_long t even R j l x) ∙ sym (length_at n j b (record_long t even R j b y))) (λ i low. let s : i < n + 4 = omega (arith, length_at n j l (record_long t even R j l x)) in word_at_lem n j l i s ∙ words_same t (admitted w z) even R j l b x y i s ∙ sym (word_at_lem n j b i s))
+    ext_get_or 0 _ _ (length_at n j l (record_long t even R j l x) ∙ sym (length_at n j b (record_long t even R j b y))) (λ i low. let s : i < n + 4 = omega (arith, length_at n j l (record_long t even R j l x)) in word_in_record n j l i s ∙ words_same t (admitted w z) even R j l b x y i s ∙ sym (word_in_record n j b i s))
     ∙ stands
   where
     t : Ticket
@@ -205,7 +205,7 @@ record_only w z R m c f j k l x =
     n = (ticket_of w).n
 
     even : suc (genus n) + suc (genus n) ≡ n
-    even = (degree_of_lem n (passed w z).degree).0
+    even = (allowed_degree n (passed w z).degree).0
 
     b : List ℕ
     b = listing_of t R m
@@ -238,4 +238,4 @@ listing_only w old R m c e l reads keeps = ext_get_or 0 l exit (keeps.long ∙ s
     inside i low =
         let s : i / (n + 4) * (n + 4) + i % (n + 4) ≡ i = div-add-mod' i (n + 4) in
         let k : i / (n + 4) < m = (div-lt_iff_lt-mul {k = n + 4} {x = i} {y = m} (omega arith)).1 low in
-        subst (λ (p : ℕ). get_or l p 0 ≡ get_or exit p 0) s (words_same t (admitted w z) (degree_of_lem n (passed w z).degree).0 R (i / (n + 4)) l exit (reads (i / (n + 4)) k) (t2_records w old R m c e (i / (n + 4)) k) (i % (n + 4)) (mod-lt i (omega arith)))
+        subst (λ (p : ℕ). get_or l p 0 ≡ get_or exit p 0) s (words_same t (admitted w z) (allowed_degree n (passed w z).degree).0 R (i / (n + 4)) l exit (reads (i / (n + 4)) k) (t2_records w old R m c e (i / (n + 4)) k) (i % (n + 4)) (mod-lt i (omega arith)))

@@ -120,13 +120,13 @@ module _ {f : FieldName} {g : ℕ} {D : List ℕ} (h : Admitted f g D) where
 
     p_only : (i : ℕ) → i ≤ n → series M (p i) ≡ series M (walk.p_before (ops f) D d₀ i)
     unfolding walk.p_before
-    p_only zero l = up (p 0) (1 ∷ []) c.p_before_lem ∙ one_same
+    p_only zero l = up (p 0) (1 ∷ []) c.p_before_first ∙ one_same
     p_only (suc zero) l = up (p 1) d c.p_first ∙ d_same
     p_only (suc (suc i)) l = up (p (suc (suc i))) (add (ops f) (mul (ops f) (a (suc i)) (p (suc i))) (p i)) (c.p_next i l) ∙ next_same (p (suc i)) (walk.p_before (ops f) D d₀ (suc i)) (p i) (walk.p_before (ops f) D d₀ i) i l (p_only (suc i) (omega arith)) (p_only i (omega arith))
 
     s_only : (i : ℕ) → i ≤ n → series M (s i) ≡ series M (walk.s_before (ops f) D d₀ i)
     unfolding walk.s_before
-    s_only zero l = up (s 0) [] c.s_before_lem
+    s_only zero l = up (s 0) [] c.s_before_first
     s_only (suc zero) l = up (s 1) (1 ∷ []) c.s_first ∙ one_same
     s_only (suc (suc i)) l = up (s (suc (suc i))) (add (ops f) (mul (ops f) (a (suc i)) (s (suc i))) (s i)) (c.s_next i l) ∙ next_same (s (suc i)) (walk.s_before (ops f) D d₀ (suc i)) (s i) (walk.s_before (ops f) D d₀ i) i l (s_only (suc i) (omega arith)) (s_only i (omega arith))
 
@@ -158,16 +158,16 @@ module _ {f : FieldName} {g : ℕ} {D : List ℕ} (h : Admitted f g D) where
 
 pub one_walk : OneWalk
 unfolding root_of
-one_walk w e d n Q P a p s k = walk_only (admitted w e) d n Q P a p s k (up (admitted w e) d (root_of (ticket_of w)) (one_root w e d k.root_of_lem))
+one_walk w e d n Q P a p s k = walk_only (admitted w e) d n Q P a p s k (up (admitted w e) d (root_of (ticket_of w)) (one_root w e d k.is_root))
 
 pub walk_is : WalkIs
 unfolding walk.walk steps next next_p walk.p_before walk.s_before
 walk_is w e n = record {
-  root_of_lem = c.root;
+  is_root = c.root;
   Q_first = one_list f named;
   P_first = λ i. refl;
   stepping = record { quotient = λ i l. c.quotient i; P_next = λ i l j. refl; Q_next = λ i l j. ap (λ (a : List ℕ). reading f (get_or a j 0)) (c.product i) };
-  converging = record { p_before_lem = one_list f named; p_first = λ i. refl; p_next = λ i l j. refl; s_before_lem = λ i. refl; s_first = one_list f named; s_next = λ i l j. refl };
+  converging = record { p_before_first = one_list f named; p_first = λ i. refl; p_next = λ i l j. refl; s_before_first = λ i. refl; s_first = one_list f named; s_next = λ i l j. refl };
 }
   where
     f : FieldName

@@ -24,7 +24,7 @@ pub record GiantStepOf (t : Ticket) (d e : ℕ) (S : List ℕ) (s : Ideal ℕ) (
   -- k + 1 steps from s, the last for a_k
   pub k : ℕ
   pub root : List ℕ
-  pub root_of_lem : RootOf t.field (genus t.n) t.D root
+  pub is_root : RootOf t.field (genus t.n) t.D root
   pub Q : ℕ → List ℕ
   pub P : ℕ → List ℕ
   pub a : ℕ → List ℕ

@@ -27,16 +27,16 @@ module _ (f : FieldName) (D d : List ℕ) where
   -- "p_{−1} = 1, s_{−1} = 0, p_0 = d, s_0 = 1, then p_i = a_i·p_{i−1} + p_{i−2}, and s_i likewise": `p i` is
   -- p_{i−1} and `s i` is s_{i−1}
   pub record Converging (n : ℕ) (a p s : ℕ → List ℕ) : Type 0 where
-    pub p_before_lem : Same f (p 0) (1 ∷ [])
+    pub p_before_first : Same f (p 0) (1 ∷ [])
     pub p_first : Same f (p 1) d
     pub p_next : (i : ℕ) → suc i < n → Same f (p (suc (suc i))) (a (suc i) ⊗ p (suc i) ⊕ p i)
-    pub s_before_lem : Same f (s 0) []
+    pub s_before_first : Same f (s 0) []
     pub s_first : Same f (s 1) (1 ∷ [])
     pub s_next : (i : ℕ) → suc i < n → Same f (s (suc (suc i))) (a (suc i) ⊗ s (suc i) ⊕ s i)
 
   -- "d is the monic polynomial of degree g+1 with deg(D − d²) at most g. Start: P_0 = 0, Q_0 = 1."
   pub record IsWalk (g n : ℕ) (Q P a p s : ℕ → List ℕ) : Type 0 where
-    pub root_of_lem : RootOf f g D d
+    pub is_root : RootOf f g D d
     pub Q_first : Same f (Q 0) (1 ∷ [])
     pub P_first : Same f (P 0) []
     pub stepping : Stepping n Q P a

@@ -3,7 +3,7 @@
 // differs and a last line with the counts.
 #![tactic(auto)]
 
-ghost use Rattle.std.specs.Prelude.{◌≡◌, ◌≤◌, length, IfOk, OnOk};
+ghost use Rattle.std.specs.Prelude.{◌≡◌, ◌≤◌, ◌<◌, ◌+◌, ◌^◌, if◌then◌else◌, length, IfOk, OnOk};
 
 use std::io::Read;
 use std::{fmt, io};
@@ -139,6 +139,14 @@ impl<'a, P: Print> Job<'a, P> {
     }
 }
 
+// How many jobs differ with one more, which agrees or not.
+fn differing(before: u32, agrees: bool) -> u32
+    requires { before + 1 < 2 ^ 32 }
+    ensures { result ≡ (if agrees then before else before + 1) }
+{
+    if agrees { before } else { before + 1 }
+}
+
 // Runs the jobs of the input and prints their number and how many of them differ. The input is the number of jobs,
 // then of each job its ticket and what `run` reads, which says whether the job agrees with what is stored.
 pub fn run_jobs<P, R, F>(rt: &P, input: &mut R, mut run: F) -> io::Result<()>
@@ -158,9 +166,8 @@ where
             number: i + 1,
             ticket,
         };
-        if !run(&job, input)? {
-            differ += 1;
-        }
+        let agrees = run(&job, input)?;
+        differ = differing(differ, agrees);
     }
     println!(rt; "{jobs} jobs, {differ} differ")
 }

@@ -5,9 +5,11 @@
 #![tactic(auto)]
 
 use base_counters::Distance;
+use base_ideal::Ideal;
 use base_polynomial::Poly;
-use engine::giant_step::giant_step;
-use engine::product::product;
+use engine::Pair;
+use engine::giant_step::{GiantStep, Shift, giant_step};
+use engine::product::{IdealProduct, product};
 use std::io;
 use std::io::Read;
 use test_jobs::{Job, Numbers, read_list, read_wide, read_word, run_jobs};
@@ -15,11 +17,10 @@ use test_jobs::{Job, Numbers, read_list, read_wide, read_word, run_jobs};
 // The largest distance of an answer: 2⁴¹.
 const MOST: u64 = 2199023255552;
 
-// An ideal of a job: the words of Q and P, and its distance.
+// An ideal of a job with its distance.
 #[derive(Clone, Copy)]
 struct Operand<'a> {
-    q: &'a [u32],
-    p: &'a [u32],
+    pair: Pair<'a>,
     distance: Distance,
 }
 
@@ -32,7 +33,10 @@ fn read_operand<'a, R: Read>(
     let q = read_list(input, q)?;
     let p = read_list(input, p)?;
     let distance = Distance(read_wide(input)?);
-    Ok(Operand { q, p, distance })
+    Ok(Operand {
+        pair: Pair { q, p },
+        distance,
+    })
 }
 
 // Whether the polynomial that comes next in the input is this one, with zeros above its degree.
@@ -67,13 +71,13 @@ fn multiplies<P: Print, R: Read>(
     x: Operand<'_>,
     y: Operand<'_>,
 ) -> io::Result<bool> {
-    let answer = product(job.ticket, x.q, x.p, y.q, y.p);
-    let (number, polynomials) = match answer.result {
-        Ok(product) => (0, [product.s, product.ideal.q, product.ideal.p]),
-        Err(refusal) => (u32::from(refusal), [Poly::zero(); 3]),
+    let zero = IdealProduct {
+        s: Poly::zero(),
+        ideal: Ideal::zeros(),
     };
+    let (number, t) = product(job.ticket, x.pair, y.pair).numbered(zero);
     let stored = read_word(input)?;
-    let agree = next_are(input, &polynomials)?;
+    let agree = next_are(input, &[t.s, t.ideal.q, t.ideal.p])?;
     job.report(Numbers::refused(number), number == stored && agree)
 }
 
@@ -84,16 +88,17 @@ fn steps<P: Print, R: Read>(
     x: Operand<'_>,
     y: Operand<'_>,
 ) -> io::Result<bool> {
-    let answer = giant_step(job.ticket, x.q, x.p, x.distance, y.q, y.p, y.distance);
-    let (number, ideal, f, distance) = match answer.result {
-        Ok(step) => (0, [step.ideal.q, step.ideal.p], step.f, step.distance),
-        Err(refusal) => (u32::from(refusal), [Poly::zero(); 2], 0, 0),
+    let zero = GiantStep {
+        ideal: Ideal::zeros(),
+        shift: Shift { f: 0, distance: 0 },
     };
+    let answer = giant_step(job.ticket, x.pair, x.distance, y.pair, y.distance);
+    let (number, t) = answer.numbered(zero);
     let stored = read_word(input)?;
-    let agree = next_are(input, &ideal)?;
+    let agree = next_are(input, &[t.ideal.q, t.ideal.p])?;
     let f_stored = -i64::from(read_word(input)?);
     let distance_stored = read_signed(input)?;
-    let numbers = (number, f, distance) == (stored, f_stored, distance_stored);
+    let numbers = (number, t.shift.f, t.shift.distance) == (stored, f_stored, distance_stored);
     job.report(Numbers::refused(number), numbers && agree)
 }
 

@@ -10,7 +10,7 @@ use ticket_read::{Ticket, read_ticket};
 
 fn show_ticket(rt: &impl Print, t: &Ticket) -> io::Result<()> {
     let s = &t.surd;
-    print!(rt; "0 {} {} {} ", s.field.q, s.n, t.budget)?;
+    print!(rt; "0 {} {} {} ", s.field.q, s.n, t.budget.steps)?;
     for coefficient in &s.radicand.c[..s.radicand.size] {
         print!(rt; "{coefficient} ")?;
     }

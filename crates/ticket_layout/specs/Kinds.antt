@@ -3,8 +3,12 @@ use Rattle.std.specs.Prelude.{ℕ, ◌<◌, ◌≡◌, refl, Bool, true, false, 
 use Rattle.std.proofs.Common.{sym, ap, ◌∙◌}
 use Rattle.spec_arithmetic.specs.Words.{kind, same}
 use Rattle.spec_lists.specs.Kinds.{kinds_right, kinds_wrong}
+use Rattle.spec_laws.specs.Layout.{later_coefficient, later_budget, later_end}
 use Rattle.base_words.specs.declared.WordKind.{WordKind}
 use Rattle.base_words.specs.WordKind.{number_of}
+
+-- the kinds of the words after the first two, part by part
+pub ruleset later_parts = (later_coefficient, later_budget, later_end)
 
 -- word i has a kind of its place
 abbrev pub HasKind : (ℕ → WordKind → Type 0) → List ℕ → ℕ → Type 0

@@ -6,6 +6,7 @@ use base_degrees::is_allowed_degree;
 use base_words::{WordKind, kind};
 
 // Fewer than 7 words, or word 0 isn't kind 1, or word 1 isn't kind 2.
+#[tactic(auto, using(crate::specs::Refusal::number_tests), unfolding(spec_definitions::specs::Ticket::wrong_head))]
 pub fn wrong_head(words: &[u32]) -> bool
     ensures { result ≡ wrong_head (1 ∷ []) words.now }
 {

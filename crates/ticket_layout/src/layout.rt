@@ -8,6 +8,7 @@ use crate::kinds::wrong_kinds;
 use base_words::{WordKind, value};
 
 // The kind of the word i places after the first two: n + 1 coefficients, the budget, the end.
+#[tactic(auto, using(crate::specs::Kinds::later_parts))]
 fn later_kind(n: usize, i: usize) -> WordKind
     requires { (n ≤ 64) × (i < n + 3) }
     ensures { number_of result ≡ get_or (later_kinds n) i 0 }
@@ -30,6 +31,7 @@ fn wrong_later(n: usize, words: &[u32]) -> bool
 }
 
 // Not n + 5 words in all, or a later word has the wrong kind, or the end word isn't n + 4.
+#[tactic(auto, using(crate::specs::Refusal::number_tests), unfolding(spec_definitions::specs::Ticket::wrong_layout))]
 pub fn wrong_layout(n: usize, words: &[u32]) -> bool
     requires { n ≤ 64 }
     ensures { result ≡ wrong_layout n words.now }

@@ -8,17 +8,22 @@ use mathlib.Core.List.{List, [], ◌∷◌, map}
 use Rattle.std.proofs.Math.ListN.{get_or, get_or-map, get_or-eq_default}
 use Rattle.std.proofs.lemmas.List.{length-map}
 use Rattle.std.proofs.Math.Seq.{get_or-drop}
+use Rattle.std.proofs.lemmas.Grind.{common_steps}
 use Rattle.spec_arithmetic.specs.Field.{Ops, FieldName, ops, fits}
 use Rattle.spec_arithmetic.specs.Polynomials.{at, keep, cons, trim}
 use Rattle.spec_arithmetic.specs.Words.{value, some_not}
 use Rattle.spec_definitions.specs.Ticket.{wrong_coefficient, wrong_lead}
 use Rattle.spec_fields.specs.Named.{IsField, Ok, ok_zero}
+use Rattle.spec_laws.specs.FirstTest.{first_applies, first_passes, first_nil}
 use Rattle.spec_laws.specs.Admitted.{below_of, lead_of}
 use Rattle.spec_laws.specs.Coefficients.{some_none, take_at}
 use Rattle.base_places.specs.Places.{FilledBy, places_of}
 use Rattle.base_polynomial.specs.declared.Poly.{Poly}
 use Rattle.base_polynomial.specs.Held.{is_of}
 use Rattle.base_polynomial.specs.Over.{poly, Held, Holds, Is, result, is_poly}
+
+-- what the first of the tests that applies is
+pub ruleset first_test = (common_steps, first_applies, first_passes, first_nil)
 
 -- the values of the n + 1 words after the first two
 abbrev pub coefficients : ℕ → List ℕ → List ℕ

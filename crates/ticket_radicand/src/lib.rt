@@ -69,6 +69,7 @@ fn not_squarefree(f: Field, radicand: &Poly) -> bool
 }
 
 // The first of the tests 5, 6 and 7 that applies.
+#[tactic(auto, using(crate::specs::Radicand::first_test), unfolding(spec_laws::specs::FirstTest::radicand_tests))]
 pub fn radicand_refusal(f: Field, n: usize, radicand: &Poly) -> Result<(), Refusal>
     requires n_bound { (n ≤ 64) × (radicand.now.size ≡ n + 1) }
     requires is { Is f radicand.now (poly radicand.now) }

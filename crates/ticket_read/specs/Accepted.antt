@@ -6,7 +6,7 @@ use Rattle.std.proofs.Math.Path.{sym, ap₂, subst}
 use Rattle.spec_arithmetic.specs.Field.{FieldName}
 pub use Rattle.spec_definitions.specs.Ticket.{budgets}
 use Rattle.spec_definitions.specs.Ticket.{Ticket, ticket, genus, ticket_of, refusal_of, first_of}
-use Rattle.spec_laws.specs.Admitted.{Admitted, is_field, admitted, passed, degree_of_lem, budget_less}
+use Rattle.spec_laws.specs.Admitted.{Admitted, is_field, admitted, passed, allowed_degree, budget_less}
 use Rattle.spec_laws.specs.FirstTest.{radicand_tests}
 use Rattle.base_polynomial.specs.declared.Poly.{Poly}
 use Rattle.base_polynomial.specs.Over.{poly, Held, Is, Holds, is_poly, result}
@@ -17,7 +17,7 @@ use Rattle.ticket_read.specs.Refusal.{PastLayout}
 
 pub record Accepted (w : List ℕ) (t : code.Ticket) : Type 0 where
   pub passes : refusal_of w ≡ 0
-  pub ticket_is : ticket_of w ≡ ticket_with t.surd t.budget
+  pub ticket_is : ticket_of w ≡ ticket_with t.surd t.budget.steps
 
 -- the same of the parts of a ticket
 pub record AreRead (w : List ℕ) (f : FieldName) (n : ℕ) (radicand : Poly) (b : ℕ) : Type 0 where
@@ -37,7 +37,7 @@ module _ {w : List ℕ} {f : FieldName} {n : ℕ} {radicand : Poly} {b : ℕ} (r
       (result r.itself (omega arith) (trim_lead_one f (is_field a) (poly radicand) _ s a.lead_one) a.below).held
 
   pub n_even : suc (genus n) + suc (genus n) ≡ n
-  n_even = subst (λ (t : Ticket). suc (genus t.n) + suc (genus t.n) ≡ t.n) r.ticket_is (degree_of_lem _ (passed w r.passes).degree).0
+  n_even = subst (λ (t : Ticket). suc (genus t.n) + suc (genus t.n) ≡ t.n) r.ticket_is (allowed_degree _ (passed w r.passes).degree).0
 
   pub degree_two : 2 ≤ n
   degree_two = let e = n_even in omega arith

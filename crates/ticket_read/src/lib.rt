@@ -1,15 +1,16 @@
 // The job ticket: any words are read as √D over a field and a budget, or refused by the first test that applies.
 #![tactic(auto)]
 
-ghost use Rattle.std.specs.Prelude.{◌≡◌, ◌+◌, ◌<◌, suc, IfOk, length, get_or};
+ghost use Rattle.std.specs.Prelude.{◌≡◌, ◌+◌, suc, IfOk, length, get_or};
 ghost use Rattle.spec_arithmetic.specs.Words.{value as value_of};
-ghost use Rattle.spec_definitions.specs.Ticket.{budgets, genus, ticket_of, refusal_of};
+ghost use Rattle.spec_definitions.specs.Ticket.{genus, ticket_of, refusal_of};
 ghost use Rattle.base_field.specs.Named.{name};
 ghost use Rattle.base_refusals.specs.Number.{refused_by};
 ghost use Rattle.base_surd.specs.Surd.{ticket_with};
 ghost use Rattle.ticket_radicand.specs.Radicand.{coefficients};
 ghost use Rattle.ticket_read.specs.Refusal.{PastLayout};
 
+use base_counters::Budget;
 use base_field::Field;
 use base_refusals::Refusal;
 use base_surd::Surd;
@@ -22,11 +23,9 @@ use ticket_radicand::{radicand_of, radicand_refusal};
 #[derive(Clone, Copy)]
 pub struct Ticket {
     pub surd: Surd,
-    pub budget: u64,
+    pub budget: Budget,
     // n is 2g + 2.
     pub ghost even: { suc (genus surd.n) + suc (genus surd.n) ≡ surd.n },
-    // A budget is the value of a word.
-    pub ghost few: { budget < budgets },
 }
 
 // D and the budget, from words that passed the tests 1 to 4; the tests 5 to 7 on D.
@@ -34,20 +33,22 @@ fn read_radicand(field: Field, n: usize, words: &[u32]) -> Result<Ticket, Refusa
     requires all { length words.now ≡ n + 5 }
     requires past { PastLayout words.now (name field) n (coefficients n words.now) (value_of (get_or words.now (n + 3) 0)) }
     ensures refused { refused_by result ≡ refusal_of words.now }
-    ensures read { IfOk result (λ t. ticket_of words.now ≡ ticket_with t.surd t.budget) }
+    ensures read { IfOk result (λ t. ticket_of words.now ≡ ticket_with t.surd t.budget.steps) }
 {
     let radicand = radicand_of(n, words);
     radicand_refusal(field, n, &radicand)?;
     Ok(Ticket {
         surd: Surd { field, n, radicand },
-        budget: value(words[n + 3]) as u64,
+        budget: Budget {
+            steps: value(words[n + 3]) as u64,
+        },
     })
 }
 
 // The ticket that words of any number and any values say.
 pub fn read_ticket(words: &[u32]) -> Result<Ticket, Refusal>
     ensures refused { refused_by result ≡ refusal_of words.now }
-    ensures read { IfOk result (λ t. ticket_of words.now ≡ ticket_with t.surd t.budget) }
+    ensures read { IfOk result (λ t. ticket_of words.now ≡ ticket_with t.surd t.budget.steps) }
 {
     if wrong_head(words) {
         return Err(Refusal::Head);

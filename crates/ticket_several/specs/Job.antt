@@ -24,7 +24,7 @@ module _ (w : List ℕ) (none : several_refusal w ≡ 0) (n : ℕ) (n_is : n ≡
 
     job_ticket : ticket_of (job_words w q) ≡ ticket (prime q) n (residues_in q n w) (value (get_or w (n + 2) 0))
     unfolding job_at coefficients_of budget_of
-    job_ticket = several.job_words_lem w none q fits ∙ ap (λ (m : ℕ). ticket (prime q) m (residues_in q m w) (value (get_or w (m + 2) 0))) (sym n_is)
+    job_ticket = several.ticket_of_job_words w none q fits ∙ ap (λ (m : ℕ). ticket (prime q) m (residues_in q m w) (value (get_or w (m + 2) 0))) (sym n_is)
 
     pub past_job : PastLayout (job_words w q) (prime q) n (residues_in q n w) (value (get_or w (n + 2) 0))
     past_job =

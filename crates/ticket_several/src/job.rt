@@ -9,6 +9,7 @@ ghost use Rattle.base_refusals.specs.Number.{refused_by};
 ghost use Rattle.base_surd.specs.Surd.{ticket_with};
 ghost use Rattle.ticket_read.specs.Refusal.{PastLayout};
 
+use base_counters::Budget;
 use base_field::Field;
 use base_polynomial::Poly;
 use base_primes::is_odd_prime;
@@ -46,13 +47,15 @@ fn read_reduced(field: Field, n: usize, words: &[u32]) -> Result<Ticket, Refusal
     requires long { n + 3 ≤ length words.now }
     requires past { PastLayout (job_words words.now field.q) (name field) n (map (residue_of field.q) (map value_of (take (n + 1) (drop 1 words.now)))) (value_of (get_or words.now (n + 2) 0)) }
     ensures refused { refused_by result ≡ refusal_of (job_words words.now field.q) }
-    ensures read { IfOk result (λ t. ticket_of (job_words words.now field.q) ≡ ticket_with t.surd t.budget) }
+    ensures read { IfOk result (λ t. ticket_of (job_words words.now field.q) ≡ ticket_with t.surd t.budget.steps) }
 {
     let radicand = reduced(field, n, words);
     radicand_refusal(field, n, &radicand)?;
     Ok(Ticket {
         surd: Surd { field, n, radicand },
-        budget: value(words[n + 2]) as u64,
+        budget: Budget {
+            steps: value(words[n + 2]) as u64,
+        },
     })
 }
 
@@ -60,7 +63,7 @@ fn read_reduced(field: Field, n: usize, words: &[u32]) -> Result<Ticket, Refusal
 pub fn read_job(q: u32, words: &[u32]) -> Result<Ticket, Refusal>
     requires { (q < values) × (several_refusal words.now ≡ 0) }
     ensures refused { refused_by result ≡ refusal_of (job_words words.now q) }
-    ensures read { IfOk result (λ t. ticket_of (job_words words.now q) ≡ ticket_with t.surd t.budget) }
+    ensures read { IfOk result (λ t. ticket_of (job_words words.now q) ≡ ticket_with t.surd t.budget.steps) }
 {
     if !is_odd_prime(q) {
         return Err(Refusal::Prime);

@@ -11,6 +11,7 @@ use ticket_layout::head::wrong_degree;
 use ticket_layout::kinds::wrong_kinds;
 
 // The kind that word i has in the right shape: the degree, n + 1 coefficients, the budget, the primes, the end.
+#[tactic(auto, using(crate::specs::Shape::shape_parts))]
 fn right_kind(n: usize, length: usize, i: usize) -> WordKind
     requires { (n + 5 ≤ length) × (i < length) }
     ensures { number_of result ≡ get_or (several_kinds n (length - (n + 4))) i 0 }

@@ -1,7 +1,7 @@
 -- The answer of the call `unit` where a walk is found: with lists that are long enough, and with others.
 use Rattle.std.specs.Prelude.{ℕ, suc, ◌≡◌, Bool, true, false}
 use Rattle.std.proofs.Math.Path.{refl, subst}
-use Rattle.std.proofs.Common.{sym, ap}
+use Rattle.std.proofs.Common.{sym}
 use Rattle.spec_definitions.specs.Ticket.{Ticket}
 use Rattle.spec_definitions.specs.Answers.{Outcome, found, refused, said}
 use Rattle.spec_definitions.specs.Units.{Lists, UnitAnswer, long_enough, unit_lists, unit_from}
@@ -19,6 +19,6 @@ module _ (t : Ticket) (R m c : ℕ) (l : Lists) where
   unfolding unit_from
   long_lists out h e = subst (λ (x : Bool). Answers (answer x) (found R m c) out) (sym h) (record { says = refl; lists_are = e })
 
-  pub short_lists : (k : ℕ) → k ≡ 12 → long_enough (suc R) l ≡ false → Answers (unit_from t (found R m c) l) (refused k) l
+  pub short_lists : long_enough (suc R) l ≡ false → Answers (unit_from t (found R m c) l) (refused 12) l
   unfolding unit_from
-  short_lists k e h = subst (λ (x : Bool). Answers (answer x) (refused k) l) (sym h) (record { says = ap (λ (n : ℕ). said (refused n)) e; lists_are = refl })
+  short_lists h = subst (λ (x : Bool). Answers (answer x) (refused 12) l) (sym h) (record { says = refl; lists_are = refl })

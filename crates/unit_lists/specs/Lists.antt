@@ -38,18 +38,18 @@ module _ (w : Walk) {m : ℕ} {p s x y : List ℕ} (e : Pairs w m m p s x y) whe
 
   module _ (R k : ℕ) (is : R ≡ degree_before (ops w) (D w) (root w) m) (count : k ≡ R + 1) where
     front : (l old new : List ℕ) → Written l new → length new ≡ suc (degree_before (ops w) (D w) (root w) m) → new ++ drop k old ≡ pad (ops w) (suc R) l ++ drop (suc R) old
-    front l old new h n = let f : k ≡ suc R = omega arith in ap₂ ◌++◌ (written_is w.surd.field.q (suc R) l new h (omega arith)) (ap (λ (i : ℕ). drop i old) f)
+    front l old new h n = let f : k ≡ suc R = omega arith in ap₂ ◌++◌ (written_is w.root.surd.field.q (suc R) l new h (omega arith)) (ap (λ (i : ℕ). drop i old) f)
 
     divided : (l old list new : List ℕ) → length list ≡ suc (degree_before (ops w) (D w) (root w) m) → length new ≡ length list → Written l list → Written (scale (ops w) ((ops w).inv (get_or p (length p - 1) 0)) list) new → new ++ drop k old ≡ pad (ops w) (suc R) (scale (ops w) (over_lead (ops w) (D w) (root w) m) l) ++ drop (suc R) old
-    divided l old list new n z h d = front _ old new (subst (λ (i : ℕ). Written (scale (ops w) i l) new) lead_last (written_scale w.surd.field.q (pos w.surd.field.q w.surd.admitted.prime) _ l list new z h d)) (z ∙ n)
+    divided l old list new n z h d = front _ old new (subst (λ (i : ℕ). Written (scale (ops w) i l) new) lead_last (written_scale w.root.surd.field.q (pos w.root.surd.field.q w.root.surd.admitted.prime) _ l list new z h d)) (z ∙ n)
 
     cleared : (old list new : List ℕ) → length list ≡ suc (degree_before (ops w) (D w) (root w) m) → new ≡ replicate (length list) 0 → new ++ drop k old ≡ pad (ops w) (suc R) [] ++ drop (suc R) old
     cleared old list new n z = front [] old new (subst (Written []) (sym z) (written_zeros (length list))) (ap length z ∙ length-replicate {A = ℕ} (length list) 0 ∙ n)
 
     -- p and s hold the unit, and the work lists are cleared
-    pub unit_lists_lem : {monic_p monic_s clear_x clear_y : List ℕ} (old_p old_s old_x old_y : List ℕ) → length monic_p ≡ length p → length monic_s ≡ length s → Written (scale (ops w) ((ops w).inv (get_or p (length p - 1) 0)) p) monic_p → Written (scale (ops w) ((ops w).inv (get_or p (length p - 1) 0)) s) monic_s → clear_x ≡ replicate (length x) 0 → clear_y ≡ replicate (length y) 0 → (b : ℕ) → lists (monic_p ++ drop k old_p) (monic_s ++ drop k old_s) (clear_x ++ drop k old_x) (clear_y ++ drop k old_y) ≡ unit_lists (ticket_with w.surd b) R m (lists old_p old_s old_x old_y)
+    pub unit_written : {monic_p monic_s clear_x clear_y : List ℕ} (old_p old_s old_x old_y : List ℕ) → length monic_p ≡ length p → length monic_s ≡ length s → Written (scale (ops w) ((ops w).inv (get_or p (length p - 1) 0)) p) monic_p → Written (scale (ops w) ((ops w).inv (get_or p (length p - 1) 0)) s) monic_s → clear_x ≡ replicate (length x) 0 → clear_y ≡ replicate (length y) 0 → (b : ℕ) → lists (monic_p ++ drop k old_p) (monic_s ++ drop k old_s) (clear_x ++ drop k old_x) (clear_y ++ drop k old_y) ≡ unit_lists (ticket_with w.root.surd b) R m (lists old_p old_s old_x old_y)
     unfolding unit_lists written unit_of root_of
-    unit_lists_lem {monic_p} {monic_s} {clear_x} {clear_y} old_p old_s old_x old_y a c u v f g b =
+    unit_written {monic_p} {monic_s} {clear_x} {clear_y} old_p old_s old_x old_y a c u v f g b =
         lists_path (divided (p_before (ops w) (D w) (root w) m) old_p p monic_p e.long.p_long a p_is u)
         (divided (s_before (ops w) (D w) (root w) m) old_s s monic_s e.long.s_long c s_is v)
         (cleared old_x x clear_x e.long.x_long f)

@@ -40,12 +40,13 @@ fn constant(f: Field, m: Index, c: u32, twice_lead: u32) -> u32
     f.mul(f.mul(over, over), signed(f, m, c))
 }
 
-// The first constant Q is met at index m, where the walk stands; `twice_lead` stands for 2·λ.
-pub fn found(f: Field, m: Index, at: Progress, twice_lead: u64) -> Outcome
-    requires { Ok f at.last }
-    ensures { meaning result ≡ found_at at.degree.0 m.0 (monic_constant (name f) m.0 at.last (twice_lead % f.q)) }
+// The first constant Q, which is c, is met where the walk is at `at`; `twice_lead` stands for 2·λ.
+pub fn found(f: Field, at: Progress, c: u32, twice_lead: u64) -> Outcome
+    requires { Ok f c }
+    ensures { meaning result ≡ found_at at.degree.0 at.index.0 (monic_constant (name f) at.index.0 c (twice_lead % f.q)) }
 {
+    let m = at.index;
     let degree = at.degree;
     let reduced = (twice_lead % f.q as u64) as u32;
-    Outcome::Found(degree, m, constant(f, m, at.last, reduced))
+    Outcome::Found(degree, m, constant(f, m, c, reduced))
 }

@@ -7,11 +7,11 @@ use base_counters::{Distance, Index};
 use walk_middle::Stop;
 use walk_stride::Progress;
 
-// The outcome where the walk stands at `at`, of index i, by the test at i − 1 that ended it. By that of Q,
+// The outcome where the walk is at `at`, of index i, and Q has `size` places, by the test at i − 1 that ended it. By that of Q,
 // R = 2·deg p_{i−1} − (g + 1) and m = 2i − 1; by that of P, R = 2·deg p_{i−1} − deg Q_i and m = 2i.
-pub fn ending(top: usize, at: Progress, by: Stop) -> HalfOutcome
-    requires { InRange top at by }
-    ensures { half_meaning result ≡ end_of top at by }
+pub fn ending(top: usize, size: usize, at: Progress, by: Stop) -> HalfOutcome
+    requires { InRange top size at by }
+    ensures { half_meaning result ≡ end_of top size at by }
 {
     let index = at.index;
     let degree = at.degree;
@@ -21,7 +21,7 @@ pub fn ending(top: usize, at: Progress, by: Stop) -> HalfOutcome
             Index(2 * index.0 - 1),
         ),
         Stop::ByP => HalfOutcome::Found(
-            Distance(2 * degree.0 - (at.size as u64 - 1)),
+            Distance(2 * degree.0 - (size as u64 - 1)),
             Index(2 * index.0),
         ),
         Stop::Budget => HalfOutcome::Spent(index, degree),

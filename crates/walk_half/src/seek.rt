@@ -1,12 +1,13 @@
 // The steps of half the walk: the loop to the middle of the walk within a budget.
-ghost use Rattle.std.specs.Prelude.{◌≡◌, ◌<◌};
-ghost use Rattle.spec_definitions.specs.Ticket.{budgets};
+ghost use Rattle.std.specs.Prelude.{◌≡◌};
 ghost use Rattle.spec_half.specs.Half.{half_of};
 ghost use Rattle.base_surd.specs.Surd.{ticket_with};
 ghost use Rattle.walk_half.specs.Outcome.{half_meaning};
 
 use crate::HalfOutcome;
 use crate::ends::ending;
+use base_counters::Budget;
+use base_polynomial::Poly;
 use walk_middle::stops;
 use walk_state::Walk;
 use walk_stride::{begin, stride};
@@ -18,35 +19,32 @@ use walk_stride::{begin, stride};
 // and 0 differ.
 // The arrays take turns, so that nothing is copied: Q stands in b, c, a and b again, the Q before it in a, b, c and a,
 // the remainder in x, y, z and x. So do the counts, in `at`, `second` and `third`: a copy right after a step would
-// wait for what the step has stored. `earlier` is the size of the Q before at the head of the loop.
-pub fn seek_middle(w: &Walk, budget: u64) -> HalfOutcome
-    requires { budget < budgets }
-    ensures { half_meaning result ≡ half_of (ticket_with w.now.surd budget) }
+// wait for what the step has stored.
+pub fn seek_middle(w: &Walk, budget: Budget) -> HalfOutcome
+    ensures { half_meaning result ≡ half_of (ticket_with w.now.root.surd budget.steps) }
 {
-    let mut a = [0u32; 129];
-    let mut b = [0u32; 129];
-    let mut c = [0u32; 129];
+    let mut a = Poly::zero();
+    let mut b = Poly::zero();
+    let mut c = Poly::zero();
     let mut x = [0u32; 129];
     let mut y = [0u32; 129];
     let mut z = [0u32; 129];
     let mut at = begin(w, &mut a, &mut b, &mut x);
-    let mut earlier = w.surd.radicand.size;
-    let by = loop {
+    let (by, size) = loop {
         let second = stride(w, &a, &b, &x, &mut y, &mut c, at);
-        if let Some(by) = stops(w, budget, &a, &b, &x, &y, earlier, at) { // Q in b
-            break by;
+        if let Some(by) = stops(w, budget, &a, &b, &x, &y, at) { // Q in b
+            break (by, b.size);
         }
         let third = stride(w, &b, &c, &y, &mut z, &mut a, second);
-        if let Some(by) = stops(w, budget, &b, &c, &y, &z, at.size, second) { // Q in c
+        if let Some(by) = stops(w, budget, &b, &c, &y, &z, second) { // Q in c
             at = second;
-            break by;
+            break (by, c.size);
         }
         at = stride(w, &c, &a, &z, &mut x, &mut b, third);
-        if let Some(by) = stops(w, budget, &c, &a, &z, &x, second.size, third) { // Q in a
+        if let Some(by) = stops(w, budget, &c, &a, &z, &x, third) { // Q in a
             at = third;
-            break by;
+            break (by, a.size);
         }
-        earlier = third.size;
     };
-    ending(w.top(), at, by)
+    ending(w.root.top(), size, at, by)
 }

@@ -1,7 +1,8 @@
-// The outcome of a ticket's walk, and what a call on a ticket answers.
+// The outcome of a ticket's walk.
 #![tactic(auto)]
 
 use base_counters::{Distance, Index};
+use base_refusals::Refusal;
 
 // Found with R, m and c; spent with the steps made and the degree reached; refused with its number.
 #[derive(Clone, Copy)]
@@ -11,9 +12,15 @@ pub enum Outcome {
     Refused(u32),
 }
 
-// What a call on a ticket answers: the number of words handed in, and one of three outcomes.
-#[derive(Clone, Copy)]
-pub struct Answer {
-    pub words: u64,
-    pub outcome: Outcome,
+impl From<Refusal> for Outcome {
+    ghost use Rattle.std.specs.Prelude.{◌≡◌};
+    ghost use Rattle.spec_definitions.specs.Answers.{refused};
+    ghost use Rattle.base_refusals.specs.Number.{number_of};
+    ghost use Rattle.walk_outcome.specs.Outcome.{meaning};
+
+    ghost from_gives = { λ r x. meaning x ≡ refused (number_of r) };
+
+    fn from(r: Refusal) -> Outcome {
+        Outcome::Refused(r.into())
+    }
 }

@@ -11,6 +11,10 @@ use Rattle.base_surd.specs.declared.Surd.{Surd}
 use Rattle.base_surd.specs.Surd.{name, ops, g, D, ticket_with}
 use Rattle.walk_state.specs.State.{root_d}
 
+-- the outcome x finds no walk
+abbrev pub NotFound : Outcome → Type 0
+NotFound x = (R m c : ℕ) → x ≡ found R m c → ⊥
+
 -- the walk of √D is found with R, m, c within the budget b
 pub record Found (s : Surd) (b R m c : ℕ) : Type 0 where
   pub even : suc (g s) + suc (g s) ≡ s.n

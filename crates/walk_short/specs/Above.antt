@@ -2,7 +2,7 @@
 -- has a term for each of them and none for those below k.
 use Rattle.std.specs.Prelude.{ℕ, zero, suc, ◌+◌, ◌*◌, ◌-◌, ◌%◌, ◌<◌, ◌≤◌, ◌≡◌, refl, List, [], ◌∷◌, get_or}
 use Rattle.std.proofs.Common.{zero-add, suc-add, add-zero, add-suc, zero-mul, arith, sym, ap, ap₂, ◌∙◌, subst}
-use Rattle.math_ring.specs.Residues.{mod_mul_mod}
+use Rattle.std.proofs.lemmas.Nat.{mul-mod_first}
 use Rattle.spec_arithmetic.specs.Field.{prime, inverse}
 use Rattle.spec_bridge.specs.Prime.{Prime}
 use Rattle.spec_bridge.specs.Product.{shifted, rows, rows_mul}
@@ -64,30 +64,30 @@ less_above : (q u : ℕ) → List ℕ → List ℕ → ℕ → ℕ → ℕ → �
 less_above q u a b k j zero = u
 less_above q u a b k j (suc l) = less_above q u a b k j l + (q - get_or a (k + suc l) 0) * shifted b (suc l) j
 
-less_above_lem : (q u : ℕ) (a b : List ℕ) → Bounded q a → (k j l : ℕ) → Less q u (above a b k j l) (less_above q u a b k j l)
+less_above_is : (q u : ℕ) (a b : List ℕ) → Bounded q a → (k j l : ℕ) → Less q u (above a b k j l) (less_above q u a b k j l)
 unfolding above less_above
-less_above_lem q u a b h k j zero = less_none q u
-less_above_lem q u a b h k j (suc l) = less_more q u (get_or a (k + suc l) 0) (shifted b (suc l) j) (let w = h (k + suc l) in omega arith) (less_above_lem q u a b h k j l)
+less_above_is q u a b h k j zero = less_none q u
+less_above_is q u a b h k j (suc l) = less_more q u (get_or a (k + suc l) 0) (shifted b (suc l) j) (let w = h (k + suc l) in omega arith) (less_above_is q u a b h k j l)
 
 -- the same times i, with b times i reduced: one product alone waits for each of the coefficients above
 unfoldable pub scaled_above : (q i u : ℕ) → List ℕ → List ℕ → ℕ → ℕ → ℕ → ℕ
 scaled_above q i u a b k j zero = u * i
 scaled_above q i u a b k j (suc l) = scaled_above q i u a b k j l + (q - get_or a (k + suc l) 0) * ((shifted b (suc l) j * i) % q)
 
-scaled_above_lem : (q i u : ℕ) (a b : List ℕ) (k j l : ℕ) → Scaled q i (less_above q u a b k j l) (scaled_above q i u a b k j l)
+scaled_above_is : (q i u : ℕ) (a b : List ℕ) (k j l : ℕ) → Scaled q i (less_above q u a b k j l) (scaled_above q i u a b k j l)
 unfolding less_above scaled_above
-scaled_above_lem q i u a b k j zero = refl
-scaled_above_lem q i u a b k j (suc l) = scaled_more q i _ _ (q - get_or a (k + suc l) 0) (shifted b (suc l) j) (scaled_above_lem q i u a b k j l)
+scaled_above_is q i u a b k j zero = refl
+scaled_above_is q i u a b k j (suc l) = scaled_more q i _ _ (q - get_or a (k + suc l) 0) (shifted b (suc l) j) (scaled_above_is q i u a b k j l)
 
 module _ {q m n : ℕ} {s b r : List ℕ} (p : Prime q) (d : Division (prime q) m n s b r) (i : ℕ) (i_is : i ≡ inverse q (get_or b (n - 1) 0)) where
   -- what stands at the place, less what l coefficients above k leave there
   pub quo_above : (k l place : ℕ) → m + 1 - n ≤ suc k + l → place ≡ k + (n - 1) → scaled_above q i (get_or s place 0 + (q - get_or r place 0)) (step_quo (prime q) s b r) b k (n - 1) l % q ≡ get_or (step_quo (prime q) s b r) k 0
   quo_above k l place h e =
-      scaled_above_lem q i u a b k (n - 1) l ∙ sym (mod_mul_mod t i q) ∙ ap (λ (x : ℕ). (t % q * x) % q) i_is
+      scaled_above_is q i u a b k (n - 1) l ∙ sym (mul-mod_first t i q) ∙ ap (λ (x : ℕ). (t % q * x) % q) i_is
       ∙ quo_at p d z k (λ x w. from_high (suc k) a x (omega arith)) (λ x w. from_low (suc k) a x (omega arith)) place (t % q) e
       (rest_is q (positive p d) s r z b place t (rows z b (suc k + l) place) (d.rest_within.reduced place)
       (rows_mul q (positive p d) z b (suc k + l) place (λ x w. from_high (suc k) a x (omega arith) ∙ quo_past p d x (omega arith)))
-      (subst (λ (x : ℕ). Less q u x t) (sym (ap (rows z b (suc k + l)) e ∙ rows_above a b k (n - 1) l)) (less_above_lem q u a b (quo_reduced p d) k (n - 1) l)))
+      (subst (λ (x : ℕ). Less q u x t) (sym (ap (rows z b (suc k + l)) e ∙ rows_above a b k (n - 1) l)) (less_above_is q u a b (quo_reduced p d) k (n - 1) l)))
     where
       u : ℕ
       u = get_or s place 0 + (q - get_or r place 0)

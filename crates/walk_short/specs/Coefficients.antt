@@ -15,7 +15,7 @@ use Rattle.spec_bridge.specs.Arithmetic.{series_add, series_sub, series_mul, oks
 use Rattle.spec_bridge.specs.Product.{shifted, rows, rows_mul}
 use Rattle.base_places.specs.Row.{Bounded, Ends}
 use Rattle.base_places.specs.TwoRows.{to_differ}
-use Rattle.walk_short.specs.Sums.{Less, More, less_rows, less_rows_lem, more_rows, more_rows_lem}
+use Rattle.walk_short.specs.Sums.{Less, More, less_rows, less_rows_are, more_rows, more_rows_are}
 
 module _ (q : ℕ) (pos : 0 < q) where
   abbrev F : CRing (Fq q)
@@ -78,7 +78,7 @@ module _ (q : ℕ) (pos : 0 < q) where
 
   -- ---- the same by the rows of the product, n where the factor has n places
   pub rest_rows : (s r a b : List ℕ) (k n : ℕ) → Bounded q a → Ends a n → get_or r k 0 < q → less_rows q (get_or s k 0 + (q - get_or r k 0)) a b k n % q ≡ get_or (sub (modulo q) (sub (modulo q) s r) (mul (modulo q) a b)) k 0
-  rest_rows s r a b k n bounded ends h = rest_is s r a b k _ (rows a b n k) h (rows_mul q pos a b n k ends) (less_rows_lem q (get_or s k 0 + (q - get_or r k 0)) a b bounded k n)
+  rest_rows s r a b k n bounded ends h = rest_is s r a b k _ (rows a b n k) h (rows_mul q pos a b n k ends) (less_rows_are q (get_or s k 0 + (q - get_or r k 0)) a b bounded k n)
 
   pub next_rows : (before a z r : List ℕ) (k n : ℕ) → Ends a n → ((i : ℕ) → shifted r i k ≤ q) → more_rows q (get_or before k 0) a z r k n % q ≡ get_or (add (modulo q) before (mul (modulo q) a (sub (modulo q) z r))) k 0
-  next_rows before a z r k n ends h = next_is before a z r k _ (rows a z n k) (rows a r n k) (rows_mul q pos a z n k ends) (rows_mul q pos a r n k ends) (more_rows_lem q (get_or before k 0) a z r k h n)
+  next_rows before a z r k n ends h = next_is before a z r k _ (rows a z n k) (rows a r n k) (rows_mul q pos a z n k ends) (rows_mul q pos a r n k ends) (more_rows_are q (get_or before k 0) a z r k h n)

@@ -4,7 +4,7 @@ use Prim.Native.Nat.{ℕ, zero, suc, ◌+◌, ◌*◌, ◌-◌, ◌%◌, ◌≤�
 use Rattle.std.proofs.Common.{mul-add, add-mul, mul_assoc, mul_comm, zero-mul, arith, sym, ap, ◌∙◌}
 use Rattle.std.proofs.Math.Nat.{add-mod-mod, mod-add-mod, add-mul-mod_self_right}
 use Rattle.std.specs.Prelude.{◌≡◌, List, get_or}
-use Rattle.math_ring.specs.Residues.{mul_mod_mod}
+use Rattle.std.proofs.lemmas.Nat.{mul-mod_second}
 use Rattle.spec_bridge.specs.Product.{shifted, rows}
 use Rattle.base_places.specs.Row.{Bounded}
 use Rattle.base_places.specs.TwoRows.{complement}
@@ -52,20 +52,20 @@ module _ (q u : ℕ) where
   less_rows a b k zero = u
   less_rows a b k (suc n) = less_rows a b k n + (q - get_or a n 0) * shifted b n k
 
-  pub less_rows_lem : (a b : List ℕ) → Bounded q a → (k n : ℕ) → Less q u (rows a b n k) (less_rows a b k n)
+  pub less_rows_are : (a b : List ℕ) → Bounded q a → (k n : ℕ) → Less q u (rows a b n k) (less_rows a b k n)
   unfolding less_rows rows
-  less_rows_lem a b h k zero = less_none
-  less_rows_lem a b h k (suc n) = less_more (get_or a n 0) (shifted b n k) (let l = h n in omega arith) (less_rows_lem a b h k n)
+  less_rows_are a b h k zero = less_none
+  less_rows_are a b h k (suc n) = less_more (get_or a n 0) (shifted b n k) (let l = h n in omega arith) (less_rows_are a b h k n)
 
   -- u + a·(x − y) at k
   unfoldable pub more_rows : List ℕ → List ℕ → List ℕ → ℕ → ℕ → ℕ
   more_rows a x y k zero = u
   more_rows a x y k (suc n) = more_rows a x y k n + get_or a n 0 * (shifted x n k + (q - shifted y n k))
 
-  pub more_rows_lem : (a x y : List ℕ) (k : ℕ) → ((n : ℕ) → shifted y n k ≤ q) → (n : ℕ) → More q u (rows a x n k) (rows a y n k) (more_rows a x y k n)
+  pub more_rows_are : (a x y : List ℕ) (k : ℕ) → ((n : ℕ) → shifted y n k ≤ q) → (n : ℕ) → More q u (rows a x n k) (rows a y n k) (more_rows a x y k n)
   unfolding more_rows rows
-  more_rows_lem a x y k h zero = more_none
-  more_rows_lem a x y k h (suc n) = more_more (get_or a n 0) (shifted x n k) (shifted y n k) (h n) (more_rows_lem a x y k h n)
+  more_rows_are a x y k h zero = more_none
+  more_rows_are a x y k h (suc n) = more_more (get_or a n 0) (shifted x n k) (shifted y n k) (h n) (more_rows_are a x y k h n)
 
 -- a term with a factor 0
 pub without_term : (q t a x : ℕ) → a ≡ 0 → t % q ≡ (t + (q - a) * x) % q
@@ -79,6 +79,6 @@ Scaled q i t v = v % q ≡ (t * i) % q
 
 pub scaled_more : (q i t v c y : ℕ) → Scaled q i t v → Scaled q i (t + c * y) (v + c * ((y * i) % q))
 scaled_more q i t v c y h =
-    sym (add-mod-mod v (c * ((y * i) % q)) q) ∙ ap (λ n. (v + n) % q) (mul_mod_mod c (y * i) q) ∙ add-mod-mod v (c * (y * i)) q
+    sym (add-mod-mod v (c * ((y * i) % q)) q) ∙ ap (λ n. (v + n) % q) (mul-mod_second c (y * i) q) ∙ add-mod-mod v (c * (y * i)) q
     ∙ sym (mod-add-mod v q (c * (y * i))) ∙ ap (λ n. (n + c * (y * i)) % q) h ∙ mod-add-mod (t * i) q (c * (y * i))
     ∙ ap (λ n. n % q) (ap (λ n. t * i + n) (sym (mul_assoc c y i)) ∙ sym (add-mul t (c * y) i))

@@ -1,4 +1,5 @@
 pub mod Table
+pub mod Rooted
 pub mod Root
 pub mod State
 pub mod Start

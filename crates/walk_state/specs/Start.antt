@@ -2,7 +2,7 @@
 use Rattle.std.specs.Prelude.{ℕ, suc, ◌+◌, ◌*◌, ◌/◌, ◌%◌, ◌≤◌, ◌<◌, ◌≡◌, List, [], ◌∷◌, length, get_or, set}
 use Rattle.std.proofs.Common.{mod-lt, mod-eq_of_lt, add-one, arith, sym, ap, ◌∙◌, subst, ext_get_or}
 use Rattle.std.proofs.Math.Nat.{div-add-mod}
-use Rattle.spec_arithmetic.specs.Field.{prime, FieldName, ops, modulo}
+use Rattle.spec_arithmetic.specs.Field.{prime, modulo}
 use Rattle.spec_arithmetic.specs.Polynomials.{trim, pad, add, root}
 use Rattle.spec_definitions.specs.Ticket.{genus}
 use Rattle.spec_bridge.specs.Arithmetic.{at_add}
@@ -14,15 +14,8 @@ use Rattle.base_places.specs.Record.{poly, Held}
 use Rattle.base_places.specs.Held.{at_poly}
 use Rattle.base_places.specs.Pad.{length_pad, at_pad}
 use Rattle.base_places.specs.Places.{Places, Within, zeros}
-use Rattle.walk_step.specs.Step.{Inverses}
-use Rattle.walk_state.specs.Root.{root_cong}
+use Rattle.walk_state.specs.Rooted.{root_cong}
 use Rattle.walk_state.specs.State.{root_d, pad_within}
-
--- the table of inverses, d and twice = 2d
-pub record Prepared (f : FieldName) (g : ℕ) (D table d twice : List ℕ) : Type 0 where
-  pub inverses : Inverses f table
-  pub root_is : d ≡ pad (ops f) 129 (root_d f g D)
-  pub twice_is : twice ≡ pad (ops f) 129 (add (ops f) (root_d f g D) (root_d f g D))
 
 -- n/2 = g + 1
 pub half_degree : (n : ℕ) → 2 ≤ n → n / 2 ≡ suc (genus n)

@@ -6,16 +6,16 @@ use Rattle.walk_state.specs.declared.Walk.{Walk}
 use Rattle.walk_state.specs.State.{root_d}
 
 abbrev pub name : Walk → FieldName
-name w = surds.name w.surd
+name w = surds.name w.root.surd
 
 abbrev pub ops : Walk → Ops ℕ
-ops w = surds.ops w.surd
+ops w = surds.ops w.root.surd
 
 abbrev pub g : Walk → ℕ
-g w = surds.g w.surd
+g w = surds.g w.root.surd
 
 abbrev pub D : Walk → List ℕ
-D w = surds.D w.surd
+D w = surds.D w.root.surd
 
 -- the root of D
 abbrev pub root : Walk → List ℕ

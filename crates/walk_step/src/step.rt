@@ -9,7 +9,7 @@ ghost use Rattle.base_field.specs.Named.{name, ops};
 ghost use Rattle.base_places.specs.Places.{Places, Within};
 ghost use Rattle.base_places.specs.Row.{Bounded};
 ghost use Rattle.walk_short.specs.Start.{quo, rem, after as after_of, Leads, SteppedFrom};
-ghost use Rattle.walk_step.specs.Step.{step_quo, Division, Ready, Stepped};
+ghost use Rattle.walk_step.specs.Step.{step_quo, Division};
 
 use base_field::Field;
 use base_places::linear::fill_places;
@@ -145,35 +145,4 @@ pub fn step(s: &Step, remains: &mut [u32; 129], after: &mut [u32; 129]) -> usize
 {
     fill(s, remains, after);
     base_places::linear::top(after, s.top)
-}
-
-// The same, from its parts; lead_inverse is the inverse of the leading coefficient of Q.
-pub fn step_by(
-    f: Field,
-    lead_inverse: u32,
-    twice: &[u32; 129],
-    top: usize,
-    before: &[u32; 129],
-    current: &[u32; 129],
-    size: usize,
-    rest: &[u32; 129],
-    remains: &mut [u32; 129],
-    after: &mut [u32; 129],
-) -> usize
-    requires lead_inverse_value { lead_inverse ≡ (ops f).inv (get_or current.now (size - 1) 0) }
-    requires size_nonzero { (0 < size) × (size ≤ top) × (top ≤ 128) }
-    requires ready { Ready (name f) top size twice.now before.now current.now rest.now }
-    ensures { Stepped (name f) twice.now before.now current.now rest.now remains.new after.new result }
-{
-    let s = Step {
-        field: f,
-        twice,
-        before,
-        current,
-        rest,
-        top,
-        size,
-        lead_inverse,
-    };
-    step(&s, remains, after)
 }

@@ -5,37 +5,30 @@
 ghost use Rattle.walk_stride.specs.Progress.{Begun, Going, Taken, Turned};
 
 use base_counters::{Distance, Index};
+use base_polynomial::Poly;
 use walk_state::Walk;
 use walk_step::Step;
 use walk_step::step::step;
 
-// Where the walk stands: the index i, the degree of p_{i − 1}, the size of Q_i and its constant coefficient.
+// How far the walk is: the index i, and the degree of p_{i − 1}.
 #[derive(Clone, Copy)]
 pub struct Progress {
     pub index: Index,
     pub degree: Distance,
-    pub size: usize,
-    pub last: u32,
 }
 
 // Index 0: the Q before is D, Q is 1 and the remainder d.
-pub fn begin(
-    w: &Walk,
-    before: &mut [u32; 129],
-    current: &mut [u32; 129],
-    rest: &mut [u32; 129],
-) -> Progress
+pub fn begin(w: &Walk, before: &mut Poly, current: &mut Poly, rest: &mut [u32; 129]) -> Progress
     ensures { Begun w.now before.new current.new rest.new result }
 {
-    *before = w.surd.radicand.c;
-    *current = [0u32; 129];
-    current[0] = 1;
-    *rest = w.d;
+    *before = w.root.surd.radicand;
+    current.c = [0u32; 129];
+    current.c[0] = 1;
+    current.size = 1;
+    *rest = w.root.d;
     Progress {
         index: Index(0),
         degree: Distance(0),
-        size: 1,
-        last: 1,
     }
 }
 
@@ -43,33 +36,32 @@ pub fn begin(
 // A run takes its arrays in turn, so that none is copied.
 pub fn stride(
     w: &Walk,
-    before: &[u32; 129],
-    current: &[u32; 129],
+    before: &Poly,
+    current: &Poly,
     rest: &[u32; 129],
     remains: &mut [u32; 129],
-    after: &mut [u32; 129],
+    after: &mut Poly,
     at: Progress,
 ) -> Progress
     requires { Going w.now before.now current.now rest.now at }
     ensures { Taken w.now before.now current.now rest.now remains.new after.new at result }
 {
-    let top = w.top();
+    let top = w.root.top();
+    let size = current.size;
     let s = Step {
-        field: w.surd.field,
-        twice: &w.twice,
-        before,
-        current,
+        field: w.root.surd.field,
+        twice: &w.root.twice,
+        before: &before.c,
+        current: &current.c,
         rest,
         top,
-        size: at.size,
-        lead_inverse: w.inverses[current[at.size - 1] as usize],
+        size,
+        lead_inverse: w.inverses[current.c[size - 1] as usize],
     };
-    let size = step(&s, remains, after);
+    after.size = step(&s, remains, &mut after.c);
     Progress {
         index: Index(at.index.0 + 1),
-        degree: Distance(at.degree.0 + (top - at.size) as u64),
-        size,
-        last: after[0],
+        degree: Distance(at.degree.0 + (top - size) as u64),
     }
 }
 
@@ -77,8 +69,8 @@ pub fn stride(
 // the next remainder.
 pub fn turn(
     w: &Walk,
-    before: &mut [u32; 129],
-    current: &mut [u32; 129],
+    before: &mut Poly,
+    current: &mut Poly,
     rest: &mut [u32; 129],
     at: Progress,
 ) -> Progress
@@ -86,7 +78,7 @@ pub fn turn(
     ensures { Turned w.now before.old current.old rest.old before.new current.new rest.new at result }
 {
     let mut remains = [0u32; 129];
-    let mut after = [0u32; 129];
+    let mut after = Poly::zero();
     let to = stride(w, before, current, rest, &mut remains, &mut after, at);
     *before = *current;
     *current = after;

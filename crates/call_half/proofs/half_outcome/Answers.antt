@@ -13,4 +13,4 @@ returns-in-Ok c w h =
 pub returns-in-Err : goal.returns-in-Err
 returns-in-Err c w h =
     let k = subst (IsReadAs w) c.in-Err.is h in
-    refused_half w _ (c.into.ensures ∙ k.refused) (λ e. omega (arith, c.into.ensures, number_some c.in-Err.refusal))
+    c.into.ensures ∙ refused_half w _ k.refused (λ e. omega (arith, number_some c.in-Err.refusal))

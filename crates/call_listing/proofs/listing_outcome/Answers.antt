@@ -13,4 +13,4 @@ returns-in-Ok c w h =
 pub returns-in-Err : goal.returns-in-Err
 returns-in-Err c w h =
     let k = subst (IsReadAs w) c.in-Err.is h in
-    words_answer w _ _ _ _ _ refl (refused_outcome w _ (c.into.ensures ∙ k.refused) (λ e. omega (arith, c.into.ensures, number_some c.in-Err.refusal))) (kept_refused _ _ _)
+    words_answer w _ _ _ _ _ refl (c.into.ensures ∙ refused_outcome w _ k.refused (λ e. omega (arith, number_some c.in-Err.refusal))) (kept_refused _ _ _ _ c.into.ensures)

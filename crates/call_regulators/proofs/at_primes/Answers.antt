@@ -1,4 +1,4 @@
-use Rattle.std.proofs.Common.{ℕ, ◌<◌, ◌≡◌, ◌+◌, arith, refl, sym, ap, ◌∙◌, subst, length, rules}
+use Rattle.std.proofs.Common.{ℕ, ◌<◌, ◌+◌, arith, refl, sym, ap, ◌∙◌, subst, length, rules}
 use Rattle.spec_arithmetic.specs.Words.{values, value}
 use Rattle.spec_several.specs.Several.{several_of, sixteen_places}
 use Rattle.spec_lists.specs.Words.{value_less}

@@ -19,8 +19,8 @@ returns-in-Ok c =
 
 pub returns-in-Err : goal.returns-in-Err
 returns-in-Err c =
-    let e = refused_outcome _ _ (c.into.ensures ∙ c.in-Err.ensures.refused) (λ e. omega (arith, c.into.ensures, number_some c.in-Err.refusal)) in
-    let r = words_answer _ _ _ _ _ _ refl e (kept_refused _ _ _) in
+    let e = c.into-outcome.ensures ∙ refused_outcome _ _ c.in-Err.ensures.refused (λ e. omega (arith, number_some c.in-Err.refusal)) in
+    let r = words_answer _ _ _ _ _ _ refl e (kept_refused _ _ _ _ c.into-outcome.ensures) in
     record {
       words = refl;
       says = r.says;

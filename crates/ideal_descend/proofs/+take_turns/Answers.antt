@@ -12,17 +12,17 @@ finish-requires t c =
       within = λ n a b. rest_within i.begun i.stands n a b;
     }
 
-pub returns-then-b-r : goal.returns-then-b-r
-returns-then-b-r t c =
-    λ i. reduces i c.if-b-r.true c.finish.ensures.q c.finish.ensures.p c.finish.ensures.sum
+pub returns-then-b-top : goal.returns-then-b-top
+returns-then-b-top t c =
+    λ i. reduces i (omega arith) c.finish.ensures.q c.finish.ensures.p c.finish.ensures.sum
 
 pub take_turns-requires : goal.take_turns-requires
 unfolding going_next
 take_turns-requires t c =
     let u = c.stride-to.ensures in
-    let less = going_less c.requires c.if-b-r.false u in
-    (omega arith, going_next c.requires c.if-b-r.false u)
+    let less = going_less c.requires (omega arith) u in
+    (omega arith, going_next c.requires (omega arith) u)
 
 pub returns : goal.returns
 unfolding going_next
-returns t c = λ i. c.take_turns.ensures (going_next i c.if-b-r.false c.stride-to.ensures)
+returns t c = λ i. c.take_turns.ensures (going_next i (omega arith) c.stride-to.ensures)

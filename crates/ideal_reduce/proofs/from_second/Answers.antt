@@ -1,20 +1,9 @@
 -- The steps start at index 1, since the first quotient is 0.
-use Rattle.std.proofs.Common.{suc, ◌+◌, ◌/◌, ◌≤◌, ◌<◌, arith, ◌≡◌}
-use Rattle.spec_definitions.specs.Ticket.{genus}
-use Rattle.walk_state.specs.Start.{top_is}
+use Rattle.std.proofs.Common.{◌≤◌, arith}
 use Rattle.ideal_descend.proofs.Turn.{root_within}
 use Rattle.ideal_reduce.specs.Start.{cofactor_sizes, p_within}
 use Rattle.ideal_reduce.specs.Next.{next_even, next_some, starts_next}
 use Rattle.ideal_reduce.proofs.from_second.Goals as goal
-use Rattle.ideal_reduce.proofs.from_second.Goals.{Start as Entry}
-
--- Q has more places than d
-above : (c : Entry) → suc (suc (genus c.args.r.now.surd.n)) < c.args.a.now.q.size
-above c =
-    let s = c.args.r.now.surd in
-    let e : s.n / 2 + 1 ≡ suc (suc (genus s.n)) = top_is s.n s.degree_two in
-    let l = c.requires.high in
-    omega arith
 
 pub cofactor-requires : goal.cofactor-requires
 cofactor-requires c =
@@ -27,7 +16,7 @@ cofactor-requires c =
 pub add_places-requires : goal.add_places-requires
 add_places-requires c =
     let t = c.requires.start in
-    let h = above (goal.at.add_places-requires c).Start in
+    let h = c.requires.high in
     let w = t.q_most in
     let g = c.args.r.now.surd.admitted.genus_most in
     let m : c.args.a.now.q.size ≤ 129 = omega arith in
@@ -43,18 +32,18 @@ height-top-requires c =
     let g = c.args.r.now.surd.admitted.genus_most in
     record {
       from_bound = omega arith;
-      equal = next_even c.args.r.now t (above (goal.at.height-top-requires c).Start) c.add_places.ensures c.cofactor.ensures;
+      equal = next_even c.args.r.now t c.requires.high c.add_places.ensures c.cofactor.ensures;
     }
 
 pub overflow_sub-at : goal.overflow_sub-at
 overflow_sub-at c =
-    let w = next_some c.args.r.now c.requires.start (above (goal.at.overflow_sub-at c).Start) c.add_places.ensures c.cofactor.ensures c.height-top.ensures in
+    let w = next_some c.args.r.now c.requires.start c.requires.high c.add_places.ensures c.cofactor.ensures c.height-top.ensures in
     omega arith
 
 pub descend-requires : goal.descend-requires
 unfolding starts_next
-descend-requires c = starts_next c.args.r.now c.requires.start (above (goal.at.descend-requires c).Start) c.add_places.ensures c.cofactor.ensures c.height-top.ensures
+descend-requires c = starts_next c.args.r.now c.requires.start c.requires.high c.add_places.ensures c.cofactor.ensures c.height-top.ensures
 
 pub returns : goal.returns
 unfolding starts_next
-returns c = c.descend.ensures (starts_next c.args.r.now c.requires.start (above (goal.at.returns c).Start) c.add_places.ensures c.cofactor.ensures c.height-top.ensures)
+returns c = c.descend.ensures (starts_next c.args.r.now c.requires.start c.requires.high c.add_places.ensures c.cofactor.ensures c.height-top.ensures)

@@ -1,9 +1,8 @@
 -- Each call's result is held and short enough for the next one; together they are the definition's product.
 use Rattle.std.proofs.Common.{arith}
-use Rattle.base_polynomial.specs.Over.{length_poly}
-use Rattle.ideal_operand.specs.Operand.{operand_q, operand_p, operand_q_size, operand_p_size, operand_q_some}
+use Rattle.ideal_operand.specs.Operand.{operand_q, operand_p, operand_q_size, operand_p_size}
 use Rattle.ideal_shared.proofs.MultiplierLaws.{gcd_result, first_result, first_size, common_is, bezout_u_is, bezout_w_is}
-use Rattle.ideal_shared.proofs.SharedLaws.{S_result, S_bounds, first_held, first_bound, Q_result, Q_positive, U_result, U_bound, W_result, W_bound, cofactor_result, cofactor_bound, bracket_result, bracket_bound, multiplied}
+use Rattle.ideal_shared.proofs.SharedLaws.{S_result, S_bounds, first_held, first_bound, Q_result, Q_positive, U_result, U_bound, W_result, W_bound, bracket_result, bracket_bound, multiplied}
 use Rattle.ideal_shared.proofs.shared.Goals as goal
 
 pub multipliers-requires : goal.multipliers-requires
@@ -33,20 +32,6 @@ norm-requires c =
       held = (operand_q h x, operand_q h y, (S_result h x y s).held);
     }
 
-pub cofactor-requires : goal.cofactor-requires
-cofactor-requires c =
-    let h = c.args.s.now.admitted in
-    let x = c.requires.operands.0 in
-    let n = h.genus_most in
-    let d = h.size_D in
-    let l = length_poly c.args.s.now.held in
-    let x_q = operand_q_size h x in
-    let x_p = operand_p_size h x in
-    record {
-      sizes = (operand_q_some h x, omega arith, omega arith, omega arith);
-      held = (c.args.s.now.held, operand_q h x, operand_p h x);
-    }
-
 pub bracket-requires : goal.bracket-requires
 bracket-requires c =
     let h = c.args.s.now.admitted in
@@ -54,13 +39,12 @@ bracket-requires c =
     let y = c.requires.operands.1 in
     let u = bezout_u_is h x y c.requires.gcd c.requires.part c.multipliers.ensures.first in
     let w = bezout_w_is h x y c.requires.gcd c.requires.part c.multipliers.ensures.last in
-    let v = c.cofactor.ensures in
     let n = h.genus_most in
-    let x_p = operand_p_size h x in
     let y_p = operand_p_size h y in
     record {
-      sizes = (omega arith, omega arith, U_bound h x y u, W_bound h x y w, cofactor_bound h x y v);
-      held = (operand_p h x, operand_p h y, (U_result h x y u).held, (W_result h x y w).held, (cofactor_result h x y v).held);
+      operand = x;
+      sizes = (omega arith, U_bound h x y u, W_bound h x y w);
+      held = (operand_p h y, (U_result h x y u).held, (W_result h x y w).held);
     }
 
 pub residue-requires : goal.residue-requires
@@ -71,14 +55,13 @@ residue-requires c =
     let s = common_is h x y c.requires.gcd c.requires.part c.multipliers.ensures.common in
     let u = bezout_u_is h x y c.requires.gcd c.requires.part c.multipliers.ensures.first in
     let w = bezout_w_is h x y c.requires.gcd c.requires.part c.multipliers.ensures.last in
-    let v = c.cofactor.ensures in
     let b = c.bracket.ensures in
     let n = h.genus_most in
     let first_q = first_bound h x y s c.norm.ensures.first in
-    let b_q = bracket_bound h x y u w v b in
+    let b_q = bracket_bound h x y u w b in
     record {
       sizes = (Q_positive h x y s c.norm.ensures.norm, omega arith);
-      held = (operand_p h x, first_held h x y s c.norm.ensures.first, (bracket_result h x y u w v b).held, (Q_result h x y s c.norm.ensures.norm).held);
+      held = (operand_p h x, first_held h x y s c.norm.ensures.first, (bracket_result h x y u w b).held, (Q_result h x y s c.norm.ensures.norm).held);
     }
 
 pub returns : goal.returns
@@ -89,4 +72,4 @@ returns c =
     let s = common_is h x y c.requires.gcd c.requires.part c.multipliers.ensures.common in
     let u = bezout_u_is h x y c.requires.gcd c.requires.part c.multipliers.ensures.first in
     let w = bezout_w_is h x y c.requires.gcd c.requires.part c.multipliers.ensures.last in
-    multiplied h x y u w c.cofactor.ensures c.bracket.ensures s c.norm.ensures.first c.norm.ensures.norm c.residue.ensures
+    multiplied h x y u w c.bracket.ensures s c.norm.ensures.first c.norm.ensures.norm c.residue.ensures

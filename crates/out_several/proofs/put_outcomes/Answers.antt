@@ -1,7 +1,7 @@
 use Rattle.std.proofs.Common.{◌<◌, arith, refl, sym, ap, length, below_more}
 use lib.ListN.{length-map}
 use Rattle.spec_definitions.specs.Answers.{refused, said}
-use Rattle.spec_lists.specs.Mapped.{get_d_map_within}
+use Rattle.std.proofs.lemmas.List.{get_or-map}
 use Rattle.walk_outcome.specs.Outcome.{meaning}
 use Rattle.out_numbers.proofs.NumberLaws.{plain_same}
 use Rattle.out_several.proofs.put_outcomes.Goals as goal
@@ -15,7 +15,7 @@ loop-i-preserved c =
     let h = c.put_outcome.ensures in
     let places = c.args.a.now.places in
     let within : l.i < length places = omega (arith, c.requires, length-map places meaning) in
-    (h.long, below_more _ l.i (λ k b. h.earlier k b _ (l.invariant.1 k b)) (plain_same (ap said (sym (get_d_map_within meaning places l.i _ (refused 0) within))) h.here))
+    (h.long, below_more _ l.i (λ k b. h.earlier k b _ (l.invariant.1 k b)) (plain_same (ap said (sym (get_or-map meaning places l.i _ (refused 0) within))) h.here))
 
 pub returns : goal.returns
 returns c = record {

@@ -1,10 +1,7 @@
 -- The values that are read are the ticket's parts.
-use Rattle.std.proofs.Common.{arith, rules, sym}
+use Rattle.std.proofs.Common.{rules, sym}
 use Rattle.ticket_read.specs.Accepted.{radicand_admitted, radicand_held, n_even, degree_two, budget_few, read_size, read_itself, read_refusal, are_read}
 use Rattle.ticket_read.proofs.read_radicand.Goals as goal
-
-pub radicand_of-radicand-requires : goal.radicand_of-radicand-requires
-radicand_of-radicand-requires c = (c.requires.past.n_most, omega arith)
 
 pub radicand_refusal-requires : goal.radicand_refusal-requires
 radicand_refusal-requires c =
@@ -18,9 +15,6 @@ returns-in_err-radicand_refusal-clause-refused c =
     let e = read_refusal c.requires.past c.radicand_of-radicand.ensures c.in_err-radicand_refusal.ensures in
     search (rules, e)
 
-pub bounds-words-n : goal.bounds-words-n
-bounds-words-n c = omega arith
-
 pub invariant_of-result : goal.invariant_of-result
 invariant_of-result c =
     let r = are_read c.requires.past c.radicand_of-radicand.ensures c.in_ok-radicand_refusal.ensures c.value.ensures in
@@ -29,7 +23,12 @@ invariant_of-result c =
 pub invariant_of-result-2 : goal.invariant_of-result-2
 invariant_of-result-2 c =
     let r = are_read c.requires.past c.radicand_of-radicand.ensures c.in_ok-radicand_refusal.ensures c.value.ensures in
-    record { even = n_even r; few = budget_few r }
+    record { few = budget_few r }
+
+pub invariant_of-result-3 : goal.invariant_of-result-3
+invariant_of-result-3 c =
+    let r = are_read c.requires.past c.radicand_of-radicand.ensures c.in_ok-radicand_refusal.ensures c.value.ensures in
+    record { even = n_even r }
 
 pub returns : goal.returns
 returns c =

@@ -3,4 +3,4 @@ use Rattle.std.proofs.Common.{ℕ, ◌*◌, ◌%◌, ◌<◌, ◌≡◌, get_or}
 use Rattle.walk_middle.proofs.proportional.Given as goal
 
 abbrev pub invariant-loop-i : goal.invariant-loop-i
-invariant-loop-i l = (k : ℕ) → k < l.i → get_or l.x k 0 * l.b % l.f.q ≡ get_or l.y k 0 * l.a % l.f.q
+invariant-loop-i l = (k : ℕ) → k < l.i → get_or l.x.c k 0 * l.b % l.f.q ≡ get_or l.y.c k 0 * l.a % l.f.q

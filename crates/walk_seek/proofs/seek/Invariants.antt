@@ -6,7 +6,7 @@ use Rattle.walk_seek.specs.Steps.{Seeking}
 use Rattle.walk_seek.proofs.seek.Given as goal
 
 abbrev pub invariant-loop-at : goal.invariant-loop-at
-invariant-loop-at l = Seeking l.w l.budget largest_coefficient l.a l.b l.x l.at l.twice_lead
+invariant-loop-at l = Seeking l.w l.budget.steps largest_coefficient l.a l.b l.x l.at l.twice_lead
 
 abbrev pub decreases-loop-at : goal.decreases-loop-at
-decreases-loop-at l = l.budget - l.at.index.0
+decreases-loop-at l = l.budget.steps - l.at.index.0

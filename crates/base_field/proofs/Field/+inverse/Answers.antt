@@ -1,17 +1,7 @@
 -- The recursion is the definition's, and a falls at each call; a product is below 4,095², which fits.
-use Rattle.std.proofs.Common.{ℕ, ◌<◌, ◌≤◌, ◌-◌, ◌*◌, ◌/◌, ◌%◌, mod-lt, div-le_self, mul-le-mul, arith, sym, ap, ◌∙◌, subst}
+use Rattle.std.proofs.Common.{ℕ, ◌<◌, ◌≤◌, ◌-◌, ◌*◌, ◌/◌, ◌%◌, mod-lt, mul-le-mul, arith, sym, ap, ◌∙◌, subst}
 use Rattle.spec_bridge.specs.Residues.{inverse_one, inverse_more, inverse_below as below}
 use Rattle.base_field.proofs.Field.+inverse.Goals as goal
-
-pub overflow_sub-result : goal.overflow_sub-result
-overflow_sub-result t c = omega (arith, div-le_self c.args.self.q c.args.a)
-
-pub inverse-requires : goal.inverse-requires
-inverse-requires t c =
-    let s = c.args in
-    let z : 0 < s.a = omega arith in
-    let h : s.self.q % s.a < s.a = mod-lt s.self.q z in
-    (omega arith, omega arith)
 
 pub overflow_mul-result : goal.overflow_mul-result
 overflow_mul-result t c =

@@ -5,16 +5,16 @@ use Rattle.bench_walk.proofs.advance.advance.Goals as goal
 use Rattle.bench_walk.proofs.advance.advance.Goals.{Else-at-steps-2, Else-at-steps-3, Joined-at-steps, then-at-steps, else-at-steps+then-at-steps-2, else-at-steps+else-at-steps-2+then-at-steps-3}
 
 pub loop-at-init : goal.loop-at-init
-loop-at-init c = multiplying_first c.args.w.now c.args.steps c.begin-at.ensures
+loop-at-init c = multiplying_first c.args.w.now c.args.steps.steps c.begin-at.ensures
 
 pub times_factor-twice_lead-requires : goal.times_factor-twice_lead-requires
 times_factor-twice_lead-requires c = multiplying_asks c.args.w.now c.loop-at.invariant (omega arith)
 
 pub stride-at-requires : goal.stride-at-requires
-stride-at-requires c = multiplying_going c.args.w.now c.loop-at.invariant c.if-at-steps.false c.requires
+stride-at-requires c = multiplying_going c.args.w.now c.loop-at.invariant c.if-at-steps.false c.args.steps.few
 
 -- after the first of the three steps
-second : (c : Else-at-steps-2) → Multiplying c.args.w.now c.args.steps (largest_coefficient * largest_factor) c.loop-at.b c.stride-at.new.after c.stride-at.new.remains c.stride-at.result c.times_factor-twice_lead.result
+second : (c : Else-at-steps-2) → Multiplying c.args.w.now c.args.steps.steps (largest_coefficient * largest_factor) c.loop-at.b c.stride-at.new.after c.stride-at.new.remains c.stride-at.result c.times_factor-twice_lead.result
 second c = multiplying_next c.args.w.now c.loop-at.invariant c.if-at-steps.false c.stride-at.ensures c.times_factor-twice_lead.ensures
 
 pub times_factor-twice_lead-requires-in-loop-at : goal.times_factor-twice_lead-requires-in-loop-at
@@ -23,11 +23,11 @@ times_factor-twice_lead-requires-in-loop-at c =
 
 pub stride-at-requires-in-loop-at : goal.stride-at-requires-in-loop-at
 stride-at-requires-in-loop-at c =
-    multiplying_going c.args.w.now (second (goal.at.stride-at-requires-in-loop-at c).Else-at-steps-2) c.if-at-steps-2.false c.requires
+    multiplying_going c.args.w.now (second (goal.at.stride-at-requires-in-loop-at c).Else-at-steps-2) c.if-at-steps-2.false c.args.steps.few
 
 -- after the second
 third : (c : Else-at-steps-3)
-    → Multiplying c.args.w.now c.args.steps (largest_coefficient * largest_factor * largest_factor) c.stride-at.new.after c.stride-at-in-loop-at.new.after c.stride-at-in-loop-at.new.remains c.stride-at-in-loop-at.result c.times_factor-twice_lead-in-loop-at.result
+    → Multiplying c.args.w.now c.args.steps.steps (largest_coefficient * largest_factor * largest_factor) c.stride-at.new.after c.stride-at-in-loop-at.new.after c.stride-at-in-loop-at.new.remains c.stride-at-in-loop-at.result c.times_factor-twice_lead-in-loop-at.result
 third c =
     let w = c.args.w.now in
     let t2 = multiplying_next w c.loop-at.invariant c.if-at-steps.false c.stride-at.ensures c.times_factor-twice_lead.ensures in
@@ -38,7 +38,7 @@ times_factor-requires c = multiplying_asks c.args.w.now (third (goal.at.times_fa
 
 pub stride-at-requires-in-loop-at-2 : goal.stride-at-requires-in-loop-at-2
 stride-at-requires-in-loop-at-2 c =
-    multiplying_going c.args.w.now (third (goal.at.stride-at-requires-in-loop-at-2 c).Else-at-steps-3) c.if-at-steps-3.false c.requires
+    multiplying_going c.args.w.now (third (goal.at.stride-at-requires-in-loop-at-2 c).Else-at-steps-3) c.if-at-steps-3.false c.args.steps.few
 
 pub loop-at-preserved : goal.loop-at-preserved
 loop-at-preserved c =
@@ -46,7 +46,7 @@ loop-at-preserved c =
     multiplying_reduced w (multiplying_next w (third (goal.at.loop-at-preserved c).Else-at-steps-3) c.if-at-steps-3.false c.stride-at-in-loop-at-2.ensures c.times_factor.ensures)
 
 -- where the loop is left, before any of its three steps
-met : (c : Joined-at-steps) → Multiplied c.args.w.now c.args.steps c.if-at-steps.at c.if-at-steps.twice_lead
+met : (c : Joined-at-steps) → Multiplied c.args.w.now c.args.steps.steps c.if-at-steps.at c.if-at-steps.twice_lead
 met c =
     let v = c.args.w.now in
     let t = c.loop-at.invariant in

@@ -4,10 +4,10 @@ use Rattle.bench_walk.proofs.half.try_on.Goals as goal
 use Rattle.bench_walk.proofs.half.try_on.Goals.{Else-second-steps, Else-third-steps}
 
 pub loop-at-init : goal.loop-at-init
-loop-at-init c = trying_first c.args.w.now c.args.steps c.begin-at.ensures
+loop-at-init c = trying_first c.args.w.now c.args.steps.steps c.begin-at.ensures
 
 pub stride-second-requires : goal.stride-second-requires
-stride-second-requires c = trying_going c.args.w.now c.loop-at.invariant c.if-at-steps.false c.requires
+stride-second-requires c = trying_going c.args.w.now c.loop-at.invariant c.if-at-steps.false c.args.steps.few
 
 pub stopped-counted-requires : goal.stopped-counted-requires
 stopped-counted-requires c = trying_tested c.args.w.now c.loop-at.invariant c.if-at-steps.false c.stride-second.ensures
@@ -18,12 +18,12 @@ returns-then-second-steps-clause-degree c =
     tried w (trying_next w c.loop-at.invariant c.if-at-steps.false c.stride-second.ensures c.stopped-counted.ensures) c.if-second-steps.true
 
 -- after the first of the three steps
-second : (c : Else-second-steps) → Trying c.args.w.now c.args.steps c.loop-at.b c.stride-second.new.after c.stride-second.new.remains c.loop-at.at.size (c.loop-at.counted + c.stopped-counted.result) c.stride-second.result
+second : (c : Else-second-steps) → Trying c.args.w.now c.args.steps.steps c.loop-at.b c.stride-second.new.after c.stride-second.new.remains (c.loop-at.counted + c.stopped-counted.result) c.stride-second.result
 second c = trying_next c.args.w.now c.loop-at.invariant c.if-at-steps.false c.stride-second.ensures c.stopped-counted.ensures
 
 pub stride-third-requires : goal.stride-third-requires
 stride-third-requires c =
-    trying_going c.args.w.now (second (goal.at.stride-third-requires c).Else-second-steps) c.if-second-steps.false c.requires
+    trying_going c.args.w.now (second (goal.at.stride-third-requires c).Else-second-steps) c.if-second-steps.false c.args.steps.few
 
 pub stopped-counted-requires-in-loop-at : goal.stopped-counted-requires-in-loop-at
 stopped-counted-requires-in-loop-at c =
@@ -37,7 +37,7 @@ returns-then-third-steps-clause-degree c =
 
 -- after the second
 third : (c : Else-third-steps)
-    → Trying c.args.w.now c.args.steps c.stride-second.new.after c.stride-third.new.after c.stride-third.new.remains c.stride-second.result.size (c.loop-at.counted + c.stopped-counted.result + c.stopped-counted-in-loop-at.result) c.stride-third.result
+    → Trying c.args.w.now c.args.steps.steps c.stride-second.new.after c.stride-third.new.after c.stride-third.new.remains (c.loop-at.counted + c.stopped-counted.result + c.stopped-counted-in-loop-at.result) c.stride-third.result
 third c =
     let w = c.args.w.now in
     let t2 = trying_next w c.loop-at.invariant c.if-at-steps.false c.stride-second.ensures c.stopped-counted.ensures in
@@ -45,7 +45,7 @@ third c =
 
 pub stride-at-requires : goal.stride-at-requires
 stride-at-requires c =
-    trying_going c.args.w.now (third (goal.at.stride-at-requires c).Else-third-steps) c.if-third-steps.false c.requires
+    trying_going c.args.w.now (third (goal.at.stride-at-requires c).Else-third-steps) c.if-third-steps.false c.args.steps.few
 
 pub stopped-counted-requires-in-loop-at-2 : goal.stopped-counted-requires-in-loop-at-2
 stopped-counted-requires-in-loop-at-2 c =

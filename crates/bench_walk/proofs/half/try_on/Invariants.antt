@@ -4,7 +4,7 @@ use Rattle.bench_walk.specs.Tried.{Trying}
 use Rattle.bench_walk.proofs.half.try_on.Given as goal
 
 abbrev pub invariant-loop-at : goal.invariant-loop-at
-invariant-loop-at l = Trying l.w l.steps l.a l.b l.x l.earlier l.counted l.at
+invariant-loop-at l = Trying l.w l.steps.steps l.a l.b l.x l.counted l.at
 
 abbrev pub decreases-loop-at : goal.decreases-loop-at
-decreases-loop-at l = l.steps - l.at.index.0
+decreases-loop-at l = l.steps.steps - l.at.index.0

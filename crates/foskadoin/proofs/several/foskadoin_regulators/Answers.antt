@@ -2,7 +2,7 @@
 -- them.
 use Rattle.std.proofs.Common.{◌∙◌}
 use Rattle.call_regulators.specs.Regulators.{outcomes}
-use Rattle.out_several.proofs.Least.{said_sixteen, plain_places_lem, least_places}
+use Rattle.out_several.proofs.Least.{said_sixteen, places_said, least_places}
 use Rattle.foskadoin.proofs.several.foskadoin_regulators.Goals as goal
 
 pub put_outcomes-requires : goal.put_outcomes-requires
@@ -19,6 +19,6 @@ returns c =
     record {
       words = c.put_outcomes.ensures.words_value.0 ∙ a.ensures.words;
       count = count;
-      says = plain_places_lem _ l a.ensures.says out c.put_outcomes.ensures.out_len.0 c.put_outcomes.ensures.out_len.1;
+      says = places_said _ l a.ensures.says out c.put_outcomes.ensures.out_len.0 c.put_outcomes.ensures.out_len.1;
       least = least_places _ l a.ensures.says out c.put_outcomes.ensures.out_len.1 a.ensures.least _ count;
     }

@@ -1,52 +1,48 @@
-use Rattle.std.proofs.Common.{◌+◌, ◌*◌, ◌-◌, ◌∙◌, arith, sym, ap, subst}
-use Rattle.walk_state.specs.Walk.{name}
+use Rattle.std.proofs.Common.{◌+◌, ◌*◌, ◌-◌, ◌∙◌, arith, sym, ap}
+use Rattle.std.proofs.lemmas.Grind.{common_steps}
 use Rattle.walk_stride.specs.Walked.{size_some}
 use Rattle.listing_words.specs.Stored.{stored}
 use Rattle.listing_record.specs.Entry.{record_from}
-use Rattle.listing_records.specs.Ideal.{Q_held}
+use Rattle.listing_records.specs.Ideal.{current_held, rest_within}
 use Rattle.listing_records.specs.Part.{put_stored}
-use Rattle.listing_records.specs.Listed.{degree_most, regulator_fits, place_fits, listed_first, listed_all, length_from, degree_within, rest_places, listed_going, listed_next}
+use Rattle.listing_records.specs.Listed.{regulator_fits, place_fits, listed_first, listed_all, length_from, degree_within, listed_going, listed_next}
+use Rattle.walk_run.specs.Found.{found_index}
 use Rattle.listing_records.proofs.listing.write_records.Goals as goal
 
 pub loop-i-init : goal.loop-i-init
-loop-i-init c = (c.begin-at.ensures.index_is, listed_first c.args.w.now c.begin-at.ensures)
+loop-i-init c =
+    record { index_is = c.begin-at.ensures.index_is; listed = listed_first c.args.w.now.walk.now c.begin-at.ensures }
 
-pub record_at-requires-clause-rest : goal.record_at-requires-clause-rest
-record_at-requires-clause-rest c = rest_places _ c.requires c.loop-i.invariant.1
+pub write_record-requires-clause-current : goal.write_record-requires-clause-current
+write_record-requires-clause-current c =
+    let t = c.loop-i.invariant.listed.walked in
+    (current_held _ t, size_some _ t)
 
-pub record_at-requires-clause-current : goal.record_at-requires-clause-current
-record_at-requires-clause-current c =
+pub write_record-requires-clause-rest : goal.write_record-requires-clause-rest
+write_record-requires-clause-rest c = rest_within _ c.loop-i.invariant.listed.walked
+
+pub write_record-requires-clause-counts : goal.write_record-requires-clause-counts
+write_record-requires-clause-counts c =
     let w = c.args.w.now in
-    let t = c.loop-i.invariant.1.walked in
-    (Q_held _ _ _ w.surd.admitted _ _ _ _ _ t.state, size_some w t)
-
-pub record_at-requires-clause-counts : goal.record_at-requires-clause-counts
-record_at-requires-clause-counts c =
-    let a = c.requires in
-    let v = c.loop-i.invariant in
-    let more = c.loop-i-test.true in
-    (omega (arith, a.index_fits, v.0, more), degree_within _ a v.1 (omega (arith, v.0, more)), regulator_fits _ a)
+    let i = found_index _ w.found in
+    (grind (arith, common_steps), degree_within w.walk.now w.found c.loop-i.invariant.listed (grind (arith, common_steps)), regulator_fits w.walk.now w.found)
 
 pub turn-at-requires : goal.turn-at-requires
-turn-at-requires c =
-    let v = c.loop-i.invariant in
-    listed_going _ c.requires v.1 (omega (arith, v.0, c.loop-i-test.true))
+turn-at-requires c = listed_going _ c.args.w.now.found c.loop-i.invariant.listed (grind (arith, common_steps))
 
 pub loop-i-preserved : goal.loop-i-preserved
 loop-i-preserved c =
     let w = c.args.w.now in
     let l = c.loop-i in
-    let words = record_from (name w) w.surd.n c.args.r.0 (l.at.index.0 + 1) l.at.degree.0 w.d l.rest l.current l.at.size in
-    let place = l.i * (w.surd.n + 4) in
-    let u = c.turn-at.ensures in
+    let s = w.walk.now.root.surd.n + 4 in
+    let place = l.i * s in
+    let fits = place_fits w.walk.now w.found c.args.out.now c.requires l.i c.loop-i-test.true in
     let put =
-    put_stored l.out words place (place + (w.surd.n + 4) - place)
-    (omega (arith, length_from w c.requires (l.at.index.0 + 1) l.at.degree.0 w.d l.rest l.current l.at.size))
-    (omega (arith, place_fits w c.requires l.i c.loop-i-test.true, l.invariant.1.long)) c.record_at.ensures
-    ∙ ap (λ j. stored l.out (j * (w.surd.n + 4)) words) (sym l.invariant.0) in
-    (u.taken.index_is ∙ ap (λ j. j + 1) l.invariant.0, listed_next w c.requires l.invariant.1 put u)
+    put_stored l.out (record_from w.walk.now w.r.0 l.current l.rest l.at) place (place + s - place)
+    (omega (arith, length_from w.walk.now w.found l.current l.rest l.at)) (omega (arith, fits, l.invariant.listed.long)) c.write_record.ensures
+    ∙ ap (λ j. stored l.out (j * s) (record_from w.walk.now w.r.0 l.current l.rest l.at)) (sym l.invariant.index_is) in
+    record { index_is = c.turn-at.ensures.taken.index_is ∙ ap (λ j. j + 1) l.invariant.index_is; listed = listed_next w.walk.now w.found l.invariant.listed put c.turn-at.ensures }
 
 pub returns : goal.returns
 returns c =
-    let v = c.loop-i.invariant in
-    listed_all _ c.requires v.1 (omega (arith, v.0, c.loop-i-test.false, c.loop-i.auto.i-end))
+    listed_all c.args.w.now.walk.now c.args.w.now.found c.args.out.now c.requires c.loop-i.invariant.listed (grind (arith, common_steps))

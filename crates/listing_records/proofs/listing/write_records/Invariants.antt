@@ -5,4 +5,7 @@ use Rattle.listing_records.proofs.listing.write_records.Given as goal
 
 abbrev pub invariant-loop-i : goal.invariant-loop-i
 invariant-loop-i l =
-    (l.at.index.0 ≡ l.i) × Listed l.w l.r.0 l.initial.out l.out l.before l.current l.rest l.at
+    record {
+      index_is : l.at.index.0 ≡ l.i;
+      listed : Listed l.w.walk.now l.w.r.0 l.initial.out l.out l.before l.current l.rest l.at;
+    }

@@ -1,10 +1,7 @@
 -- The values that are read are the job's.
-use Rattle.std.proofs.Common.{arith, rules, sym}
+use Rattle.std.proofs.Common.{rules, sym}
 use Rattle.ticket_read.specs.Accepted.{radicand_admitted, radicand_held, n_even, degree_two, budget_few, read_size, read_itself, read_refusal, are_read}
 use Rattle.ticket_several.proofs.job.read_reduced.Goals as goal
-
-pub reduced-radicand-requires : goal.reduced-radicand-requires
-reduced-radicand-requires c = (c.requires.past.n_most, omega arith)
 
 pub radicand_refusal-requires : goal.radicand_refusal-requires
 radicand_refusal-requires c =
@@ -26,7 +23,12 @@ invariant_of-result c =
 pub invariant_of-result-2 : goal.invariant_of-result-2
 invariant_of-result-2 c =
     let r = are_read c.requires.past c.reduced-radicand.ensures c.in_ok-radicand_refusal.ensures c.value.ensures in
-    record { even = n_even r; few = budget_few r }
+    record { few = budget_few r }
+
+pub invariant_of-result-3 : goal.invariant_of-result-3
+invariant_of-result-3 c =
+    let r = are_read c.requires.past c.reduced-radicand.ensures c.in_ok-radicand_refusal.ensures c.value.ensures in
+    record { even = n_even r }
 
 pub returns : goal.returns
 returns c =

@@ -5,7 +5,7 @@ use Rattle.walk_half.specs.Search.{Searching}
 use Rattle.walk_half.proofs.seek.seek_middle.Given as goal
 
 abbrev pub invariant-loop-by : goal.invariant-loop-by
-invariant-loop-by l = Searching l.w l.budget l.a l.b l.x l.earlier l.at
+invariant-loop-by l = Searching l.w l.budget.steps l.a l.b l.x l.at
 
 abbrev pub decreases-loop-by : goal.decreases-loop-by
-decreases-loop-by l = l.budget - l.at.index.0
+decreases-loop-by l = l.budget.steps - l.at.index.0

@@ -1,5 +1,5 @@
 -- The difference is at most 8,190, the inverse at most 4,095.
-use Rattle.std.proofs.Common.{◌+◌, ◌-◌, ◌*◌, ◌≤◌, mul-le-mul, arith, refl, get_or}
+use Rattle.std.proofs.Common.{◌+◌, ◌-◌, ◌*◌, ◌≤◌, mul-le-mul, arith, get_or}
 use Rattle.walk_short.specs.Start.{divided}
 use Rattle.walk_short.specs.Short.{inverse_less}
 use Rattle.walk_short.proofs.coefficients.dividend_at.Goals as goal
@@ -14,5 +14,5 @@ small c =
 pub overflow_mul-result : goal.overflow_mul-result
 overflow_mul-result c = omega (arith, small c)
 
-pub returns : goal.returns
-returns c = record { value = refl; upper_bound = small c }
+pub returns-clause-upper_bound : goal.returns-clause-upper_bound
+returns-clause-upper_bound c = small c

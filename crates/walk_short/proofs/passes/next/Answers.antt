@@ -1,8 +1,7 @@
 use Rattle.std.proofs.Common.{ℕ, ◌+◌, ◌-◌, ◌<◌, arith, sym, ap₂, ◌∙◌, get_or}
 use Rattle.spec_bridge.specs.Product.{shifted}
-use Rattle.base_places.specs.Places.{filled_none, filled_more, filled_all}
+use Rattle.base_places.specs.Places.{filled_none, filled_more}
 use Rattle.base_places.specs.TwoRows.{shifted_next, shifted_less}
-use Rattle.walk_short.specs.Step.{next_past}
 use Rattle.walk_short.specs.Start.{divided}
 use Rattle.walk_short.specs.Sizes.{positive, quo_reduced, rem_reduced}
 use Rattle.walk_short.specs.Short.{shifted_second, next_three}
@@ -11,9 +10,6 @@ use Rattle.walk_short.proofs.passes.next.Goals as goal
 pub loop-k-init : goal.loop-k-init
 unfolding shifted
 loop-k-init g c = (omega arith, omega arith, filled_none _)
-
-pub overflow_sub-x : goal.overflow_sub-x
-overflow_sub-x g c = omega (arith, c.args.s.now.ready.rest_within.reduced c.loop-k.k)
 
 pub overflow_add-x : goal.overflow_add-x
 overflow_add-x g c =
@@ -48,8 +44,3 @@ loop-k-preserved g c =
       l.invariant.0 ∙ sym (ap₂ (λ (u v : ℕ). u + (c.args.s.now.field.q - v)) (shifted_second c.args.remains.now l.k) (shifted_second c.args.s.now.rest.now l.k)),
       filled_more _ l.after l.k _ l.invariant.2 (omega arith) (next_three p d c.args.a0 c.args.a1 c.args.a2 c.requires.quadratic (omega arith) c.args.s.now.before.now c.args.remains.now c.requires.places.at l.k _ l.y l.z l.invariant.0 l.invariant.1 c.next_of.ensures),
     )
-
-pub returns : goal.returns
-returns g c =
-    let l = c.loop-k in
-    filled_all _ l.after l.k l.invariant.2 (λ i h. next_past c.args.s.now.ready i (omega arith))

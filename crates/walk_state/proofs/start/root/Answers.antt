@@ -1,5 +1,5 @@
 use Rattle.std.proofs.Common.{ℕ, suc, ◌-◌, arith, ◌≡◌, subst}
-use Rattle.walk_state.specs.Root.{Rooted, rooted_first, rooted_more, rooted_all}
+use Rattle.walk_state.specs.Rooted.{Rooted, rooted_first, rooted_more, rooted_all}
 use Rattle.walk_state.proofs.start.root.Goals as goal
 
 pub loop-e-init : goal.loop-e-init

@@ -1,5 +1,5 @@
 -- The places from e on are the root's, and each turn adds one.
-use Rattle.walk_state.specs.Root.{Rooted}
+use Rattle.walk_state.specs.Rooted.{Rooted}
 use Rattle.walk_state.proofs.start.root.Given as goal
 
 abbrev pub invariant-loop-e : goal.invariant-loop-e

@@ -1,24 +1,14 @@
-use Rattle.std.proofs.Common.{◌≤◌, ◌-◌, ◌+◌, ◌*◌, arith, ◌∙◌, get_or}
+use Rattle.std.proofs.Common.{◌-◌, ◌+◌, arith, ◌∙◌, get_or}
 use Rattle.spec_bridge.specs.Product.{dots}
 use Rattle.base_places.specs.Dots.{dots_all}
 use Rattle.walk_short.specs.Coefficients.{next_is}
-use Rattle.walk_step.specs.Terms.{more_none, more_term, more_next}
+use Rattle.walk_step.specs.Terms.{more_none, more_next}
 use Rattle.walk_step.proofs.step.next_at.Goals as goal
-
--- one term more fits
-term : (c : goal.After-t-in-loop-i-3-1)
-    → get_or c.args.a.now c.loop-i.i 0
-    * (get_or c.args.remains.now (c.args.k - c.loop-i.i) 0 + (c.args.s.now.field.q - get_or c.args.s.now.rest.now (c.args.k - c.loop-i.i) 0)) ≤ 33538050
-term c =
-    more_term c.args.s.now.field.q 0 c.args.a.now c.args.remains.now c.args.s.now.rest.now c.args.k c.args.s.now.field.is_field.2 c.requires.within.0.reduced c.requires.within.1 c.args.s.now.ready.rest_within.reduced c.loop-i.i
 
 pub loop-i-init : goal.loop-i-init
 loop-i-init c =
     let h = c.args.s.now.ready.before_reduced c.args.k in
     more_none c.args.s.now.field.q (get_or c.args.s.now.before.now c.args.k 0) c.args.a.now c.args.remains.now c.args.s.now.rest.now c.args.k (omega arith)
-
-pub overflow_add-t-in-loop-i : goal.overflow_add-t-in-loop-i
-overflow_add-t-in-loop-i c = let m = c.loop-i.invariant.small in omega (arith, term c)
 
 pub loop-i-preserved : goal.loop-i-preserved
 loop-i-preserved c =

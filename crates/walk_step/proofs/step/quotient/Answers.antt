@@ -4,7 +4,7 @@ use Rattle.spec_arithmetic.specs.Polynomials.{sub, mul}
 use Rattle.spec_bridge.specs.Arithmetic.{oks_sub}
 use Rattle.spec_bridge.specs.Residues.{model, inverse_lt}
 use Rattle.base_places.specs.Places.{length_zeros, at_zeros}
-use Rattle.base_places.specs.Down.{down_none, down_more, down_all}
+use Rattle.base_places.specs.Down.{down_none, down_more}
 use Rattle.walk_short.specs.Sizes.{positive, quo_past, quo_within_down}
 use Rattle.walk_short.specs.Quotient.{quo_at}
 use Rattle.walk_step.proofs.step.quotient.Goals as goal
@@ -15,16 +15,10 @@ loop-k-init c =
     let d = c.requires.division in
     down_none _ _ _ length_zeros (λ i h. at_zeros i) (quo_past p d)
 
-pub rest_at-v-requires : goal.rest_at-v-requires
-rest_at-v-requires c =
-    let p = c.args.f.is_field.0 in
-    let d = c.requires.division in
+pub rest_at-v-requires-clause-within : goal.rest_at-v-requires-clause-within
+rest_at-v-requires-clause-within c =
     let l = c.loop-k in
-    record {
-      k_bound = (omega arith, omega arith);
-      bounded = (d.twice_within.reduced, d.rest_within.reduced, d.current_within.reduced);
-      within = (quo_within_down p d l.a l.k (omega arith) l.invariant, λ i h. l.invariant.rest i (omega arith));
-    }
+    (quo_within_down c.args.f.is_field.0 c.requires.division l.a l.k (omega arith) l.invariant, λ i h. l.invariant.rest i (omega arith))
 
 pub overflow_mul-v : goal.overflow_mul-v
 overflow_mul-v c =
@@ -45,8 +39,3 @@ loop-k-preserved c =
     let v = c.rest_at-v.result in
     down_more _ l.a l.k (l.k - 1) _ l.invariant (omega arith) (omega arith)
     (c.reduce.ensures ∙ ap (λ (u : ℕ). (v * u) % c.args.f.q) c.requires.lead_inverse_value ∙ quo_at p d l.a (l.k - 1) (λ i h. l.invariant.done i (omega arith)) (λ i h. l.invariant.rest i (omega arith)) (l.k - 1 + c.args.size - 1) v (omega arith) c.rest_at-v.ensures)
-
-pub returns : goal.returns
-returns c =
-    let l = c.loop-k in
-    down_all _ l.a l.k l.invariant (omega arith)

@@ -1,23 +1,14 @@
-use Rattle.std.proofs.Common.{◌≤◌, ◌-◌, ◌+◌, ◌*◌, arith, ◌∙◌, get_or}
+use Rattle.std.proofs.Common.{◌-◌, ◌+◌, arith, ◌∙◌, get_or}
 use Rattle.spec_bridge.specs.Product.{dots}
 use Rattle.base_places.specs.Dots.{dots_all}
 use Rattle.walk_short.specs.Coefficients.{rest_is}
-use Rattle.walk_step.specs.Terms.{less_none, less_term, less_next}
+use Rattle.walk_step.specs.Terms.{less_none, less_next}
 use Rattle.walk_step.proofs.step.rest_at.Goals as goal
-
--- one term more fits
-term : (c : goal.After-t-in-loop-i-2-1)
-    → (c.args.f.q - get_or c.args.x.now c.loop-i.i 0) * get_or c.args.current.now (c.args.k - c.loop-i.i) 0 ≤ 16769025
-term c =
-    less_term c.args.f.q 0 c.args.x.now c.args.current.now c.args.k c.args.f.is_field.2 c.requires.within.0.reduced c.requires.bounded.2 c.loop-i.i
 
 pub loop-i-init : goal.loop-i-init
 loop-i-init c =
     let h = c.requires.bounded.0 c.args.k in
     (omega arith, less_none c.args.f.q (get_or c.args.twice.now c.args.k 0 + (c.args.f.q - get_or c.args.rest.now c.args.k 0)) c.args.x.now c.args.current.now c.args.k c.args.from c.requires.within.1 (omega arith))
-
-pub overflow_add-t-in-loop-i : goal.overflow_add-t-in-loop-i
-overflow_add-t-in-loop-i c = let m = c.loop-i.invariant.1.small in omega (arith, term c)
 
 pub loop-i-preserved : goal.loop-i-preserved
 loop-i-preserved c =

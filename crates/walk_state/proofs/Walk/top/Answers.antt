@@ -1,5 +1,0 @@
-use Rattle.walk_state.specs.Start.{top_is}
-use Rattle.walk_state.proofs.Walk.top.Goals as goal
-
-pub returns : goal.returns
-returns c = let s = c.args.self.now.surd in top_is s.n s.degree_two
