@@ -23,7 +23,7 @@ fn less_two(f: Field, v: u32, w0: u32, w1: u32, x: u32, y: u32) -> u32
 // The coefficient of v − w·u at i, where that of v is `from`.
 fn rest_many(f: Field, from: u32, w: &Poly, u: &Poly, i: usize) -> u32
     requires i_bound { (i < 129) × Ok f from }
-    requires fits { Fits f w.now × Fits f u.now }
+    requires fits { Fits f w.now × Within (name f) u.now.c u.now.size }
     ensures { result ≡ (ops f).sub from (get_or (mul_of (ops f) w.now.c u.now.c) i 0) }
 {
     let product = f.reduce(terms(f, &w.c, &u.c, i, w.size, u.size));
@@ -33,7 +33,7 @@ fn rest_many(f: Field, from: u32, w: &Poly, u: &Poly, i: usize) -> u32
 // The same where w has two places at most.
 fn rest_two(f: Field, from: u32, w: &Poly, u: &Poly, i: usize) -> u32
     requires i_bound { (i < 129) × Ok f from × (w.now.size ≤ 2) }
-    requires fits { Fits f w.now × Fits f u.now }
+    requires fits { Fits f w.now × Within (name f) u.now.c u.now.size }
     ensures { result ≡ (ops f).sub from (get_or (mul_of (ops f) w.now.c u.now.c) i 0) }
 {
     less_two(f, from, w.c[0], w.c[1], u.c[i], below(&u.c, i))
@@ -42,7 +42,7 @@ fn rest_two(f: Field, from: u32, w: &Poly, u: &Poly, i: usize) -> u32
 // The same, by the shorter way where there is one.
 pub fn rest_at(f: Field, from: u32, w: &Poly, u: &Poly, i: usize) -> u32
     requires i_bound { (i < 129) × Ok f from }
-    requires fits { Fits f w.now × Fits f u.now }
+    requires fits { Fits f w.now × Within (name f) u.now.c u.now.size }
     ensures { result ≡ (ops f).sub from (get_or (mul_of (ops f) w.now.c u.now.c) i 0) }
 {
     if w.size <= 2 {

@@ -7,7 +7,7 @@ use Rattle.base_division.proofs.difference.rest_two.Goals as goal
 pub less_two-requires : goal.less_two-requires
 less_two-requires c =
     let w = c.requires.fits.0.0 in
-    let u = c.requires.fits.1.0 in
+    let u = c.requires.fits.1 in
     let y = subst (λ (x : ℕ). x < c.args.f.q) (sym c.below.ensures) (shifted_less _ (omega arith) _ u.reduced 1 c.args.i) in
     (c.requires.i_bound.1, w.reduced 0, w.reduced 1, u.reduced c.args.i, y)
 

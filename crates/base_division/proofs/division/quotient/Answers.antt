@@ -17,7 +17,7 @@ rest_at-rest-requires-clause-fits c =
     let l = c.loop-k in
     let a = c.requires.0 in
     let short = a.short in
-    ((quo_within _ a c.requires.1 l.invariant.size l.k (omega arith) l.invariant.found, omega arith), held_fits c.requires.1)
+    ((quo_within _ a c.requires.1 l.invariant.size l.k (omega arith) l.invariant.found, omega arith), (held_fits c.requires.1).0)
 
 pub overflow_mul-rest : goal.overflow_mul-rest
 overflow_mul-rest c =
