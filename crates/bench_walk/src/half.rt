@@ -33,9 +33,8 @@ fn stopped(
     requires { Tested w.now before.now current.now rest.now remains.now }
     ensures { result ≤ 1 }
 {
-    // no index that is tried reaches the largest budget
-    let largest = Budget { steps: BUDGETS - 1 };
-    u64::from(stops(w, largest, before, current, rest, remains, at).is_some())
+    // no index reaches this budget
+    u64::from(stops(w, BUDGETS, before, current, rest, remains, at).is_some())
 }
 
 // The degree of p_{steps − 1}: so many steps, each followed by the tests, past every middle. The arrays and the counts

@@ -38,8 +38,8 @@ pub record Searching (walk : Walk) (budget : ℕ) (previous current : Poly) (res
 
 -- the walk is at `at` and Q has `size` places, and the outcome by the test that ended it is that of the ticket
 pub record Ended (walk : Walk) (budget size : ℕ) (at : Progress) (by : Stop) : Type 0 where
-  pub range : InRange (top walk) size at by
-  pub outcome : end_of (top walk) size at by ≡ half_of (ticket_with walk.root.surd budget)
+  pub range : InRange (top walk) size at (Some by)
+  pub outcome : end_of (top walk) size at (Some by) ≡ half_of (ticket_with walk.root.surd budget)
 
 pub searching_first : (walk : Walk) {previous current : Poly} {rest : List ℕ} {at : Progress} (budget : ℕ) → Begun walk previous current rest at → Searching walk budget previous current rest at
 searching_first walk budget b =
@@ -139,7 +139,7 @@ module _ (walk : Walk) {budget : ℕ} (few : budget < budgets) {previous current
     top_less i w = let k = degree_here i w in let l = degree_least (surd_of walk.root.surd.admitted) i in omega arith
 
     -- nothing overflows in it
-    range : (by : Stop) → Stops walk budget previous current rest remains at (Some by) → InRange (top walk) current.size at by
+    range : (by : Stop) → Stops walk budget previous current rest remains at (Some by) → InRange (top walk) current.size at (Some by)
     range by s =
         let k = searching_going in
         record {
@@ -148,8 +148,8 @@ module _ (walk : Walk) {budget : ℕ} (few : budget < budgets) {previous current
           index_few = k.few;
           degree_fits = k.degree_fits;
           size_less = size_less at.index.0 refl;
-          index_some = λ o. some at.index.0 refl (subst (λ (z : Stop). Stops walk budget previous current rest remains at (Some z)) o s);
-          top_less = λ o. less at.index.0 refl (subst (λ (z : Stop). Stops walk budget previous current rest remains at (Some z)) o s);
+          index_some = λ o. some at.index.0 refl (subst (Stops walk budget previous current rest remains at) o s);
+          top_less = λ o. less at.index.0 refl (subst (Stops walk budget previous current rest remains at) o s);
         }
       where
         some : (i : ℕ) → at.index.0 ≡ i → MultipleQ walk previous current → 0 < at.index.0
@@ -161,10 +161,10 @@ module _ (walk : Walk) {budget : ℕ} (few : budget < budgets) {previous current
         less (suc i) w m = top_less i w
 
     -- by the test of Q, at the index before that of `at`; that of `at` is not 0
-    ended_Q : MultipleQ walk previous current → end_of (top walk) current.size at ByQ ≡ half_of (ticket_with walk.root.surd budget)
+    ended_Q : MultipleQ walk previous current → end_of (top walk) current.size at (Some ByQ) ≡ half_of (ticket_with walk.root.surd budget)
     ended_Q m = go at.index.0 refl
       where
-        go : (i : ℕ) → at.index.0 ≡ i → end_of (top walk) current.size at ByQ ≡ half_of (ticket_with walk.root.surd budget)
+        go : (i : ℕ) → at.index.0 ≡ i → end_of (top walk) current.size at (Some ByQ) ≡ half_of (ticket_with walk.root.surd budget)
         go zero w = absurd (first_apart w m)
         go (suc j) w =
             let r = t.reached in
@@ -175,10 +175,10 @@ module _ (walk : Walk) {budget : ℕ} (few : budget < budgets) {previous current
             ∙ sym (half_by_Q walk.root.surd.n walk.root.surd.admitted budget j (2 * at.degree.0 - (top walk - 1)) (omega arith) (earlier_none j w) (holds_Q j w m) (omega arith))
 
     -- by that of P, at the same index
-    ended_P : ¬ MultipleQ walk previous current → rest ≡ remains → end_of (top walk) current.size at ByP ≡ half_of (ticket_with walk.root.surd budget)
+    ended_P : ¬ MultipleQ walk previous current → rest ≡ remains → end_of (top walk) current.size at (Some ByP) ≡ half_of (ticket_with walk.root.surd budget)
     ended_P apart s = go at.index.0 refl (remainders s)
       where
-        go : (i : ℕ) → at.index.0 ≡ i → left (ops walk) (D walk) (root walk) at.index.0 ≡ left (ops walk) (D walk) (root walk) (suc at.index.0) → end_of (top walk) current.size at ByP ≡ half_of (ticket_with walk.root.surd budget)
+        go : (i : ℕ) → at.index.0 ≡ i → left (ops walk) (D walk) (root walk) at.index.0 ≡ left (ops walk) (D walk) (root walk) (suc at.index.0) → end_of (top walk) current.size at (Some ByP) ≡ half_of (ticket_with walk.root.surd budget)
         go zero w s = absurd (first_remainders walk.root.surd.admitted (subst (λ (i : ℕ). left (ops walk) (D walk) (root walk) i ≡ left (ops walk) (D walk) (root walk) (suc i)) w s))
         go (suc j) w s =
             let r = t.reached in
@@ -192,10 +192,10 @@ module _ (walk : Walk) {budget : ℕ} (few : budget < budgets) {previous current
             ∙ sym (half_by_P walk.root.surd.n walk.root.surd.admitted budget j (2 * at.degree.0 - (current.size - 1)) (omega arith) (earlier_none j w) (fails_Q j w apart) (remainders_P walk.root.surd.admitted j same) (omega arith))
 
     -- no test holds before the budget
-    ended_budget : NoTestHolds (name walk) (g walk) (D walk) at.index.0 → at.index.0 ≡ budget → end_of (top walk) current.size at Budget ≡ half_of (ticket_with walk.root.surd budget)
+    ended_budget : NoTestHolds (name walk) (g walk) (D walk) at.index.0 → at.index.0 ≡ budget → end_of (top walk) current.size at (Some Budget) ≡ half_of (ticket_with walk.root.surd budget)
     ended_budget none b = ap₂ half_spent b (t.walked.degree_is ∙ ap (degree_before (ops walk) (D walk) (root walk)) b) ∙ sym (half_none walk.root.surd.n walk.root.surd.admitted budget (subst (NoTestHolds (name walk) (g walk) (D walk)) b none))
 
-    ended : (by : Stop) → Stops walk budget previous current rest remains at (Some by) → end_of (top walk) current.size at by ≡ half_of (ticket_with walk.root.surd budget)
+    ended : (by : Stop) → Stops walk budget previous current rest remains at (Some by) → end_of (top walk) current.size at (Some by) ≡ half_of (ticket_with walk.root.surd budget)
     ended ByQ s = ended_Q s
     ended ByP s = ended_P s.0 s.1
     ended Budget s = ended_budget (none_before s.0 s.1) s.2

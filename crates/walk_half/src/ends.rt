@@ -9,21 +9,22 @@ use walk_stride::Progress;
 
 // The outcome where the walk is at `at`, of index i, and Q has `size` places, by the test at i − 1 that ended it. By that of Q,
 // R = 2·deg p_{i−1} − (g + 1) and m = 2i − 1; by that of P, R = 2·deg p_{i−1} − deg Q_i and m = 2i.
-pub fn ending(top: usize, size: usize, at: Progress, by: Stop) -> HalfOutcome
+pub fn ending(top: usize, size: usize, at: Progress, by: Option<Stop>) -> HalfOutcome
     requires { InRange top size at by }
     ensures { half_meaning result ≡ end_of top size at by }
 {
     let index = at.index;
     let degree = at.degree;
     match by {
-        Stop::ByQ => HalfOutcome::Found(
+        Some(Stop::ByQ) => HalfOutcome::Found(
             Distance(2 * degree.0 - (top as u64 - 1)),
             Index(2 * index.0 - 1),
         ),
-        Stop::ByP => HalfOutcome::Found(
+        Some(Stop::ByP) => HalfOutcome::Found(
             Distance(2 * degree.0 - (size as u64 - 1)),
             Index(2 * index.0),
         ),
-        Stop::Budget => HalfOutcome::Spent(index, degree),
+        // by the budget; None ends nothing
+        _ => HalfOutcome::Spent(index, degree),
     }
 }

@@ -32,19 +32,19 @@ pub fn seek_middle(w: &Walk, budget: Budget) -> HalfOutcome
     let mut at = begin(w, &mut a, &mut b, &mut x);
     let (by, size) = loop {
         let second = stride(w, &a, &b, &x, &mut y, &mut c, at);
-        if let Some(by) = stops(w, budget, &a, &b, &x, &y, at) { // Q in b
+        if let Some(by) = stops(w, budget.steps, &a, &b, &x, &y, at) { // Q in b
             break (by, b.size);
         }
         let third = stride(w, &b, &c, &y, &mut z, &mut a, second);
-        if let Some(by) = stops(w, budget, &b, &c, &y, &z, second) { // Q in c
+        if let Some(by) = stops(w, budget.steps, &b, &c, &y, &z, second) { // Q in c
             at = second;
             break (by, c.size);
         }
         at = stride(w, &c, &a, &z, &mut x, &mut b, third);
-        if let Some(by) = stops(w, budget, &c, &a, &z, &x, third) { // Q in a
+        if let Some(by) = stops(w, budget.steps, &c, &a, &z, &x, third) { // Q in a
             at = third;
             break (by, a.size);
         }
     };
-    ending(w.root.top(), size, at, by)
+    ending(w.root.top(), size, at, Some(by))
 }

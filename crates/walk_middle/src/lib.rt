@@ -8,7 +8,6 @@ ghost use Rattle.base_field.specs.Named.{name};
 ghost use Rattle.base_places.specs.Places.{Within};
 ghost use Rattle.walk_middle.specs.Middle.{Proportional, Tested, Stops};
 
-use base_counters::Budget;
 use base_field::Field;
 use base_polynomial::Poly;
 use walk_state::Walk;
@@ -57,7 +56,7 @@ fn multiple(f: Field, x: &Poly, y: &Poly) -> bool
 // on. None: half the walk goes on.
 pub fn stops(
     w: &Walk,
-    budget: Budget,
+    budget: u64,
     before: &Poly,
     current: &Poly,
     rest: &[u32; 129],
@@ -65,14 +64,14 @@ pub fn stops(
     at: Progress,
 ) -> Option<Stop>
     requires { Tested w.now before.now current.now rest.now remains.now }
-    ensures { Stops w.now budget.steps before.now current.now rest.now remains.now at result }
+    ensures { Stops w.now budget before.now current.now rest.now remains.now at result }
 {
     let top = w.root.top();
     if multiple(w.root.surd.field, before, current) {
         Some(Stop::ByQ)
     } else if rest[..top] == remains[..top] {
         Some(Stop::ByP)
-    } else if at.index.0 == budget.steps {
+    } else if at.index.0 == budget {
         Some(Stop::Budget)
     } else {
         None

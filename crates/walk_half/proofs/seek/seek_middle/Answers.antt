@@ -1,4 +1,5 @@
-use Rattle.std.proofs.Common.{◌∙◌}
+use Rattle.std.proofs.Common.{ℕ, Some, ap, ◌∙◌}
+use Rattle.walk_half.specs.Outcome.{end_of}
 use Rattle.walk_half.specs.Search.{Searching, Ended, searching_first, searching_going, searching_tested, searching_next, searching_ended, ended_at}
 use Rattle.walk_half.proofs.seek.seek_middle.Goals as goal
 use Rattle.walk_half.proofs.seek.seek_middle.Goals.{In_default, In_default-stops, Joined-stops, in-Some, in_default+in-Some-stops, in_default+in_default-stops+in-Some-stops-2}
@@ -58,4 +59,6 @@ pub ending-requires : goal.ending-requires
 ending-requires c = rw c.top.ensures (ended (goal.at.ending-requires c).Joined-stops).range
 
 pub returns : goal.returns
-returns c = c.ending.ensures ∙ rw c.top.ensures (ended (goal.at.returns c).Joined-stops).outcome
+returns c =
+    let w = c.match-stops in
+    c.ending.ensures ∙ ap (λ (top : ℕ). end_of top w.by.1 w.at (Some w.by.0)) c.top.ensures ∙ (ended (goal.at.returns c).Joined-stops).outcome
