@@ -2,10 +2,15 @@
 use Rattle.std.specs.Prelude.{List, ℕ}
 use Rattle.base_field.specs.Named.{name}
 use Rattle.walk_short.specs.declared.Step.{Step}
+use Rattle.walk_short.specs.declared.Divided.{Divided}
 use Rattle.walk_short.specs.Step.{step_quo, next_rem, next_q, Division, division, Moved, Stepped}
 
 abbrev pub quo : Step → List ℕ
 quo s = step_quo (name s.field) s.twice.now s.current.now s.rest.now
+
+-- the same of its division alone
+abbrev pub quotient_of : Divided → List ℕ
+quotient_of d = step_quo (name d.field) d.twice.now d.current.now d.rest.now
 
 -- the next remainder
 abbrev pub rem : Step → List ℕ
