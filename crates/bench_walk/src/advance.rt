@@ -8,7 +8,7 @@ use base_polynomial::Poly;
 use base_surd::Surd;
 use walk_lead::times_factor;
 use walk_state::Walk;
-use walk_stride::{begin, stride};
+use walk_stride::{begin_walk, stride_on};
 
 // The degree reached, and the product of 2/lc Q_j.
 #[repr(C)]
@@ -29,7 +29,7 @@ fn advance(w: &Walk, steps: Budget) -> Made
     let mut x = [0u32; 129];
     let mut y = [0u32; 129];
     let mut z = [0u32; 129];
-    let mut at = begin(w, &mut a, &mut b, &mut x);
+    let mut at = begin_walk(w, &mut a, &mut b, &mut x);
     let q = w.root.surd.field.q as u64;
     let mut twice_lead: u64 = 1;
     loop {
@@ -37,17 +37,17 @@ fn advance(w: &Walk, steps: Budget) -> Made
             break;
         }
         twice_lead = times_factor(twice_lead, w.inverses, &b);
-        at = stride(w, &a, &b, &x, &mut y, &mut c, at);
+        at = stride_on(w, &a, &b, &x, &mut y, &mut c, at);
         if at.index.0 == steps.steps {
             break;
         }
         twice_lead = times_factor(twice_lead, w.inverses, &c);
-        at = stride(w, &b, &c, &y, &mut z, &mut a, at);
+        at = stride_on(w, &b, &c, &y, &mut z, &mut a, at);
         if at.index.0 == steps.steps {
             break;
         }
         twice_lead = times_factor(twice_lead, w.inverses, &a) % q;
-        at = stride(w, &c, &a, &z, &mut x, &mut b, at);
+        at = stride_on(w, &c, &a, &z, &mut x, &mut b, at);
     }
     Made {
         degree: at.degree.0,

@@ -10,7 +10,7 @@ use base_polynomial::Poly;
 use base_surd::Surd;
 use walk_middle::stops;
 use walk_state::Walk;
-use walk_stride::{Progress, begin, stride};
+use walk_stride::{Progress, begin_walk, stride_on};
 
 // The degree reached, and how often the tests said that half the walk stops: of this count only a bound is
 // proved.
@@ -49,23 +49,23 @@ fn try_on(w: &Walk, steps: Budget) -> Tried
     let mut x = [0u32; 129];
     let mut y = [0u32; 129];
     let mut z = [0u32; 129];
-    let mut at = begin(w, &mut a, &mut b, &mut x);
+    let mut at = begin_walk(w, &mut a, &mut b, &mut x);
     let mut counted: u64 = 0;
     let degree = loop {
         if at.index.0 == steps.steps {
             break at.degree;
         }
-        let second = stride(w, &a, &b, &x, &mut y, &mut c, at);
+        let second = stride_on(w, &a, &b, &x, &mut y, &mut c, at);
         counted += stopped(w, &a, &b, &x, &y, at); // Q in b
         if second.index.0 == steps.steps {
             break second.degree;
         }
-        let third = stride(w, &b, &c, &y, &mut z, &mut a, second);
+        let third = stride_on(w, &b, &c, &y, &mut z, &mut a, second);
         counted += stopped(w, &b, &c, &y, &z, second); // Q in c
         if third.index.0 == steps.steps {
             break third.degree;
         }
-        at = stride(w, &c, &a, &z, &mut x, &mut b, third);
+        at = stride_on(w, &c, &a, &z, &mut x, &mut b, third);
         counted += stopped(w, &c, &a, &z, &x, third); // Q in a
     };
     Tried {

@@ -6,7 +6,7 @@ ghost use Rattle.base_surd.specs.Surd.{ticket_with};
 use base_polynomial::Poly;
 use listing_record::write_record;
 use walk_run::FoundWalk;
-use walk_stride::{begin, turn};
+use walk_stride::{begin_walk, turn_on};
 
 // The listing of √D: its m records, where m is the quasi-period.
 pub fn write_records(w: &FoundWalk, out: &mut [u32])
@@ -17,7 +17,7 @@ pub fn write_records(w: &FoundWalk, out: &mut [u32])
     let mut before = Poly::zero();
     let mut current = Poly::zero();
     let mut rest = [0u32; 129];
-    let mut at = begin(w.walk, &mut before, &mut current, &mut rest);
+    let mut at = begin_walk(w.walk, &mut before, &mut current, &mut rest);
     for i in 0..w.m.0 as usize {
         let place = i * words;
         write_record(
@@ -28,6 +28,6 @@ pub fn write_records(w: &FoundWalk, out: &mut [u32])
             w.r,
             &mut out[place..place + words],
         );
-        at = turn(w.walk, &mut before, &mut current, &mut rest, at);
+        at = turn_on(w.walk, &mut before, &mut current, &mut rest, at);
     }
 }

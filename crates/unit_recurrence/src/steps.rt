@@ -13,7 +13,7 @@ use unit_combine::pair::fold;
 use walk_run::FoundWalk;
 use walk_state::Walk;
 use walk_step::step::quotient;
-use walk_stride::{Progress, begin, turn};
+use walk_stride::{Progress, begin_walk, turn_on};
 
 // The partial quotient, of twice − rest by Q.
 fn partial(w: &Walk, current: &Poly, rest: &[u32; 129]) -> Poly
@@ -75,9 +75,9 @@ pub fn steps(w: &FoundWalk, p: &mut [u32], s: &mut [u32], x: &mut [u32], y: &mut
     let mut before = Poly::zero();
     let mut current = Poly::zero();
     let mut rest = [0u32; 129];
-    let mut at = begin(w.walk, &mut before, &mut current, &mut rest);
+    let mut at = begin_walk(w.walk, &mut before, &mut current, &mut rest);
     while at.index < w.m {
         advance(w, &current, &rest, at, p, s, x, y);
-        at = turn(w.walk, &mut before, &mut current, &mut rest, at);
+        at = turn_on(w.walk, &mut before, &mut current, &mut rest, at);
     }
 }

@@ -10,7 +10,7 @@ use base_counters::Budget;
 use base_polynomial::Poly;
 use walk_middle::stops;
 use walk_state::Walk;
-use walk_stride::{begin, stride};
+use walk_stride::{begin_walk, stride_on};
 
 // The steps from index 0 on, each followed by the tests at the index before the one that it starts from, against
 // the budget. The loop leaves with the test that holds first. No step is made twice: the remainder that the test of P
@@ -29,18 +29,18 @@ pub fn seek_middle(w: &Walk, budget: Budget) -> HalfOutcome
     let mut x = [0u32; 129];
     let mut y = [0u32; 129];
     let mut z = [0u32; 129];
-    let mut at = begin(w, &mut a, &mut b, &mut x);
+    let mut at = begin_walk(w, &mut a, &mut b, &mut x);
     let (by, size) = loop {
-        let second = stride(w, &a, &b, &x, &mut y, &mut c, at);
+        let second = stride_on(w, &a, &b, &x, &mut y, &mut c, at);
         if let Some(by) = stops(w, budget.steps, &a, &b, &x, &y, at) { // Q in b
             break (by, b.size);
         }
-        let third = stride(w, &b, &c, &y, &mut z, &mut a, second);
+        let third = stride_on(w, &b, &c, &y, &mut z, &mut a, second);
         if let Some(by) = stops(w, budget.steps, &b, &c, &y, &z, second) { // Q in c
             at = second;
             break (by, c.size);
         }
-        at = stride(w, &c, &a, &z, &mut x, &mut b, third);
+        at = stride_on(w, &c, &a, &z, &mut x, &mut b, third);
         if let Some(by) = stops(w, budget.steps, &c, &a, &z, &x, third) { // Q in a
             at = third;
             break (by, a.size);

@@ -12,7 +12,7 @@ use walk_ends::found;
 use walk_lead::times_factor;
 use walk_outcome::Outcome;
 use walk_state::Walk;
-use walk_stride::{begin, stride};
+use walk_stride::{begin_walk, stride_on};
 
 // The steps from index 0 on, against the budget. The loop leaves with the first index from 1 on whose Q is constant.
 // The arrays take turns, so that nothing is copied: Q stands in b, c, a and b again, the Q before it in a, b, c and a,
@@ -27,7 +27,7 @@ pub fn seek(w: &Walk, budget: Budget) -> Outcome
     let mut x = [0u32; 129];
     let mut y = [0u32; 129];
     let mut z = [0u32; 129];
-    let mut at = begin(w, &mut a, &mut b, &mut x);
+    let mut at = begin_walk(w, &mut a, &mut b, &mut x);
     let q = w.root.surd.field.q as u64;
     let mut twice_lead: u64 = 1;
     let constant = loop {
@@ -35,7 +35,7 @@ pub fn seek(w: &Walk, budget: Budget) -> Outcome
             return Outcome::Spent(at.index, at.degree); // b and deg p_{b − 1}
         }
         twice_lead = times_factor(twice_lead, w.inverses, &b);
-        at = stride(w, &a, &b, &x, &mut y, &mut c, at);
+        at = stride_on(w, &a, &b, &x, &mut y, &mut c, at);
         if c.size == 1 {
             break c.c[0];
         }
@@ -43,7 +43,7 @@ pub fn seek(w: &Walk, budget: Budget) -> Outcome
             return Outcome::Spent(at.index, at.degree);
         }
         twice_lead = times_factor(twice_lead, w.inverses, &c);
-        at = stride(w, &b, &c, &y, &mut z, &mut a, at);
+        at = stride_on(w, &b, &c, &y, &mut z, &mut a, at);
         if a.size == 1 {
             break a.c[0];
         }
@@ -51,7 +51,7 @@ pub fn seek(w: &Walk, budget: Budget) -> Outcome
             return Outcome::Spent(at.index, at.degree);
         }
         twice_lead = times_factor(twice_lead, w.inverses, &a) % q;
-        at = stride(w, &c, &a, &z, &mut x, &mut b, at);
+        at = stride_on(w, &c, &a, &z, &mut x, &mut b, at);
         if b.size == 1 {
             break b.c[0];
         }

@@ -11,7 +11,7 @@ use Rattle.listing_records.proofs.listing.write_records.Goals as goal
 
 pub loop-i-init : goal.loop-i-init
 loop-i-init c =
-    record { index_is = c.begin-at.ensures.index_is; listed = listed_first c.args.w.now.walk.now c.begin-at.ensures }
+    record { index_is = c.begin_walk-at.ensures.index_is; listed = listed_first c.args.w.now.walk.now c.begin_walk-at.ensures }
 
 pub write_record-requires-clause-current : goal.write_record-requires-clause-current
 write_record-requires-clause-current c =
@@ -27,8 +27,8 @@ write_record-requires-clause-counts c =
     let i = found_index _ w.found in
     (grind (arith, common_steps), degree_within w.walk.now w.found c.loop-i.invariant.listed (grind (arith, common_steps)), regulator_fits w.walk.now w.found)
 
-pub turn-at-requires : goal.turn-at-requires
-turn-at-requires c = listed_going _ c.args.w.now.found c.loop-i.invariant.listed (grind (arith, common_steps))
+pub turn_on-at-requires : goal.turn_on-at-requires
+turn_on-at-requires c = listed_going _ c.args.w.now.found c.loop-i.invariant.listed (grind (arith, common_steps))
 
 pub loop-i-preserved : goal.loop-i-preserved
 loop-i-preserved c =
@@ -41,7 +41,7 @@ loop-i-preserved c =
     put_stored l.out (record_from w.walk.now w.r.0 l.current l.rest l.at) place (place + s - place)
     (omega (arith, length_from w.walk.now w.found l.current l.rest l.at)) (omega (arith, fits, l.invariant.listed.long)) c.write_record.ensures
     ∙ ap (λ j. stored l.out (j * s) (record_from w.walk.now w.r.0 l.current l.rest l.at)) (sym l.invariant.index_is) in
-    record { index_is = c.turn-at.ensures.taken.index_is ∙ ap (λ j. j + 1) l.invariant.index_is; listed = listed_next w.walk.now w.found l.invariant.listed put c.turn-at.ensures }
+    record { index_is = c.turn_on-at.ensures.taken.index_is ∙ ap (λ j. j + 1) l.invariant.index_is; listed = listed_next w.walk.now w.found l.invariant.listed put c.turn_on-at.ensures }
 
 pub returns : goal.returns
 returns c =
