@@ -58,11 +58,13 @@ pub fn remainder<const DEGREE: usize>(s: &Step, a0: u32, a1: u32, a2: u32, remai
     ensures { Places remains.new (λ i. get_or (rem s.now) i 0) }
 {
     *remains = [0u32; 129];
+    // By names of their own: through `s` each would be loaded anew at every place, and no four places done at once.
+    let (twice, rest, current) = (s.twice, s.rest, s.current);
     let mut y: u32 = 0;
     let mut z: u32 = 0;
     for k in 0..s.size - 1 {
-        let x = s.current[k];
-        remains[k] = rest_of::<DEGREE>(s.field, s.twice[k], s.rest[k], a0, a1, a2, x, y, z);
+        let x = current[k];
+        remains[k] = rest_of::<DEGREE>(s.field, twice[k], rest[k], a0, a1, a2, x, y, z);
         z = y;
         y = x;
     }
@@ -84,12 +86,14 @@ pub fn next<const DEGREE: usize>(
     ensures { Places after.new (λ i. get_or (after_of s.now) i 0) }
 {
     *after = [0u32; 129];
+    // By names of their own, as above.
+    let (before, rest) = (s.before, s.rest);
     let q = s.field.q;
     let mut y = q;
     let mut z = q;
     for k in 0..s.size + DEGREE {
-        let x = remains[k] + (q - s.rest[k]);
-        after[k] = next_of::<DEGREE>(s.field, s.before[k], a0, a1, a2, x, y, z);
+        let x = remains[k] + (q - rest[k]);
+        after[k] = next_of::<DEGREE>(s.field, before[k], a0, a1, a2, x, y, z);
         z = y;
         y = x;
     }
