@@ -1,13 +1,13 @@
 // The program "orders": a ticket's words from standard input, the answer of the call `listing` as lines on
 // standard output.
-// `output` promises that the bytes are those of the definition `program_of`. No contract can speak of what the
+// `write_output` promises that the bytes are those of the definition `program_of`. No contract can speak of what the
 // system gives or takes.
 #![tactic(auto)]
 
 ghost use Rattle.std.specs.Prelude.{◌≤◌, length, take};
 ghost use Rattle.std.specs.Io.KnownBytes.{Consumes};
 
-use out_program::output;
+use out_program::write_output;
 use out_text::Text;
 use std::io::Read;
 
@@ -31,7 +31,7 @@ fn main(rt: HostRuntime) {
     let mut bytes = [0u8; 280];
     let count = read_full(&mut rt.reader(), &mut bytes);
     let mut text = Text::new();
-    output(&bytes[..count], &mut text);
+    write_output(&bytes[..count], &mut text);
     // What standard output does not take is lost, and the status stays 0.
     let _ = rt.write_all(text.as_bytes());
 }

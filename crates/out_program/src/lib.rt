@@ -1,7 +1,8 @@
-// What the program prints, as a text: the first line of the answer, and after "found" one line a record.
+// What the program prints, as a text or as bytes in a lent buffer: the first line of the answer, and after
+// "found" one line a record.
 #![tactic(auto)]
 
-ghost use Rattle.std.specs.Prelude.{◌≡◌, ◌<◌, [], length, replicate};
+ghost use Rattle.std.specs.Prelude.{◌≡◌, ◌<◌, [], ◌++◌, length, take, drop, replicate};
 ghost use Rattle.spec_definitions.specs.Ticket.{ticket_of};
 ghost use Rattle.spec_definitions.specs.Listing.{listing_answer};
 ghost use Rattle.spec_definitions.specs.Program.{words_of, read_bytes, answer_lines, program_of};
@@ -39,7 +40,7 @@ fn push_answer(text: &mut Text, ticket: &[u32])
 }
 
 // All that the program prints for an input, in place of what the text had.
-pub fn output(input: &[u8], text: &mut Text)
+pub fn write_output(input: &[u8], text: &mut Text)
     ensures prints { text.new ≡ program_of input.now }
     ensures least { LeastPrinted (words_of (read_bytes input.now)) text.new }
 {
@@ -49,4 +50,18 @@ pub fn output(input: &[u8], text: &mut Text)
     }
     let mut words = [0u32; 70];
     push_answer(text, words_of(input, &mut words));
+}
+
+// All that the program prints for an input, at the front of a buffer that has room for every answer, and its
+// length; what stands after it is kept.
+pub fn output(input: &[u8], out: &mut [u8; 98304]) -> usize
+    ensures size { result ≡ length (program_of input.now) }
+    ensures prints { out.new ≡ program_of input.now ++ drop result out.old }
+    ensures least { LeastPrinted (words_of (read_bytes input.now)) (take result out.new) }
+{
+    let mut text = Text::new();
+    write_output(input, &mut text);
+    let printed = text.as_bytes();
+    out[..printed.len()].copy_from_slice(printed);
+    printed.len()
 }

@@ -36,7 +36,8 @@ impl Text {
     }
 
     pub fn as_bytes(&self) -> &[u8]
-        ensures { result.now ≡ self.now }
+        ensures bytes { result.now ≡ self.now }
+        ensures room { length result.now ≤ ROOM }
     {
         &self.bytes[..self.len]
     }

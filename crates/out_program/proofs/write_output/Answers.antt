@@ -5,7 +5,7 @@ use Rattle.spec_definitions.specs.Program.{first_line, program_of}
 use Rattle.walk_outcome.specs.Outcome.{meaning}
 use Rattle.out_program.specs.Program.{program_cut, program_whole}
 use Rattle.out_program.specs.FirstLine.{printed_least}
-use Rattle.out_program.proofs.output.Goals as goal
+use Rattle.out_program.proofs.write_output.Goals as goal
 
 pub returns-then-has_cut_word : goal.returns-then-has_cut_word
 returns-then-has_cut_word c =
