@@ -4,6 +4,8 @@
 // differs, then the counts.
 #![tactic(auto)]
 
+ghost use Rattle.std.specs.Prelude.{◌≤◌, length, IfOk};
+
 use base_counters::Distance;
 use base_ideal::Ideal;
 use base_polynomial::Poly;
@@ -29,7 +31,9 @@ fn read_operand<'a, R: Read>(
     input: &mut R,
     q: &'a mut [u32],
     p: &'a mut [u32],
-) -> io::Result<Operand<'a>> {
+) -> io::Result<Operand<'a>>
+    ensures { IfOk result (λ o. (length o.pair.q.now ≤ length q.old) × (length o.pair.p.now ≤ length p.old)) }
+{
     let q = read_list(input, q)?;
     let p = read_list(input, p)?;
     let distance = Distance(read_wide(input)?);
