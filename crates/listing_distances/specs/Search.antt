@@ -1,7 +1,6 @@
--- The search for the last record within a distance: the records are taken one after the other from the last one on.
-use Rattle.std.specs.Prelude.{ℕ, zero, suc, ◌-◌, ◌<◌, ◌≤◌, ◌≡◌, Bool, true, false, List, leb, Option, Some, None, MatchOption}
-use Rattle.std.specs.Option.{unwrap_or}
-use Rattle.std.proofs.Common.{arith, refl, sym, ap, ◌∙◌, subst, eq-or-lt_of_le, ⊎_elim}
+-- The search for the last record within a distance, record by record from the last one down.
+use Rattle.std.specs.Prelude.{ℕ, zero, suc, ◌-◌, ◌<◌, ◌≡◌, Bool, true, false, List, leb}
+use Rattle.std.proofs.Common.{arith, refl, sym, ap, ◌∙◌}
 use Rattle.spec_definitions.specs.Lookup.{record_at, last_within}
 use Rattle.listing_distances.specs.Distances.{distance_of, distance_of_record}
 
@@ -14,18 +13,15 @@ module _ (l : List ℕ) (n y : ℕ) where
   unfolding last_within
   step_within k = ap (λ (d : ℕ). elim (leb d y) [ true ↦ suc k | false ↦ last_within l n y k ]) (sym (distance_of_record l n (suc k)))
 
-  last_none : (m : ℕ) → ((k : ℕ) → k ≤ m → within k ≡ false) → last_within l n y m ≡ 0
-  unfolding last_within
-  last_none zero none = refl
-  last_none (suc m) none = step_within m ∙ rw (none (suc m) (omega arith)) (last_none m (λ k h. none k (omega arith)))
+  pub last_found : (k : ℕ) → 0 < k → within k ≡ true → last_within l n y k ≡ k
+  last_found zero some h = absurd (omega arith)
+  last_found (suc k) some h = step_within k ∙ rw h refl
 
-  last_found : (m i : ℕ) → i ≤ m → within i ≡ true → ((k : ℕ) → i < k → k ≤ m → within k ≡ false) → last_within l n y m ≡ i
-  unfolding last_within
-  last_found zero i h found above = omega arith
-  last_found (suc m) i h found above =
-      ⊎_elim (λ (e : i ≡ suc m). step_within m ∙ rw (subst (λ (j : ℕ). within j ≡ true) e found) (sym e))
-      (λ (low : i < suc m). step_within m ∙ rw (above (suc m) low (omega arith)) (last_found m i (omega arith) found (λ k a b. above k a (omega arith)))) (eq-or-lt_of_le h)
+  pub last_below : (k : ℕ) → 0 < k → within k ≡ false → last_within l n y k ≡ last_within l n y (k - 1)
+  last_below zero some h = absurd (omega arith)
+  last_below (suc k) some h = let e : k ≡ suc k - 1 = omega arith in step_within k ∙ rw h (ap (last_within l n y) e)
 
-  pub last_of_found : (m : ℕ) (r : Option ℕ) → 0 < m → MatchOption r ((k : ℕ) → k < m → within k ≡ false) (λ i. (i < m) × (within i ≡ true) × ((k : ℕ) → i < k → k < m → within k ≡ false)) → unwrap_or r 0 ≡ last_within l n y (m - 1)
-  last_of_found m None some none = sym (last_none (m - 1) (λ k h. none k (omega arith)))
-  last_of_found m (Some i) some (low, found, above) = sym (last_found (m - 1) i (omega arith) found (λ k a b. above k a (omega arith)))
+  -- of the first record alone
+  pub last_first : last_within l n y 0 ≡ 0
+  unfolding last_within
+  last_first = refl

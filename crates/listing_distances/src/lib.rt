@@ -28,14 +28,18 @@ pub fn rising(listing: Listing) -> bool
         .is_sorted_by(|here, next| distance_of(here) < distance_of(next))
 }
 
-// The last record with distance at most y, counted from 0; the first where there is none.
+// The last record with distance at most y, counted from 0; the first where there is none. The records are counted once, as
+// a chunk taken from the end would cost a division for each of them.
 pub fn last_within(listing: Listing, y: Distance) -> usize
     ensures last { result ≡ last_within listing.entry.words.now listing.entry.n y.0 (record_count listing.entry.words.now listing.entry.n - 1) }
     ensures fits { result * (listing.entry.n + 4) + (listing.entry.n + 4) ≤ length listing.entry.words.now }
 {
-    listing
-        .words
-        .chunks_exact(listing.n + 4)
-        .rposition(|words| distance_of(words) <= y)
-        .unwrap_or(0)
+    let size = listing.n + 4;
+    for k in (1..listing.words.len() / size).rev() {
+        let at = k * size;
+        if distance_of(&listing.words[at..at + size]) <= y {
+            return k;
+        }
+    }
+    0
 }

@@ -1,24 +1,37 @@
-use Rattle.std.proofs.Common.{rules, arith, ◌∙◌, leb, ◌+◌}
-use Rattle.spec_definitions.specs.Lookup.{record_at, record_count}
-use Rattle.listing_whole.specs.Records.{count_positive, count_length, record_fits}
+use Rattle.std.proofs.Common.{rules, arith, ◌≡◌, ◌+◌, ◌*◌, ◌-◌, true, false, leb, refl, sym, ap, ◌∙◌, ℕ, take, drop}
+use Rattle.spec_definitions.specs.Lookup.{record_at, record_count, last_within}
 use Rattle.listing_distances.specs.Distances.{distance_of}
-use Rattle.listing_distances.specs.Search.{last_of_found}
-use Rattle.listing_distances.specs.Back.{last_chunk_passing}
+use Rattle.listing_distances.specs.Search.{last_found, last_below, last_first}
 use Rattle.listing_distances.proofs.last_within.Goals as goal
 
+pub loop-k-init : goal.loop-k-init
+unfolding record_count
+loop-k-init c = refl
+
+pub returns-then-le-clause-last : goal.returns-then-le-clause-last
+unfolding record_at
+returns-then-le-clause-last c =
+    let listing = c.args.listing in
+    let s = listing.n + 4 in
+    let k = c.loop-k.k - 1 in
+    let size : k * s + s - k * s ≡ s = omega arith in
+    let same = c.distance_of.ensures ∙ ap (λ (m : ℕ). distance_of (take m (drop (k * s) listing.words.now))) size in
+    let e : leb c.distance_of.result.0 c.args.y.0 ≡ true = search rules in
+    sym (c.loop-k.invariant ∙ last_found listing.words.now listing.n c.args.y.0 k (omega arith) (ap (λ (d : ℕ). leb d c.args.y.0) (sym same) ∙ e))
+
+pub loop-k-preserved : goal.loop-k-preserved
+unfolding record_at
+loop-k-preserved c =
+    let listing = c.args.listing in
+    let s = listing.n + 4 in
+    let k = c.loop-k.k - 1 in
+    let size : k * s + s - k * s ≡ s = omega arith in
+    let same = c.distance_of.ensures ∙ ap (λ (m : ℕ). distance_of (take m (drop (k * s) listing.words.now))) size in
+    let e : leb c.distance_of.result.0 c.args.y.0 ≡ false = search rules in
+    c.loop-k.invariant ∙ last_below listing.words.now listing.n c.args.y.0 k (omega arith) (ap (λ (d : ℕ). leb d c.args.y.0) (sym same) ∙ e)
+
 pub returns-clause-last : goal.returns-clause-last
-unfolding record_at record_count
 returns-clause-last c =
     let listing = c.args.listing in
-    let chunks = c.chunks_exact.ensures in
-    let whole = count_length listing.words.now listing.n listing.is_whole in
-    c.unwrap_or.ensures
-    ∙ last_of_found listing.words.now listing.n c.args.y.0 _ _ (count_positive _ _ listing.is_whole)
-    (last_chunk_passing c.chunks_exact.result (λ s. s.rest.now) (λ s. s.rem.now) (λ s. s.size) listing.words.now (listing.n + 4) _ (λ words. leb (distance_of words) c.args.y.0) (omega arith) chunks.rest whole chunks.size chunks.count c.rposition.ensures.ran (λ x b q called. search rules))
-
-pub returns-clause-fits : goal.returns-clause-fits
-unfolding record_count
-returns-clause-fits c =
-    let r = c.args.listing.is_whole in
-    let some = count_positive _ _ r in
-    record_fits _ _ r _ (grind (arith, c.unwrap_or.ensures, c.rposition.ensures.bound))
+    let first : c.loop-k.k - 1 ≡ 0 = omega arith in
+    sym (c.loop-k.invariant ∙ ap (last_within listing.words.now listing.n c.args.y.0) first ∙ last_first _ _ _)
