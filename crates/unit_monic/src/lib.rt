@@ -9,14 +9,14 @@ ghost use Rattle.unit_combine.specs.Written.{Written};
 
 use base_field::Field;
 
-// The list becomes u times what it holds.
+// The list becomes u times what it holds, each place by one reduction.
 fn multiply(f: Field, u: u32, list: &mut [u32])
     requires u_ok { Ok f u }
     requires bounded { Bounded f.q list.old }
     ensures { Written (scale (ops f) u list.old) list.new }
 {
-    for v in list.iter_mut() {
-        *v = f.mul(u, *v);
+    for k in 0..list.len() {
+        list[k] = f.reduce(u * list[k]);
     }
 }
 
