@@ -20,7 +20,7 @@ use Rattle.walk_stride.specs.Walked.{Walked, walked_first, going}
 use Rattle.walk_stride.specs.Stride.{turn_walked}
 use Rattle.listing_words.specs.Stored.{stored, stored_none, stored_append, stored_first, length_stored}
 use Rattle.walk_run.specs.Found.{Found, found_index, found_degree}
-use Rattle.listing_record.specs.Entry.{entry_from, record_from}
+use Rattle.listing_record.specs.Entry.{entry_with, record_with, entry_from, record_from}
 use Rattle.listing_records.specs.Ideal.{ideal_is}
 use Rattle.listing_records.specs.Records.{records_next}
 
@@ -45,7 +45,7 @@ module _ (w : Walk) {b R m c : ℕ} (found : Found w.root.surd b R m c) where
 
   -- how many words a record has
   pub length_from : (current : Poly) (rest : List ℕ) (at : Progress) → length (record_from w R current rest at) ≡ n + 4
-  unfolding record_from
+  unfolding record_from record_with
   length_from current rest at = length_record (ops w) n _ _ found.even
 
   module _ (old : List ℕ) (room : m * (n + 4) ≤ length old) where
@@ -72,7 +72,7 @@ module _ (w : Walk) {b R m c : ℕ} (found : Found w.root.surd b R m c) where
     listed_going more = going w t.walked (let l = found_index w.root.surd found in omega arith)
 
     record_is : (budget : ℕ) → record_from w R current rest at ≡ record_of (ticket_with w.root.surd budget) R at.index.0
-    unfolding record_of record_from entry_from entry_of root_of
+    unfolding record_of record_from record_with entry_from entry_with entry_of root_of
     record_is budget = ap (λ (x : Entry). record_words (ops w) n (mirror_of (ops w) R x) x) entry_is
       where
         entry_is : entry_from w current rest at ≡ entry_of (ticket_with w.root.surd budget) at.index.0

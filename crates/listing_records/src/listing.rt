@@ -4,7 +4,7 @@ ghost use Rattle.spec_definitions.specs.Listing.{listing_of};
 ghost use Rattle.base_surd.specs.Surd.{ticket_with};
 
 use base_polynomial::Poly;
-use listing_record::write_record;
+use listing_record::write_record_of_walk;
 use walk_run::FoundWalk;
 use walk_stride::{begin_walk, turn_on};
 
@@ -20,7 +20,7 @@ pub fn write_records(w: &FoundWalk, out: &mut [u32])
     let mut at = begin_walk(w.walk, &mut before, &mut current, &mut rest);
     for i in 0..w.m.0 as usize {
         let place = i * words;
-        write_record(
+        write_record_of_walk(
             w.walk,
             &current,
             &rest,

@@ -13,16 +13,16 @@ pub loop-i-init : goal.loop-i-init
 loop-i-init c =
     record { index_is = c.begin_walk-at.ensures.index_is; listed = listed_first c.args.w.now.walk.now c.begin_walk-at.ensures }
 
-pub write_record-requires-clause-current : goal.write_record-requires-clause-current
-write_record-requires-clause-current c =
+pub write_record_of_walk-requires-clause-current : goal.write_record_of_walk-requires-clause-current
+write_record_of_walk-requires-clause-current c =
     let t = c.loop-i.invariant.listed.walked in
     (current_held _ t, size_some _ t)
 
-pub write_record-requires-clause-rest : goal.write_record-requires-clause-rest
-write_record-requires-clause-rest c = rest_within _ c.loop-i.invariant.listed.walked
+pub write_record_of_walk-requires-clause-rest : goal.write_record_of_walk-requires-clause-rest
+write_record_of_walk-requires-clause-rest c = rest_within _ c.loop-i.invariant.listed.walked
 
-pub write_record-requires-clause-counts : goal.write_record-requires-clause-counts
-write_record-requires-clause-counts c =
+pub write_record_of_walk-requires-clause-counts : goal.write_record_of_walk-requires-clause-counts
+write_record_of_walk-requires-clause-counts c =
     let w = c.args.w.now in
     let i = found_index _ w.found in
     (grind (arith, common_steps), degree_within w.walk.now w.found c.loop-i.invariant.listed (grind (arith, common_steps)), regulator_fits w.walk.now w.found)
@@ -39,7 +39,7 @@ loop-i-preserved c =
     let fits = place_fits w.walk.now w.found c.args.out.now c.requires l.i c.loop-i-test.true in
     let put =
     put_stored l.out (record_from w.walk.now w.r.0 l.current l.rest l.at) place (place + s - place)
-    (omega (arith, length_from w.walk.now w.found l.current l.rest l.at)) (omega (arith, fits, l.invariant.listed.long)) c.write_record.ensures
+    (omega (arith, length_from w.walk.now w.found l.current l.rest l.at)) (omega (arith, fits, l.invariant.listed.long)) c.write_record_of_walk.ensures
     ∙ ap (λ j. stored l.out (j * s) (record_from w.walk.now w.r.0 l.current l.rest l.at)) (sym l.invariant.index_is) in
     record { index_is = c.turn_on-at.ensures.taken.index_is ∙ ap (λ j. j + 1) l.invariant.index_is; listed = listed_next w.walk.now w.found l.invariant.listed put c.turn_on-at.ensures }
 
