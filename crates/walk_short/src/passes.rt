@@ -59,12 +59,12 @@ pub fn remainder<const DEGREE: usize>(s: &Step, a0: u32, a1: u32, a2: u32, remai
 {
     *remains = [0u32; 129];
     // By names of their own: through `s` each would be loaded anew at every place, and no four places done at once.
-    let (twice, rest, current) = (s.twice, s.rest, s.current);
+    let (f, twice, rest, current) = (s.field, s.twice, s.rest, s.current);
     let mut y: u32 = 0;
     let mut z: u32 = 0;
     for k in 0..s.size - 1 {
         let x = current[k];
-        remains[k] = rest_of::<DEGREE>(s.field, twice[k], rest[k], a0, a1, a2, x, y, z);
+        remains[k] = rest_of::<DEGREE>(f, twice[k], rest[k], a0, a1, a2, x, y, z);
         z = y;
         y = x;
     }
@@ -87,13 +87,13 @@ pub fn next<const DEGREE: usize>(
 {
     *after = [0u32; 129];
     // By names of their own, as above.
-    let (before, rest) = (s.before, s.rest);
-    let q = s.field.q;
+    let (f, before, rest) = (s.field, s.before, s.rest);
+    let q = f.q;
     let mut y = q;
     let mut z = q;
     for k in 0..s.size + DEGREE {
         let x = remains[k] + (q - rest[k]);
-        after[k] = next_of::<DEGREE>(s.field, before[k], a0, a1, a2, x, y, z);
+        after[k] = next_of::<DEGREE>(f, before[k], a0, a1, a2, x, y, z);
         z = y;
         y = x;
     }

@@ -50,11 +50,11 @@ fn next_at(s: &Step, a: &[u32; 129], l: usize, remains: &[u32; 129], k: usize) -
     requires within { Within (name s.now.field) a.now l × Bounded s.now.field.q remains.now }
     ensures { result ≡ get_or (add (ops s.now.field) s.now.before.now (mul (ops s.now.field) a.now (sub (ops s.now.field) remains.now s.now.rest.now))) k 0 }
 {
-    let q = s.field.q;
+    let (q, rest) = (s.field.q, s.rest);
     let end = (k + 1).min(l);
     let mut t = s.before[k];
     for i in 0..end {
-        t += a[i] * (remains[k - i] + (q - s.rest[k - i]));
+        t += a[i] * (remains[k - i] + (q - rest[k - i]));
     }
     s.field.reduce(t)
 }
