@@ -1,9 +1,7 @@
 -- In a refusal each array takes a zero polynomial.
-use Rattle.std.proofs.Common.{ap, ◌∙◌}
-use Rattle.std.proofs.lemmas.Result.{IfErr-weaker}
-use Rattle.out_polynomials.specs.Lent.{zero_put}
+use Rattle.out_polynomials.specs.Lent.{zero_put, in_refusal}
 use Rattle.out_polynomials.proofs.put_product.Goals as goal
 
-pub returns-clause-zeros : goal.returns-clause-zeros
-returns-clause-zeros c =
-    IfErr-weaker c.args.a.outcome _ _ (λ _ e. (zero_put (c.put.ensures ∙ ap (λ t. t.s) e) c.zero.ensures, zero_put (c.put-2.ensures ∙ ap (λ t. t.ideal.q) e) c.zeros.ensures.0, zero_put (c.put-3.ensures ∙ ap (λ t. t.ideal.p) e) c.zeros.ensures.1)) c.numbered-number.ensures.zero
+pub returns-in-Err-clause-zeros : goal.returns-in-Err-clause-zeros
+returns-in-Err-clause-zeros c =
+    in_refusal c.args.a.outcome (λ _. (zero_put c.put-in-Err.ensures c.zero.ensures, zero_put c.put-in-Err-2.ensures c.zero-in-Err.ensures, zero_put c.put-in-Err-3.ensures c.zero-in-Err-2.ensures))
