@@ -48,18 +48,15 @@ fn words_fit(s: &Surd, x: Pair<'_>) -> bool
     x.q.len() == g + 1 && x.p.len() == g && all_below(s.field, x.q) && all_below(s.field, x.p)
 }
 
-// The polynomial whose coefficients are the words.
-fn read(words: &[u32]) -> Poly
+// r becomes the polynomial whose coefficients are the words.
+fn read(words: &[u32], r: &mut Poly)
     requires { length words.now ≤ 129 }
-    ensures { (f : FieldName) → IsCoefficient f 0 → some_not (fits f) words.now ≡ false → Is f result (trim (ops_of f) words.now) }
+    ensures { (f : FieldName) → IsCoefficient f 0 → some_not (fits f) words.now ≡ false → Is f r.new (trim (ops_of f) words.now) }
 {
     let n = words.len();
-    let mut c = [0u32; 129];
-    c[..n].copy_from_slice(words);
-    Poly {
-        c,
-        size: top(&c, n),
-    }
+    r.c = [0u32; 129];
+    r.c[..n].copy_from_slice(words);
+    r.size = top(&r.c, n);
 }
 
 // Q, which is not 0, divides D − P², where D is the radicand.
@@ -83,21 +80,29 @@ fn is_ideal(f: Field, radicand: &Poly, x: &Ideal) -> bool
     x.q.lead() == 1 && x.p.size < x.q.size && divides(f, radicand, x)
 }
 
-// The ideal of a pair, where this passes the test of refusal 9.
-pub fn read_pair(s: &Surd, x: Pair<'_>) -> Result<Ideal, Refusal>
+// z becomes the ideal of a pair, where this passes the test of refusal 9.
+pub fn read_ideal(s: &Surd, x: Pair<'_>, z: &mut Ideal) -> Result<(), Refusal>
     ensures refused { (b : ℕ) → refused_by result ≡ pair_refusal (ticket_with s.now b) (words_of x.entry) }
-    ensures ideal { IfOk result (Paired s.now x.entry.q.now x.entry.p.now) }
+    ensures ideal { IfOk result (λ _. Paired s.now x.entry.q.now x.entry.p.now z.new) }
 {
     if !words_fit(s, x) {
         return Err(Refusal::Ideal);
     }
-    let ideal = Ideal {
-        q: read(x.q),
-        p: read(x.p),
-    };
-    if is_ideal(s.field, &s.radicand, &ideal) {
-        Ok(ideal)
+    read(x.q, &mut z.q);
+    read(x.p, &mut z.p);
+    if is_ideal(s.field, &s.radicand, z) {
+        Ok(())
     } else {
         Err(Refusal::Ideal)
     }
+}
+
+// The same ideal by value.
+pub fn read_pair(s: &Surd, x: Pair<'_>) -> Result<Ideal, Refusal>
+    ensures refused { (b : ℕ) → refused_by result ≡ pair_refusal (ticket_with s.now b) (words_of x.entry) }
+    ensures ideal { IfOk result (Paired s.now x.entry.q.now x.entry.p.now) }
+{
+    let mut ideal = Ideal::zeros();
+    read_ideal(s, x, &mut ideal)?;
+    Ok(ideal)
 }

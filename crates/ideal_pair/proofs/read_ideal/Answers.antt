@@ -4,7 +4,7 @@ use Rattle.std.proofs.Common.{arith}
 use Rattle.spec_fields.specs.Named.{ok_zero}
 use Rattle.spec_laws.specs.Admitted.{is_field}
 use Rattle.ideal_pair.specs.Pair.{below_none, q_result, p_result, p_size, refused_words, refused_ideal, accepted, accepted_pair}
-use Rattle.ideal_pair.proofs.read_pair.Goals as goal
+use Rattle.ideal_pair.proofs.read_ideal.Goals as goal
 
 pub returns-then-not-words_fit-clause-refused : goal.returns-then-not-words_fit-clause-refused
 returns-then-not-words_fit-clause-refused c = refused_words c.args.s.now _ _ c.words_fit.ensures.1 c.if-not-words_fit.true
