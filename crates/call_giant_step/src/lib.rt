@@ -11,7 +11,7 @@ use base_counters::Distance;
 use base_ideal::Ideal;
 use base_refusals::Refusal;
 use call_product::Pair;
-use call_product::operands::read_operands;
+use call_product::operands::read_ideals;
 use ideal_giant::FARTHEST;
 pub use ideal_giant::Shift;
 use ideal_giant::step::giant;
@@ -45,13 +45,15 @@ fn stepped(
 ) -> Result<GiantStep, Refusal>
     ensures { GiantStepSays result (giant_answer ticket.now (words_of x.entry) d1.0 (words_of y.entry) d2.0) }
 {
-    let o = read_operands(ticket, x, y)?;
+    let mut a = Ideal::zeros();
+    let mut b = Ideal::zeros();
+    let surd = read_ideals(ticket, x, y, &mut a, &mut b)?;
     if far(d1, d2) {
         return Err(Refusal::Distance);
     }
-    let r = Root::new(&o.surd);
+    let r = Root::new(&surd);
     let mut ideal = Ideal::zeros();
-    let shift = giant(&r, &o.x, d1, &o.y, d2, &mut ideal);
+    let shift = giant(&r, &a, d1, &b, d2, &mut ideal);
     Ok(GiantStep { ideal, shift })
 }
 

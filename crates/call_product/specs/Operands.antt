@@ -22,6 +22,9 @@ refusal_by n wrong = elim n [ zero ↦ elim wrong [ true ↦ 9 | false ↦ 0 ] |
 unfoldable pub operands_refusal : List ℕ → Pair ℕ → Pair ℕ → ℕ
 operands_refusal w x y = refusal_by (refusal_of w) (wrong_pair (ticket_of w) x y)
 
+abbrev pub operands_of : Surd → Ideal → Ideal → Operands
+operands_of s x y = record { surd = s; x = x; y = y }
+
 -- what was read of a ticket's words and of two pairs, none of which is refused
 pub record AreRead (w : List ℕ) (x y : Pair ℕ) (o : Operands) : Type 0 where
   pub budget : ℕ
@@ -64,7 +67,7 @@ module _ (w : List ℕ) (x y : Pair ℕ) where
     pair_right h = ap (refusal_by 0) (sym h) ∙ sym by_pairs
 
 -- a refusal that is passed on
-pub passed_on : (r : Result Operands Refusal) (e : Refusal) {k : ℕ} → IsErrAnd r (λ i. i ≡ e) → number_of e ≡ k → refused_by r ≡ k
+pub passed_on : {A : Type 0} (r : Result A Refusal) (e : Refusal) {k : ℕ} → IsErrAnd r (λ i. i ≡ e) → number_of e ≡ k → refused_by r ≡ k
 passed_on (Ok o) e h s = absurd h
 passed_on (Err i) e h s = ap number_of h ∙ s
 

@@ -8,7 +8,7 @@ ghost use Rattle.spec_definitions.specs.Products.{product_answer};
 ghost use Rattle.ideal_pair.specs.Pair.{words_of};
 ghost use Rattle.call_product.specs.Products.{ProductSays};
 
-use crate::operands::read_operands;
+use crate::operands::read_ideals;
 use base_answers::Answer;
 use base_ideal::Ideal;
 use base_polynomial::Poly;
@@ -29,10 +29,12 @@ pub type ProductAnswer = Answer<Result<IdealProduct, Refusal>>;
 fn multiplied(ticket: &[u32], x: Pair<'_>, y: Pair<'_>) -> Result<IdealProduct, Refusal>
     ensures { ProductSays result (product_answer ticket.now (words_of x.entry) (words_of y.entry)) }
 {
-    let o = read_operands(ticket, x, y)?;
+    let mut a = Ideal::zeros();
+    let mut b = Ideal::zeros();
+    let surd = read_ideals(ticket, x, y, &mut a, &mut b)?;
     let mut s = Poly::zero();
     let mut ideal = Ideal::zeros();
-    ideal_product::product(&o.surd, &o.x, &o.y, &mut s, &mut ideal);
+    ideal_product::product(&surd, &a, &b, &mut s, &mut ideal);
     Ok(IdealProduct { s, ideal })
 }
 

@@ -7,24 +7,24 @@ use Rattle.call_product.specs.Operands.{are_operands}
 use Rattle.call_giant_step.specs.GiantSteps.{passed_on, both_near, refused, far_refused, stepped}
 use Rattle.call_giant_step.proofs.stepped.Goals as goal
 
-pub returns-in_err-o : goal.returns-in_err-o
-returns-in_err-o c = passed_on c.from_residual.ensures.1 (refused _ _ _ _ _ c.in_err-o.ensures.refused)
+pub returns-in_err-surd : goal.returns-in_err-surd
+returns-in_err-surd c = passed_on c.from_residual.ensures.1 (refused _ _ _ _ _ c.in_err-surd.ensures.refused)
 
 pub returns-then-far : goal.returns-then-far
-returns-then-far c = far_refused _ _ _ _ _ c.in_ok-o.ensures.read (sym c.far.ensures ∙ c.if-far.true) refl
+returns-then-far c = far_refused _ _ _ _ _ c.in_ok-surd.ensures.read (sym c.far.ensures ∙ c.if-far.true) refl
 
 -- √D with its root is of the same √D
 pub giant-shift-requires : goal.giant-shift-requires
 giant-shift-requires c =
-    let o = c.in_ok-o.o in
+    let o = c.read_ideals.new in
     record {
-      operands = subst (λ (s : Surd). Operand s o.x × Operand s o.y) (sym c.new-r.ensures) (are_operands c.in_ok-o.ensures.read);
+      operands = subst (λ (s : Surd). Operand s o.a × Operand s o.b) (sym c.new-r.ensures) (are_operands c.in_ok-surd.ensures.read);
       distances = both_near _ _ (sym c.far.ensures ∙ c.if-far.false);
     }
 
 pub returns : goal.returns
 returns c =
-    let o = c.in_ok-o.o in
+    let o = c.read_ideals.new in
     let r = c.giant-shift in
-    stepped _ _ _ _ _ c.in_ok-o.ensures.read (sym c.far.ensures ∙ c.if-far.false)
-    (subst (λ (s : Surd). Stepped s o.x c.args.d1.0 o.y c.args.d2.0 r.new.z r.result) c.new-r.ensures r.ensures)
+    stepped _ _ _ _ _ c.in_ok-surd.ensures.read (sym c.far.ensures ∙ c.if-far.false)
+    (subst (λ (s : Surd). Stepped s o.a c.args.d1.0 o.b c.args.d2.0 r.new.z r.result) c.new-r.ensures r.ensures)

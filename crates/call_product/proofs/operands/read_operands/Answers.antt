@@ -1,18 +1,6 @@
--- What is refused first is the definition's refusal; where nothing is, both pairs have passed.
-use Rattle.call_product.specs.Operands.{passed_on, ticket_refused, first_refused, second_refused, none_refused}
+-- A refusal is passed on.
+use Rattle.call_product.specs.Operands.{passed_on}
 use Rattle.call_product.proofs.operands.read_operands.Goals as goal
 
-pub returns-in_err-t-clause-refused : goal.returns-in_err-t-clause-refused
-returns-in_err-t-clause-refused c = passed_on _ _ c.from_residual.ensures.1 (ticket_refused _ _ _ _ c.in_err-t.ensures.refused)
-
-pub returns-in_err-x-clause-refused : goal.returns-in_err-x-clause-refused
-returns-in_err-x-clause-refused c =
-    passed_on _ _ c.from_residual-in_err-x.ensures.1 (first_refused _ _ _ c.in_ok-t.t.surd c.in_ok-t.ensures.refused c.in_ok-t.ensures.read _ c.in_err-x.ensures.refused)
-
-pub returns-in_err-y-clause-refused : goal.returns-in_err-y-clause-refused
-returns-in_err-y-clause-refused c =
-    passed_on _ _ c.from_residual-in_err-y.ensures.1 (second_refused _ _ _ c.in_ok-t.t.surd c.in_ok-t.ensures.refused c.in_ok-t.ensures.read c.in_ok-x.ensures.ideal _ c.in_err-y.ensures.refused)
-
-pub returns-clause-refused : goal.returns-clause-refused
-returns-clause-refused c =
-    none_refused _ _ _ c.in_ok-t.t.surd c.in_ok-t.ensures.refused c.in_ok-t.ensures.read c.in_ok-x.ensures.ideal c.in_ok-y.ensures.ideal
+pub returns-in_err-surd-clause-refused : goal.returns-in_err-surd-clause-refused
+returns-in_err-surd-clause-refused c = passed_on _ _ c.from_residual.ensures.1 c.in_err-surd.ensures.refused
