@@ -184,7 +184,7 @@ struct foskadoin_estimate_numbers foskadoin_estimate(const uint32_t *ticket, siz
    memcpy, memmove and memset alone. So calls may run at the same time in several threads, as long as no list
    that one of them writes is passed to another.
 
-   Stack. The stored vectors (n up to 64) reach 42,100 bytes. Four functions are recursive: the greatest
+   Stack. The stored vectors (n up to 64) reach 41,100 bytes. Four functions are recursive: the greatest
    common divisor of D and its derivative (a level for each division, at most n), that of two Q with its
    factors (likewise, at most n/2), the steps of a reduction (at most n/2) and the inverse modulo q (at most
    21 levels). A smaller stack is not noticed: the call may then end in a fault of memory.

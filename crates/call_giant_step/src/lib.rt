@@ -15,6 +15,7 @@ use call_product::operands::read_ideals;
 use ideal_giant::FARTHEST;
 pub use ideal_giant::Shift;
 use ideal_giant::step::giant;
+use ticket_read::read_ticket;
 use walk_state::root::Root;
 
 // The giant step of two ideals: the reduced ideal (Q, P), f and the distance.
@@ -45,13 +46,14 @@ fn stepped(
 ) -> Result<GiantStep, Refusal>
     ensures { GiantStepSays result (giant_answer ticket.now (words_of x.entry) d1.0 (words_of y.entry) d2.0) }
 {
+    let t = read_ticket(ticket)?;
     let mut a = Ideal::zeros();
     let mut b = Ideal::zeros();
-    let surd = read_ideals(ticket, x, y, &mut a, &mut b)?;
+    read_ideals(&t.surd, x, y, &mut a, &mut b)?;
     if far(d1, d2) {
         return Err(Refusal::Distance);
     }
-    let r = Root::new(&surd);
+    let r = Root::new(&t.surd);
     let mut ideal = Ideal::zeros();
     let shift = giant(&r, &a, d1, &b, d2, &mut ideal);
     Ok(GiantStep { ideal, shift })

@@ -1,5 +1,5 @@
 -- A ticket and two pairs: the number of what refuses them first, and what is read of them where nothing does.
-use Rattle.std.specs.Prelude.{ℕ, zero, suc, ◌<◌, ◌≡◌, refl, Bool, true, false, List, Result, Ok, Err}
+use Rattle.std.specs.Prelude.{ℕ, zero, suc, ◌<◌, ◌≡◌, refl, Bool, true, false, List, Result, Ok, Err, IfOk, ⊤}
 use Rattle.std.proofs.Common.{arith, sym, ap, ap₂, ◌∙◌}
 use Rattle.std.specs.Result.{IsErrAnd}
 use Rattle.spec_definitions.specs.Ticket.{Ticket, ticket_of, refusal_of}
@@ -21,6 +21,10 @@ refusal_by n wrong = elim n [ zero ↦ elim wrong [ true ↦ 9 | false ↦ 0 ] |
 -- the number of the first of the refusals 1 to 9 that applies, else 0
 unfoldable pub operands_refusal : List ℕ → Pair ℕ → Pair ℕ → ℕ
 operands_refusal w x y = refusal_by (refusal_of w) (wrong_pair (ticket_of w) x y)
+
+-- 9 where one of two pairs is wrong, else 0
+abbrev pub pairs_refusal : Ticket → Pair ℕ → Pair ℕ → ℕ
+pairs_refusal t x y = refusal_by 0 (wrong_pair t x y)
 
 abbrev pub operands_of : Surd → Ideal → Ideal → Operands
 operands_of s x y = record { surd = s; x = x; y = y }
@@ -55,37 +59,42 @@ module _ (w : List ℕ) (x y : Pair ℕ) where
       go zero h z = absurd (omega arith)
       go (suc n) h z = z
 
-  module _ {t : Ticket} (passes : 0 ≡ refusal_of w) (is : ticket_of w ≡ t) where
-    by_pairs : operands_refusal w x y ≡ refusal_by 0 (wrong_pair t x y)
-    unfolding operands_refusal
-    by_pairs = ap₂ (λ (n : ℕ) (t : Ticket). refusal_by n (wrong_pair t x y)) (sym passes) is
-
-    pub pair_wrong : {k : ℕ} → (wrong_pair t x y ≡ true) × (k ≡ 9) → k ≡ operands_refusal w x y
-    pair_wrong h = h.1 ∙ ap (refusal_by 0) (sym h.0) ∙ sym by_pairs
-
-    pub pair_right : wrong_pair t x y ≡ false → 0 ≡ operands_refusal w x y
-    pair_right h = ap (refusal_by 0) (sym h) ∙ sym by_pairs
+  -- past a ticket that is right, what the test of the pairs says
+  by_pairs : {t : Ticket} → 0 ≡ refusal_of w → ticket_of w ≡ t → operands_refusal w x y ≡ pairs_refusal t x y
+  unfolding operands_refusal
+  by_pairs passes is = ap₂ (λ (n : ℕ) (t : Ticket). refusal_by n (wrong_pair t x y)) (sym passes) is
 
 -- a refusal that is passed on
 pub passed_on : {A : Type 0} (r : Result A Refusal) (e : Refusal) {k : ℕ} → IsErrAnd r (λ i. i ≡ e) → number_of e ≡ k → refused_by r ≡ k
 passed_on (Ok o) e h s = absurd h
 passed_on (Err i) e h s = ap number_of h ∙ s
 
--- ---- what the tests find, one after the other
+-- ---- what the tests of two pairs find, one after the other
+module _ (s : Surd) (x y : Pair ℕ) (b : ℕ) where
+  pub first_refused : (r : Refusal) → number_of r ≡ pair_refusal (ticket_with s b) x → number_of r ≡ pairs_refusal (ticket_with s b) x y
+  first_refused r e = let h = first_wrong (ticket_with s b) x y (number_some r) e in h.1 ∙ ap (refusal_by 0) (sym h.0)
+
+  module _ {z : Ideal} (first : Paired s x.q x.p z) (z' : Ideal) where
+    -- the test of the second pair decides
+    pub second_decides : (r : Result ⊤ Refusal) → refused_by r ≡ pair_refusal (ticket_with s b) y → IfOk r (λ _. Paired s y.q y.p z') → refused_by r ≡ pairs_refusal (ticket_with s b) x y
+    second_decides (Ok i) e second = ap (refusal_by 0) (sym (pairs_right first second b))
+    second_decides (Err r) e second = let h = second_wrong (ticket_with s b) x y (number_some r) (first.passes b) e in h.1 ∙ ap (refusal_by 0) (sym h.0)
+
+-- ---- what those of a ticket and of two pairs find
 module _ (w : List ℕ) (x y : Pair ℕ) where
   pub ticket_refused : (r : Refusal) → number_of r ≡ refusal_of w → number_of r ≡ operands_refusal w x y
   ticket_refused r = ticket_wrong w x y (number_some r)
 
   module _ (s : Surd) {b : ℕ} (passes : 0 ≡ refusal_of w) (is : ticket_of w ≡ ticket_with s b) where
-    pub first_refused : (r : Refusal) → ((k : ℕ) → number_of r ≡ pair_refusal (ticket_with s k) x) → number_of r ≡ operands_refusal w x y
-    first_refused r e = pair_wrong w x y passes is (first_wrong (ticket_with s b) x y (number_some r) (e b))
+    pub pairs_refused : (r : Refusal) → ((k : ℕ) → number_of r ≡ pairs_refusal (ticket_with s k) x y) → number_of r ≡ operands_refusal w x y
+    pairs_refused r e = e b ∙ sym (by_pairs w x y passes is)
 
-    module _ {z : Ideal} (first : Paired s x.q x.p z) where
-      pub second_refused : (r : Refusal) → ((k : ℕ) → number_of r ≡ pair_refusal (ticket_with s k) y) → number_of r ≡ operands_refusal w x y
-      second_refused r e = pair_wrong w x y passes is (second_wrong (ticket_with s b) x y (number_some r) (first.passes b) (e b))
+    module _ {u v : Ideal} (h : Paired s x.q x.p u × Paired s y.q y.p v) where
+      pub none_refused : 0 ≡ operands_refusal w x y
+      none_refused = ap (refusal_by 0) (sym (pairs_right h.0 h.1 b)) ∙ sym (by_pairs w x y passes is)
 
-      pub none_refused : {z' : Ideal} → Paired s y.q y.p z' → 0 ≡ operands_refusal w x y
-      none_refused second = pair_right w x y passes is (pairs_right first second b)
+      pub are_read : AreRead w x y (operands_of s u v)
+      are_read = record { budget = b; passes = sym passes; is = is; first = h.0; second = h.1 }
 
 -- what is read are operands of the product
 pub are_operands : {w : List ℕ} {x y : Pair ℕ} {o : Operands} → AreRead w x y o → Operand o.surd o.x × Operand o.surd o.y

@@ -14,6 +14,7 @@ use base_ideal::Ideal;
 use base_polynomial::Poly;
 use base_refusals::Refusal;
 pub use ideal_pair::Pair;
+use ticket_read::read_ticket;
 
 // The product of two ideals: S, and the ideal (Q, P).
 #[derive(Clone, Copy)]
@@ -29,12 +30,13 @@ pub type ProductAnswer = Answer<Result<IdealProduct, Refusal>>;
 fn multiplied(ticket: &[u32], x: Pair<'_>, y: Pair<'_>) -> Result<IdealProduct, Refusal>
     ensures { ProductSays result (product_answer ticket.now (words_of x.entry) (words_of y.entry)) }
 {
+    let t = read_ticket(ticket)?;
     let mut a = Ideal::zeros();
     let mut b = Ideal::zeros();
-    let surd = read_ideals(ticket, x, y, &mut a, &mut b)?;
+    read_ideals(&t.surd, x, y, &mut a, &mut b)?;
     let mut s = Poly::zero();
     let mut ideal = Ideal::zeros();
-    ideal_product::product(&surd, &a, &b, &mut s, &mut ideal);
+    ideal_product::product(&t.surd, &a, &b, &mut s, &mut ideal);
     Ok(IdealProduct { s, ideal })
 }
 

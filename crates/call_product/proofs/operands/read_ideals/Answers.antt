@@ -1,18 +1,11 @@
--- What is refused first is the definition's refusal; where nothing is, both pairs have passed.
-use Rattle.call_product.specs.Operands.{passed_on, ticket_refused, first_refused, second_refused, none_refused}
+-- A pair that is refused is a wrong one, and the second decides past the first.
+use Rattle.call_product.specs.Operands.{passed_on, first_refused, second_decides}
 use Rattle.call_product.proofs.operands.read_ideals.Goals as goal
 
-pub returns-in_err-t-clause-refused : goal.returns-in_err-t-clause-refused
-returns-in_err-t-clause-refused c = passed_on _ _ c.from_residual.ensures.1 (ticket_refused _ _ _ _ c.in_err-t.ensures.refused)
-
 pub returns-in_err-read_ideal-clause-refused : goal.returns-in_err-read_ideal-clause-refused
-returns-in_err-read_ideal-clause-refused c =
-    passed_on _ _ c.from_residual-in_err-read_ideal.ensures.1 (first_refused _ _ _ c.in_ok-t.t.surd c.in_ok-t.ensures.refused c.in_ok-t.ensures.read _ c.in_err-read_ideal.ensures.refused)
-
-pub returns-in_err-read_ideal-2-clause-refused : goal.returns-in_err-read_ideal-2-clause-refused
-returns-in_err-read_ideal-2-clause-refused c =
-    passed_on _ _ c.from_residual-in_err-read_ideal-2.ensures.1 (second_refused _ _ _ c.in_ok-t.t.surd c.in_ok-t.ensures.refused c.in_ok-t.ensures.read c.in_ok-read_ideal.ensures.ideal _ c.in_err-read_ideal-2.ensures.refused)
+returns-in_err-read_ideal-clause-refused c b =
+    passed_on _ _ c.from_residual.ensures.1 (first_refused c.args.s.now _ _ b _ (c.in_err-read_ideal.ensures.refused b))
 
 pub returns-clause-refused : goal.returns-clause-refused
-returns-clause-refused c =
-    none_refused _ _ _ c.in_ok-t.t.surd c.in_ok-t.ensures.refused c.in_ok-t.ensures.read c.in_ok-read_ideal.ensures.ideal c.in_ok-read_ideal-2.ensures.ideal
+returns-clause-refused c b =
+    second_decides c.args.s.now _ _ b c.in_ok-read_ideal.ensures.ideal _ _ (c.read_ideal-2.ensures.refused b) c.read_ideal-2.ensures.ideal
