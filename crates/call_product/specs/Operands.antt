@@ -70,15 +70,22 @@ passed_on (Ok o) e h s = absurd h
 passed_on (Err i) e h s = ap number_of h ∙ s
 
 -- ---- what the tests of two pairs find, one after the other
+module _ (t : Ticket) (x y : Pair ℕ) where
+  pair_wrong : {k : ℕ} → (wrong_pair t x y ≡ true) × (k ≡ 9) → k ≡ pairs_refusal t x y
+  pair_wrong h = h.1 ∙ ap (refusal_by 0) (sym h.0)
+
+  pair_right : wrong_pair t x y ≡ false → 0 ≡ pairs_refusal t x y
+  pair_right h = ap (refusal_by 0) (sym h)
+
 module _ (s : Surd) (x y : Pair ℕ) (b : ℕ) where
   pub first_refused : (r : Refusal) → number_of r ≡ pair_refusal (ticket_with s b) x → number_of r ≡ pairs_refusal (ticket_with s b) x y
-  first_refused r e = let h = first_wrong (ticket_with s b) x y (number_some r) e in h.1 ∙ ap (refusal_by 0) (sym h.0)
+  first_refused r e = pair_wrong (ticket_with s b) x y (first_wrong (ticket_with s b) x y (number_some r) e)
 
   module _ {z : Ideal} (first : Paired s x.q x.p z) (z' : Ideal) where
     -- the test of the second pair decides
     pub second_decides : (r : Result ⊤ Refusal) → refused_by r ≡ pair_refusal (ticket_with s b) y → IfOk r (λ _. Paired s y.q y.p z') → refused_by r ≡ pairs_refusal (ticket_with s b) x y
-    second_decides (Ok i) e second = ap (refusal_by 0) (sym (pairs_right first second b))
-    second_decides (Err r) e second = let h = second_wrong (ticket_with s b) x y (number_some r) (first.passes b) e in h.1 ∙ ap (refusal_by 0) (sym h.0)
+    second_decides (Ok i) e second = pair_right (ticket_with s b) x y (pairs_right first second b)
+    second_decides (Err r) e second = pair_wrong (ticket_with s b) x y (second_wrong (ticket_with s b) x y (number_some r) (first.passes b) e)
 
 -- ---- what those of a ticket and of two pairs find
 module _ (w : List ℕ) (x y : Pair ℕ) where
@@ -91,7 +98,7 @@ module _ (w : List ℕ) (x y : Pair ℕ) where
 
     module _ {u v : Ideal} (h : Paired s x.q x.p u × Paired s y.q y.p v) where
       pub none_refused : 0 ≡ operands_refusal w x y
-      none_refused = ap (refusal_by 0) (sym (pairs_right h.0 h.1 b)) ∙ sym (by_pairs w x y passes is)
+      none_refused = pair_right (ticket_with s b) x y (pairs_right h.0 h.1 b) ∙ sym (by_pairs w x y passes is)
 
       pub are_read : AreRead w x y (operands_of s u v)
       are_read = record { budget = b; passes = sym passes; is = is; first = h.0; second = h.1 }
