@@ -37,6 +37,14 @@ pub record AreRead (w : List ℕ) (x y : Pair ℕ) (o : Operands) : Type 0 where
   pub first : Paired o.surd x.q x.p o.x
   pub second : Paired o.surd y.q y.p o.y
 
+-- ---- by the test of the pairs alone
+module _ (t : Ticket) (x y : Pair ℕ) where
+  wrong_refused : {k : ℕ} → (wrong_pair t x y ≡ true) × (k ≡ 9) → k ≡ pairs_refusal t x y
+  wrong_refused h = h.1 ∙ ap (refusal_by 0) (sym h.0)
+
+  right_passes : wrong_pair t x y ≡ false → 0 ≡ pairs_refusal t x y
+  right_passes h = ap (refusal_by 0) (sym h)
+
 -- ---- by the ticket's number and the test of the pairs
 module _ (w : List ℕ) (x y : Pair ℕ) where
   -- in a refusal either the ticket's number is the refusal's, or the ticket is right and a pair is wrong
@@ -59,10 +67,17 @@ module _ (w : List ℕ) (x y : Pair ℕ) where
       go zero h z = absurd (omega arith)
       go (suc n) h z = z
 
-  -- past a ticket that is right, what the test of the pairs says
-  by_pairs : {t : Ticket} → 0 ≡ refusal_of w → ticket_of w ≡ t → operands_refusal w x y ≡ pairs_refusal t x y
-  unfolding operands_refusal
-  by_pairs passes is = ap₂ (λ (n : ℕ) (t : Ticket). refusal_by n (wrong_pair t x y)) (sym passes) is
+  module _ {t : Ticket} (passes : 0 ≡ refusal_of w) (is : ticket_of w ≡ t) where
+    -- past a ticket that is right, what the test of the pairs says
+    by_pairs : operands_refusal w x y ≡ pairs_refusal t x y
+    unfolding operands_refusal
+    by_pairs = ap₂ (λ (n : ℕ) (t : Ticket). refusal_by n (wrong_pair t x y)) (sym passes) is
+
+    pub pair_wrong : {k : ℕ} → (wrong_pair t x y ≡ true) × (k ≡ 9) → k ≡ operands_refusal w x y
+    pair_wrong h = wrong_refused t x y h ∙ sym by_pairs
+
+    pub pair_right : wrong_pair t x y ≡ false → 0 ≡ operands_refusal w x y
+    pair_right h = right_passes t x y h ∙ sym by_pairs
 
 -- a refusal that is passed on
 pub passed_on : {A : Type 0} (r : Result A Refusal) (e : Refusal) {k : ℕ} → IsErrAnd r (λ i. i ≡ e) → number_of e ≡ k → refused_by r ≡ k
@@ -70,22 +85,15 @@ passed_on (Ok o) e h s = absurd h
 passed_on (Err i) e h s = ap number_of h ∙ s
 
 -- ---- what the tests of two pairs find, one after the other
-module _ (t : Ticket) (x y : Pair ℕ) where
-  pair_wrong : {k : ℕ} → (wrong_pair t x y ≡ true) × (k ≡ 9) → k ≡ pairs_refusal t x y
-  pair_wrong h = h.1 ∙ ap (refusal_by 0) (sym h.0)
-
-  pair_right : wrong_pair t x y ≡ false → 0 ≡ pairs_refusal t x y
-  pair_right h = ap (refusal_by 0) (sym h)
-
 module _ (s : Surd) (x y : Pair ℕ) (b : ℕ) where
-  pub first_refused : (r : Refusal) → number_of r ≡ pair_refusal (ticket_with s b) x → number_of r ≡ pairs_refusal (ticket_with s b) x y
-  first_refused r e = pair_wrong (ticket_with s b) x y (first_wrong (ticket_with s b) x y (number_some r) e)
+  pub first_decides : (r : Refusal) → number_of r ≡ pair_refusal (ticket_with s b) x → number_of r ≡ pairs_refusal (ticket_with s b) x y
+  first_decides r e = wrong_refused (ticket_with s b) x y (first_wrong (ticket_with s b) x y (number_some r) e)
 
   module _ {z : Ideal} (first : Paired s x.q x.p z) (z' : Ideal) where
     -- the test of the second pair decides
     pub second_decides : (r : Result ⊤ Refusal) → refused_by r ≡ pair_refusal (ticket_with s b) y → IfOk r (λ _. Paired s y.q y.p z') → refused_by r ≡ pairs_refusal (ticket_with s b) x y
-    second_decides (Ok i) e second = pair_right (ticket_with s b) x y (pairs_right first second b)
-    second_decides (Err r) e second = pair_wrong (ticket_with s b) x y (second_wrong (ticket_with s b) x y (number_some r) (first.passes b) e)
+    second_decides (Ok i) e second = right_passes (ticket_with s b) x y (pairs_right first second b)
+    second_decides (Err r) e second = wrong_refused (ticket_with s b) x y (second_wrong (ticket_with s b) x y (number_some r) (first.passes b) e)
 
 -- ---- what those of a ticket and of two pairs find
 module _ (w : List ℕ) (x y : Pair ℕ) where
@@ -96,10 +104,17 @@ module _ (w : List ℕ) (x y : Pair ℕ) where
     pub pairs_refused : (r : Refusal) → ((k : ℕ) → number_of r ≡ pairs_refusal (ticket_with s k) x y) → number_of r ≡ operands_refusal w x y
     pairs_refused r e = e b ∙ sym (by_pairs w x y passes is)
 
-    module _ {u v : Ideal} (h : Paired s x.q x.p u × Paired s y.q y.p v) where
-      pub none_refused : 0 ≡ operands_refusal w x y
-      none_refused = pair_right (ticket_with s b) x y (pairs_right h.0 h.1 b) ∙ sym (by_pairs w x y passes is)
+    pub first_refused : (r : Refusal) → ((k : ℕ) → number_of r ≡ pair_refusal (ticket_with s k) x) → number_of r ≡ operands_refusal w x y
+    first_refused r e = pair_wrong w x y passes is (first_wrong (ticket_with s b) x y (number_some r) (e b))
 
+    module _ {z : Ideal} (first : Paired s x.q x.p z) where
+      pub second_refused : (r : Refusal) → ((k : ℕ) → number_of r ≡ pair_refusal (ticket_with s k) y) → number_of r ≡ operands_refusal w x y
+      second_refused r e = pair_wrong w x y passes is (second_wrong (ticket_with s b) x y (number_some r) (first.passes b) (e b))
+
+      pub none_refused : {z' : Ideal} → Paired s y.q y.p z' → 0 ≡ operands_refusal w x y
+      none_refused second = pair_right w x y passes is (pairs_right first second b)
+
+    module _ {u v : Ideal} (h : Paired s x.q x.p u × Paired s y.q y.p v) where
       pub are_read : AreRead w x y (operands_of s u v)
       are_read = record { budget = b; passes = sym passes; is = is; first = h.0; second = h.1 }
 

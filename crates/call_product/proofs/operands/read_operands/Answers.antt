@@ -10,4 +10,6 @@ returns-in_err-read_ideals-clause-refused c =
     passed_on _ _ c.from_residual-in_err-read_ideals.ensures.1 (pairs_refused _ _ _ c.in_ok-t.t.surd c.in_ok-t.ensures.refused c.in_ok-t.ensures.read _ c.in_err-read_ideals.ensures.refused)
 
 pub returns-clause-refused : goal.returns-clause-refused
-returns-clause-refused c = none_refused _ _ _ c.in_ok-t.t.surd c.in_ok-t.ensures.refused c.in_ok-t.ensures.read c.in_ok-read_ideals.ensures.read
+returns-clause-refused c =
+    let h = c.in_ok-read_ideals.ensures.read in
+    none_refused _ _ _ c.in_ok-t.t.surd c.in_ok-t.ensures.refused c.in_ok-t.ensures.read h.0 h.1
